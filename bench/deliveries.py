@@ -1,7 +1,7 @@
 #!/usr/bin/env python3
 """Measures how fast threads deliver the facts of a log to a node, beside a mutex round the same segment.
 
-The program is the crate `thread_rows`, proved and built over this tree's `node_cell`, of whose input the first section is used. It makes
+The program is the crate `thread_cases`, proved and built over this tree's `node_cell`, of whose input the first section is used. It makes
 the facts of a log, deals them to threads and lets those deliver them, each fact once. A round has a run that delivers to a node, one
 to the mutex, and one that makes and deals the facts and lets them go, whose wall and processor seconds are taken off those of both.
 The medians of the rounds are printed.
@@ -22,9 +22,9 @@ FACTS = 2_097_154
 
 def built():
     """The program, over the libraries that are built already."""
-    crate = ROOT / "crates/thread_rows"
+    crate = ROOT / "crates/thread_cases"
     subprocess.run(["rt", "run"], cwd=crate, stdin=subprocess.DEVNULL, stdout=sys.stderr, check=True)
-    return crate / "out/thread_rows"
+    return crate / "out/thread_cases"
 
 
 def measured(program, taker, threads, facts):

@@ -1,7 +1,7 @@
 #!/usr/bin/env python3
 """Measures how threads wait at a node's lock, beside a mutex round the same work.
 
-The program is the crate `thread_rows`, proved and built over this tree's `node_lock`, of whose input the first section is used. Each
+The program is the crate `thread_cases`, proved and built over this tree's `node_lock`, of whose input the first section is used. Each
 task is run a few times at each number of threads, with the lock and with the mutex, and the medians of the wall and processor seconds are
 printed.
 """
@@ -25,9 +25,9 @@ TASKS = [
 
 def built():
     """The program, over the libraries that are built already."""
-    crate = ROOT / "crates/thread_rows"
+    crate = ROOT / "crates/thread_cases"
     subprocess.run(["rt", "run"], cwd=crate, stdin=subprocess.DEVNULL, stdout=sys.stderr, check=True)
-    return crate / "out/thread_rows"
+    return crate / "out/thread_cases"
 
 
 def measured(program, line):

@@ -95,13 +95,13 @@ def fleet_node(request):
 
 
 @pytest.fixture(scope="session")
-def call_rows(request):
-    return program(request, "call_rows")
+def call_cases(request):
+    return program(request, "call_cases")
 
 
 @pytest.fixture(scope="session")
-def thread_rows(request):
-    return program(request, "thread_rows")
+def thread_cases(request):
+    return program(request, "thread_cases")
 
 
 @pytest.fixture(scope="session")

@@ -195,14 +195,14 @@ def section_alone(text, section):
 
 
 @pytest.mark.parametrize("section", [b"messages", b"nodes and boards"], ids=lambda it: it.decode())
-def test_rows_make_a_refused_call_again(call_rows, refusing, section, most=150):
+def test_rows_make_a_refused_call_again(call_cases, refusing, section, most=150):
     """A call that finds no memory is made once more, so each run writes what it writes with ample memory: the first call left all as
     it was. A run may also end by an error with a beginning of that text, where the program of rows itself was refused."""
-    folder = ROOT / "crates/call_rows"
+    folder = ROOT / "crates/call_cases"
     rows, wanted = (section_alone((folder / name).read_bytes(), section) for name in ("stdin", "stdout"))
-    ample = refusing.counted([call_rows], rows)[1]
+    ample = refusing.counted([call_cases], rows)[1]
     assert ample.output == wanted and wanted.count(b"\n") >= 100
-    seen = [answer(call_rows, [], rows, env=settings) for settings in refusing.spread([call_rows], rows, most)]
+    seen = [answer(call_cases, [], rows, env=settings) for settings in refusing.spread([call_cases], rows, most)]
     whole = [it for it in seen if it[:2] == ample[:2]]
     bad = [it for it in seen if it[:2] != ample[:2] and (it.status == 0 or not wanted.startswith(it.output))]
     assert bad == [] and 2 * len(whole) >= len(seen)

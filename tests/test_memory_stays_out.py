@@ -107,10 +107,10 @@ def rounds_of(told):
     return asked, folded, fronts[1] == "0, 64, 32", (64 - keys) // 4
 
 
-def test_a_round_that_lacks_memory_is_listed(thread_rows, refusing, rng):
+def test_a_round_that_lacks_memory_is_listed(thread_cases, refusing, rng):
     """One request is refused. A round that was not carried out is listed with its worker, and no other; where the program itself lacked
     memory, it ends."""
-    ample, answers = sweep(refusing, [thread_rows], ROWS, rng, False)
+    ample, answers = sweep(refusing, [thread_cases], ROWS, rng, False)
     assert rounds_of(ample[1]) == ([], [], True, 8)
     assert None not in answers.values()
     ended = {number: told for number, (status, told, _) in answers.items() if status == 0}

@@ -54,10 +54,6 @@ epoch_absent cs e (Err i) rise l h =
 abbrev pub advance_cmp : AdvanceData → AdvanceData → Ordering
 advance_cmp a b = ordering_then (ordering_then (nat_cmp a.epoch b.epoch) (nat_cmp a.reader b.reader)) (nat_cmp a.point b.point)
 
-pub then_at : (o p : Ordering) (P Q R S T U : Type 0) → MatchOrdering o P Q R → MatchOrdering p S T U → MatchOrdering (ordering_then o p) (P ⊎ (Q × S)) (Q × T)
-    (R ⊎ (Q × U))
-then_at o p P Q R S T U h k = search rules
-
 pub turned : (o : Ordering) (P Q R P' Q' R' : Type 0) → (P → P') → (Q → Q') → (R → R') → MatchOrdering o P Q R → MatchOrdering o P' Q' R'
 turned o P Q R P' Q' R' f g h x = search rules
 

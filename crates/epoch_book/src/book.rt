@@ -50,7 +50,7 @@ impl Model for EpochBook {
 }
 
 impl EpochBook {
-    /// A book of a roster that knows nothing: epoch 0 is complete, and each reader's point is 0. Its only error is want of memory.
+    /// A book of a roster that knows nothing: epoch 0 is complete, and each reader's point is 0. It fails only if memory runs out.
     pub fn new(alloc: Global, roster: Roster) -> Result<Self, AllocError>
         ensures empty { IfOk result (λ b. b ≡ book_of [] 0 (replicate roster 0) []) }
         ensures book { IfOk result IsBook }
@@ -66,7 +66,7 @@ impl EpochBook {
         })
     }
 
-    /// An equal book with memory of its own. Its only error is want of memory.
+    /// An equal book with memory of its own. It fails only if memory runs out.
     pub fn copy(&self) -> Result<Self, AllocError>
         ensures { IfOk result (λ b. b ≡ self.now) }
     {

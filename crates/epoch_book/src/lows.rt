@@ -1,5 +1,5 @@
 // The truncations that cut lowest, up to the complete epoch: of each later one the `lo` is not below. A truncation that cuts lower than
-// many before it takes them all out at once, so that each of them comes in once and goes once.
+// many before it removes them all at once, so each of them is inserted once and removed once.
 ghost use Rattle.std.specs.Prelude.{◌≡◌, ℕ, ◌+◌, ◌<◌, ◌≤◌, ◌↔◌, length, IsTrue, OnOk, OnErr, None, vec_len, vec_capacity};
 ghost use Rattle.std.specs.List.{All, Contains};
 ghost use Rattle.std.specs.List.Sorted.{IsPartitionPoint};
@@ -13,7 +13,7 @@ ghost use Rattle.epoch_book.specs.Scanning.{IsLeastAbove};
 use redo_core::Cut;
 use std::alloc::AllocError;
 
-// Brings the list from one epoch up to a complete one. Its only error is want of memory; the list is then as it was.
+// Brings the list from one epoch up to a complete one. It fails only if memory runs out; the list is then as it was.
 pub fn raise(lows: &mut Vec<Cut>, cuts: &[Cut], from: u16, complete: u16) -> Result<(), AllocError>
     requires rising { IsRising CutBefore cuts.now }
     requires shaped { All (λ c. cut_fault c ≡ None) cuts.now }

@@ -13,7 +13,7 @@ use std::alloc::{AllocError, Global};
 
 impl EpochBook {
     /// The book of these truncations, with their complete epoch, each reader's point and the advances that wait. Whether they
-    /// contradict each other is not looked at. Its only error is want of memory.
+    /// contradict each other is not looked at. It fails only if memory runs out.
     pub fn from_parts(
         alloc: Global,
         cuts: Vec<Cut>,

@@ -11,18 +11,18 @@ use Rattle.redo_core.specs.Sound.{IsSound}
 use Rattle.redo_core.specs.Answer.{ReadAnswer, IsReadAnswer}
 use Rattle.redo_core.specs.Answer.ReadAnswer.{Image as OfImage, Below as OfBelow, Above as OfAbove}
 use Rattle.redo_core.specs.declared.facts.Fact.{Fact}
-use Rattle.redo_laws.specs.OrderOfMeanings.{Covers}
-use Rattle.redo_laws.proofs.Log.{log_of_sound}
-use Rattle.redo_laws.proofs.Fronts.{front_unique, page_unique}
-use Rattle.redo_laws.proofs.Meanings.{meaning_exists}
+use Rattle.log_theorems.specs.OrderOfMeanings.{Covers}
+use Rattle.log_theorems.proofs.Log.{log_of_sound}
+use Rattle.log_theorems.proofs.Fronts.{front_unique, page_unique}
+use Rattle.log_theorems.proofs.Meanings.{meaning_exists}
 use Rattle.redo_core.specs.Meaning.{Meaning}
 use Rattle.redo_core.proofs.Pairs.{pair_apart}
-use Rattle.state_laws.specs.Gossip.{AnswersFor}
+use Rattle.segment_theorems.specs.Gossip.{AnswersFor}
 use Rattle.gossip_core.specs.declared.answering.Shown.{Shown}
 use Rattle.gossip_core.specs.declared.answering.Shown.TheVariants.{Anchor as OfAnchor, Key as OfKey}
 use Rattle.redo_core.proofs.Members.{none_in, which}
 use Rattle.redo_core.proofs.Listing.{all_push}
-use Rattle.redo_laws.proofs.Union.{both}
+use Rattle.log_theorems.proofs.Union.{both}
 use Rattle.fleet_steps.specs.Nodes.{node_of, other_of, nodes_of, first_missing}
 use Rattle.fleet_steps.specs.declared.steps.Step.{Step}
 use Rattle.fleet_steps.specs.declared.steps.Step.TheVariants as step

@@ -4,12 +4,12 @@ use Rattle.std.proofs.Common.{sym, ap, subst, Option, Some, None, Result, Ok, Er
 use Rattle.std.specs.Prelude.{MatchOption}
 use Rattle.redo_core.specs.Sound.{IsSound}
 use Rattle.redo_core.specs.declared.facts.Fact.{Fact}
-use Rattle.redo_laws.proofs.Log.{log_of_sound}
+use Rattle.log_theorems.proofs.Log.{log_of_sound}
 use Rattle.messages.specs.Summaries.{SummaryData}
 use Rattle.messages.specs.Deltas.{DeltaData}
-use Rattle.state_laws.specs.State.{State}
-use Rattle.state_laws.specs.Means.{Means}
-use Rattle.state_laws.proofs.Same.{meaning_law}
+use Rattle.segment_theorems.specs.State.{State}
+use Rattle.segment_theorems.specs.Means.{Means}
+use Rattle.segment_theorems.proofs.Same.{meaning_law}
 use Rattle.segment_core.specs.declared.answers.ReadFault.{ReadFault}
 use Rattle.segment_core.specs.declared.answers.ReadFault.TheVariants as fault
 use Rattle.segment_core.specs.declared.answers.Refusal.TheVariants as refusal

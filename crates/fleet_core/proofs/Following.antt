@@ -5,9 +5,9 @@ use Rattle.redo_core.specs.Position.{Position}
 use Rattle.redo_core.specs.Answer.ReadAnswer.{Image as OfImage, Below as OfBelow, Above as OfAbove}
 use Rattle.redo_core.specs.declared.facts.Fact.{Fact}
 use Rattle.redo_core.specs.declared.refusal.Refused.{Refused}
-use Rattle.state_laws.specs.State.{State}
-use Rattle.state_laws.specs.Means.{MeansAt}
-use Rattle.state_laws.specs.Promises.{TakesFact, KeepsMeaningWith}
+use Rattle.segment_theorems.specs.State.{State}
+use Rattle.segment_theorems.specs.Means.{MeansAt}
+use Rattle.segment_theorems.specs.Promises.{TakesFact, KeepsMeaningWith}
 use Rattle.segment_core.specs.Folding.{IsFoldOf}
 use Rattle.segment_core.specs.declared.fold_plan.Folded.{Folded}
 use Rattle.segment_core.specs.Taking.{TellsChange}
@@ -28,12 +28,12 @@ use Rattle.fleet_core.specs.AtNode.{OwnFollows}
 use Rattle.fleet_core.specs.Calls.{Takes}
 use Rattle.segment_core.proofs.Finality.{fold_is_final}
 use Rattle.segment_core.proofs.Taking.{take_tells, take_sound}
-use Rattle.state_laws.proofs.Knowing.{unchanged_exactly, no_conflict}
+use Rattle.segment_theorems.proofs.Knowing.{unchanged_exactly, no_conflict}
 
 fold_without_memory : (readers : ℕ) (other : Option State) (s : State) (node g : ℕ) → OwnFollows readers s other (Fold node g) Memory s
 fold_without_memory readers other s node g = λ roster log facts others messages size sound t means beside. (inl refl, means)
 
--- a refusal of a fact that fits a sound log is for want of memory
+-- a refusal of a fact that fits a sound log is for lack of memory
 refused_at : (readers : ℕ) (other : Option State) (old new : State) (node : ℕ) (fact : Fact) (why : Refusal) (reply : Reply)
     → (FitsSoundLog old fact → why ≡ refusal.Memory) → new ≡ old → reply ≡ refusal_reply why → OwnFollows readers old other (Take node fact) reply new
 refused_at readers other old new node fact why reply sound same is = search rules

@@ -3,11 +3,11 @@ use Rattle.std.proofs.Common.{ℕ, List, [], ◌∷◌, rules}
 use Rattle.std.specs.List.{AllZip}
 use Rattle.redo_core.specs.Sound.{IsSound}
 use Rattle.redo_core.specs.declared.facts.Fact.{Fact}
-use Rattle.redo_laws.specs.OrderOfMeanings.{LeastUpperBound, OrderByParts}
-use Rattle.state_laws.specs.State.{State}
-use Rattle.state_laws.specs.Means.{Means}
-use Rattle.state_laws.specs.AnswersAs.{AnswersAs, StatesAnswer}
-use Rattle.state_laws.proofs.Bare.{empty_means}
+use Rattle.log_theorems.specs.OrderOfMeanings.{LeastUpperBound, OrderByParts}
+use Rattle.segment_theorems.specs.State.{State}
+use Rattle.segment_theorems.specs.Means.{Means}
+use Rattle.segment_theorems.specs.AnswersAs.{AnswersAs, StatesAnswer}
+use Rattle.segment_theorems.proofs.Bare.{empty_means}
 use Rattle.fleet_core.specs.Machine.{empty_machine}
 use Rattle.fleet_core.specs.Runs.{MeansMachine}
 use Rattle.fleet_core.specs.FleetState.{empty_fleet}

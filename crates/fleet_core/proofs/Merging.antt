@@ -6,14 +6,14 @@ use Rattle.std.specs.List.{Contains}
 use Rattle.redo_core.specs.Data.{AdvanceData}
 use Rattle.redo_core.specs.Roster.{point_of}
 use Rattle.redo_core.specs.declared.facts.Fact.{Fact}
-use Rattle.redo_laws.proofs.Log.{log_of_sound}
-use Rattle.state_laws.specs.State.{State, empty_state}
-use Rattle.state_laws.specs.Means.{Means}
-use Rattle.state_laws.specs.Joining.{JoinedPoint, Joins}
-use Rattle.state_laws.proofs.Bare.{empty_means}
-use Rattle.state_laws.proofs.Booked.{epoch_of}
-use Rattle.state_laws.proofs.Joining.{join_law}
-use Rattle.state_laws.proofs.Same.{meaning_law}
+use Rattle.log_theorems.proofs.Log.{log_of_sound}
+use Rattle.segment_theorems.specs.State.{State, empty_state}
+use Rattle.segment_theorems.specs.Means.{Means}
+use Rattle.segment_theorems.specs.Joining.{JoinedPoint, Joins}
+use Rattle.segment_theorems.proofs.Bare.{empty_means}
+use Rattle.segment_theorems.proofs.Booked.{epoch_of}
+use Rattle.segment_theorems.proofs.Joining.{join_law}
+use Rattle.segment_theorems.proofs.Same.{meaning_law}
 use Rattle.segment_core.specs.declared.answers.Refusal.{Refusal}
 use Rattle.segment_core.specs.declared.answers.Refusal.TheVariants as refusal
 use Rattle.segment_join.specs.Joining.{MeansUnion, AreOfOneLog}

@@ -5,7 +5,7 @@ use Rattle.std.proofs.lemmas.Grind.{common_steps}
 use Rattle.std.specs.Prelude.{◌==◌, ◌||◌, nat_lt, if◌then◌else◌, slice_get, unwrap_or}
 use Rattle.std.specs.List.{AllZip, AllByRecursion}
 use Rattle.std.proofs.lemmas.Option.{get_or_from_slice_get, unwrap_or-slice_get}
-use Rattle.state_laws.specs.State.{State}
+use Rattle.segment_theorems.specs.State.{State}
 use Rattle.fleet_steps.specs.Nodes.{node_of, other_of, nodes_of, first_missing}
 use Rattle.fleet_steps.specs.declared.steps.Step.{Step}
 use Rattle.fleet_core.specs.FleetState.{other_than}

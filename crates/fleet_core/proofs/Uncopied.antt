@@ -6,9 +6,9 @@ use Rattle.redo_core.specs.declared.facts.Fact.TheVariants.{Record}
 use Rattle.hot_log.specs.Held.{IsHeld, IsRecordAt}
 use Rattle.hot_log.specs.declared.log.Put.TheVariants as put
 use Rattle.hot_log.specs.declared.log.PutFault.TheVariants as fault
-use Rattle.state_laws.specs.State.{State}
-use Rattle.state_laws.proofs.Learnt.{takes_record}
-use Rattle.state_laws.proofs.Knowing.{takes_known}
+use Rattle.segment_theorems.specs.State.{State}
+use Rattle.segment_theorems.proofs.Learnt.{takes_record}
+use Rattle.segment_theorems.proofs.Knowing.{takes_known}
 use Rattle.segment_core.specs.Refusing.{IsDeadOrSettled}
 use Rattle.segment_core.specs.declared.answers.Taken.TheVariants as taken
 use Rattle.segment_core.specs.declared.answers.Refusal.TheVariants as refusal

@@ -5,10 +5,10 @@ use Rattle.redo_core.specs.Book.{roster_of}
 use Rattle.redo_core.specs.declared.facts.Fact.{Fact}
 use Rattle.redo_core.specs.declared.refusal.Refused.{Refused}
 use Rattle.redo_core.specs.Meaning.{Meaning}
-use Rattle.redo_laws.specs.OrderOfMeanings.{Covers}
-use Rattle.state_laws.specs.State.{State, version_of, empty_state}
-use Rattle.state_laws.specs.HasMeaning.{HasMeaning}
-use Rattle.state_laws.specs.Shows.{Shows}
+use Rattle.log_theorems.specs.OrderOfMeanings.{Covers}
+use Rattle.segment_theorems.specs.State.{State, version_of, empty_state}
+use Rattle.segment_theorems.specs.HasMeaning.{HasMeaning}
+use Rattle.segment_theorems.specs.Shows.{Shows}
 use Rattle.segment_core.specs.BlockChain.{TellsBreak}
 use Rattle.segment_core.specs.Exactly.{TakesExactly}
 use Rattle.segment_core.specs.Folding.{PlansFold, Commits}

@@ -1,6 +1,6 @@
 -- What a fleet stores.
 use Rattle.std.specs.Prelude.{◌≡◌, ℕ, ◌-◌, ◌==◌, if◌then◌else◌, List, [], replicate, set, slice_get, Option, Some, None}
-use Rattle.state_laws.specs.State.{State, empty_state}
+use Rattle.segment_theorems.specs.State.{State, empty_state}
 use Rattle.fleet_steps.specs.Nodes.{node_of, other_of}
 use Rattle.fleet_steps.specs.declared.steps.Step.{Step}
 use Rattle.fleet_core.specs.declared.making.Made.{Made}

@@ -6,8 +6,8 @@ use Rattle.redo_core.specs.Meaning.{Meaning, IsMeaning}
 use Rattle.redo_core.specs.AtMost.{IsAtMost}
 use Rattle.redo_core.specs.Sound.{IsSound}
 use Rattle.redo_core.specs.declared.facts.Fact.{Fact}
-use Rattle.redo_laws.specs.OrderOfMeanings.{LeastUpperBound}
-use Rattle.state_laws.specs.AnswersAs.{AnswersAs}
+use Rattle.log_theorems.specs.OrderOfMeanings.{LeastUpperBound}
+use Rattle.segment_theorems.specs.AnswersAs.{AnswersAs}
 use Rattle.fleet_steps.specs.declared.steps.Step.{Step}
 use Rattle.fleet_core.specs.declared.replies.Reply.{Reply}
 use Rattle.fleet_core.specs.declared.replies.Reply.TheVariants.{Answer}

@@ -3,8 +3,8 @@ use Rattle.std.specs.Prelude.{◌≡◌, ℕ, ◌+◌, ◌<◌, ◌⊎◌, ◌�
 use Rattle.redo_core.specs.Meaning.{Meaning}
 use Rattle.messages.specs.Summaries.{SummaryData}
 use Rattle.messages.specs.Deltas.{DeltaData}
-use Rattle.state_laws.specs.State.{State}
-use Rattle.state_laws.specs.HasMeaning.{HasMeaning}
+use Rattle.segment_theorems.specs.State.{State}
+use Rattle.segment_theorems.specs.HasMeaning.{HasMeaning}
 use Rattle.segment_core.specs.Forgetting.{IsSoundState, IsWhole, IsFirstBreak}
 use Rattle.segment_core.specs.declared.answers.ReadFault.{ReadFault}
 use Rattle.segment_core.specs.declared.answers.ReadFault.TheVariants as fault

@@ -7,7 +7,7 @@ use Rattle.redo_core.specs.Sets.{IsPart}
 use Rattle.redo_core.specs.declared.facts.Fact.{Fact}
 use Rattle.messages.specs.Summaries.{SummaryData}
 use Rattle.messages.specs.Deltas.{DeltaData}
-use Rattle.state_laws.specs.Gossip.{Fills}
+use Rattle.segment_theorems.specs.Gossip.{Fills}
 use Rattle.gossip_core.specs.Summarizing.{IsSummaryOf}
 use Rattle.gossip_core.specs.Answering.{listing_of}
 use Rattle.gossip_core.specs.Absorbing.{filling_of}

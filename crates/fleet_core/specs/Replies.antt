@@ -9,8 +9,8 @@ use Rattle.redo_core.specs.Answer.{ReadAnswer, IsReadAnswer}
 use Rattle.redo_core.specs.Answer.ReadAnswer.{Image as OfImage, Below as OfBelow, Above as OfAbove}
 use Rattle.redo_core.specs.Meaning.{Meaning, IsMeaning}
 use Rattle.redo_core.specs.declared.facts.Fact.{Fact}
-use Rattle.redo_laws.specs.OrderOfMeanings.{Covers}
-use Rattle.state_laws.specs.Gossip.{Listing, IsAccounted, AnswersFor}
+use Rattle.log_theorems.specs.OrderOfMeanings.{Covers}
+use Rattle.segment_theorems.specs.Gossip.{Listing, IsAccounted, AnswersFor}
 use Rattle.segment_core.specs.Reading.{IsFrontAt}
 use Rattle.segment_core.specs.declared.answers.Front.{Front}
 use Rattle.gossip_core.specs.declared.answering.Shown.{Shown}

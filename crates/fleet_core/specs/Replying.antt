@@ -14,7 +14,7 @@ use Rattle.fleet_core.specs.declared.replies.Reply.{Reply}
 use Rattle.fleet_core.specs.declared.replies.Reply.TheVariants.{Changed, Unchanged, Page, Below, Above, Joined, Absorbed}
 use Rattle.fleet_core.specs.declared.replies.Reply.TheVariants.{Uncovered, Refused as IsRefused, BrokenBlockChain, Memory}
 
--- want of memory is replied as such
+-- lack of memory is replied as such
 abbrev pub refusal_reply : Refusal → Reply
 refusal_reply refusal.Memory = Memory
 refusal_reply other = IsRefused other

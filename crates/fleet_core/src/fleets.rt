@@ -1,7 +1,7 @@
 ghost use Rattle.std.specs.Prelude.{◌≡◌, ℕ, ◌<◌, ◌↔◌, List, [], ◌∷◌, Option, Some, length, IfOk, OnErr};
 ghost use Rattle.std.specs.Option.{option_copied};
 ghost use Rattle.redo_core.specs.declared.facts.Fact.{Fact as AnyFact};
-ghost use Rattle.state_laws.specs.State.{State};
+ghost use Rattle.segment_theorems.specs.State.{State};
 ghost use Rattle.fleet_steps.specs.Nodes.{nodes_of, first_missing};
 ghost use Rattle.fleet_steps.specs.declared.steps.Step.TheVariants.{Take as TakeOf, Fold as FoldOf, Wipe as WipeOf};
 ghost use Rattle.fleet_core.specs.AtNode.{OwnFollows, IsCarriedOut, CarriesOut};
@@ -43,7 +43,7 @@ impl Model for Fleet {
 }
 
 impl Fleet {
-    /// A fleet of segments of a roster of readers, that no fact has reached. Its only error is want of memory.
+    /// A fleet of segments of a roster of readers, that no fact has reached. It fails only if memory runs out.
     pub fn new(alloc: Global, roster: Roster, nodes: u16) -> Result<Self, AllocError>
         ensures empty { IfOk result (λ fleet. fleet ≡ empty_fleet roster nodes) }
         ensures means { IfOk result (λ fleet. (log : List AnyFact) → MeansMachine roster log (empty_machine nodes) fleet) }
@@ -101,7 +101,7 @@ impl Fleet {
         take_at(&mut self.nodes, usize::from(node) - 1, node, fact)
     }
 
-    /// Carries out steps, and gives their replies in order. Its only error is want of memory for the list of replies, which is
+    /// Carries out steps, and gives their replies in order. It fails only if memory runs out for the list of replies, which is
     /// reserved before the first step: then nothing has changed.
     pub fn run(&mut self, alloc: Global, steps: &[Step<Fact>]) -> Result<Vec<Reply>, AllocError>
         // For the facts that the segments mean.

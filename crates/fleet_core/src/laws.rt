@@ -2,8 +2,8 @@
 ghost use Rattle.fleet_core.specs.Headline.{Headline, NodesCoverByParts};
 ghost use Rattle.fleet_core.specs.Laws.{OneReply, OneRun, RunsGoOn, CallsGoOn, MessagesStay};
 
-use redo_laws::{least_upper_bound, order_by_parts};
-use state_laws::states_answer;
+use log_theorems::{least_upper_bound, order_by_parts};
+use segment_theorems::states_answer;
 
 /// The headline: after any script over a sound log the replies are those of the machine, and each segment answers as the set of facts
 /// that reached its node; and the meaning of a union is the least that is at or above both.
@@ -21,12 +21,12 @@ pub fn covers_by_parts()
     order_by_parts();
 }
 
-/// From given sets of facts of one sound log a step has one reply, want of memory aside.
+/// From given sets of facts of one sound log a step has one reply, lack of memory aside.
 pub fn one_reply()
     ensures { OneReply }
 {}
 
-/// From given sets of facts of one sound log a script has one list of replies, want of memory aside. So what a fleet answers
+/// From given sets of facts of one sound log a script has one list of replies, lack of memory aside. So what a fleet answers
 /// depends on nothing but its script.
 pub fn one_run()
     ensures { OneRun }

@@ -32,7 +32,7 @@ pub fn take_copy(segment: &mut Segment, fact: &Fact) -> Reply
 fn uncopied_reply(segment: &Segment, redo: &Record) -> Reply
     ensures { Takes segment.now (RecordOf redo.now) result segment.now }
 {
-    if segment.is_settled(redo) {
+    if segment.is_stable(redo) {
         return Reply::Unchanged;
     }
     // At most one record is held under a key.

@@ -1,8 +1,8 @@
 -- Segments inside one log.
 use Rattle.std.specs.Prelude.{◌≡◌, ℕ, List, Some, slice_get}
 use Rattle.redo_core.specs.declared.facts.Fact.{Fact}
-use Rattle.state_laws.specs.State.{State}
-use Rattle.state_laws.specs.Means.{Means}
+use Rattle.segment_theorems.specs.State.{State}
+use Rattle.segment_theorems.specs.Means.{Means}
 use Rattle.node_cell.specs.Kept.{KeptData, MeansTrail}
 
 -- the segment means some part of the log

@@ -14,7 +14,7 @@ use std::alloc::{AllocError, Global};
 
 /// Nodes, numbered from 1, each with an intake of its own and the facts that are fed into it, and the board of their fronts.
 #[derive(Drop)]
-pub struct Floor<L: LogName> {
+pub struct DrillSetup<L: LogName> {
     pub board: Board<L>,
     pub nodes: Vec<Node<L>>,
     pub feeds: Vec<Feed<L>>,
@@ -43,20 +43,20 @@ struct Measure {
 }
 
 /// Opens `count` nodes, each with an intake that has room for `facts` parcels and a trail of at most `trail` entries, and deals the
-/// facts at the first `facts` places of the log out to the first `dealt` nodes, in turn. Its only error is want of memory.
+/// facts at the first `facts` places of the log out to the first `dealt` nodes, in turn. It fails only if memory runs out.
 pub fn open_floor<L: LogName>(
     alloc: Global,
     count: usize,
     dealt: usize,
     facts: usize,
     trail: u64,
-) -> Result<Floor<L>, AllocError>
+) -> Result<DrillSetup<L>, AllocError>
     requires nodes { (0 < count) × (count ≤ MAX_NODES) × (0 < dealt) }
     requires facts { (0 < facts) × (facts ≤ MAX_CAPACITY) }
     ensures { IfOk result (λ f. length f.nodes.items ≡ count) }
 {
     let (board, seats) = Board::<L>::open(alloc, count, count)?;
-    let mut floor = Floor {
+    let mut floor = DrillSetup {
         board,
         nodes: Vec::new(alloc),
         feeds: Vec::new(alloc),
@@ -71,10 +71,10 @@ pub fn open_floor<L: LogName>(
     Ok(floor)
 }
 
-// A stand for each seat of the board. The floor is lent, so that no want of memory lets it go here.
+// A stand for each seat of the board. The floor is lent, so that no lack of memory lets it go here.
 fn open_stands<L: LogName>(
     alloc: Global,
-    floor: &mut Floor<L>,
+    floor: &mut DrillSetup<L>,
     seats: Vec<Seat<L>>,
     count: usize,
     measure: Measure,
@@ -93,7 +93,7 @@ fn open_stands<L: LogName>(
 
 fn add_stand<L: LogName>(
     alloc: Global,
-    floor: &mut Floor<L>,
+    floor: &mut DrillSetup<L>,
     seat: Seat<L>,
     measure: Measure,
 ) -> Result<(), AllocError>

@@ -18,7 +18,7 @@ pub struct Joined<L: LogName> {
 }
 
 impl<L: LogName> Model for Joined<L> {
-    ghost use Rattle.state_laws.specs.State.{State};
+    ghost use Rattle.segment_theorems.specs.State.{State};
     ghost use Rattle.fleet_drill.specs.Parts.{MeansPart};
 
     ghost Value = { State };
@@ -45,7 +45,7 @@ impl<L: LogName> Joined<L> {
         &self.segment
     }
 
-    // Over one log a join is refused for want of memory alone.
+    // Over one log a join is refused only if memory runs out.
     fn take_in(&mut self, other: &Closed<L>) -> Result<(), AllocError>
         ensures keeps { OnOk result ((trail : List Entry) → MeansTrail L.roster L.log self.old trail → MeansTrail L.roster L.log self.new trail) }
         ensures brings { OnOk result (MeansTrail L.roster L.log self.new other.now.trail) }
@@ -59,7 +59,7 @@ impl<L: LogName> Joined<L> {
 }
 
 /// A copy of each node's segment, joined with those of all the others: it means a part of the log that has all facts which any of the
-/// nodes acknowledged. Its only error is want of memory.
+/// nodes acknowledged. It fails only if memory runs out.
 pub fn join_all<L: LogName>(
     alloc: Global,
     closed: &[Closed<L>],

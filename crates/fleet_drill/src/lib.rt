@@ -14,10 +14,10 @@ mod settling;
 mod telling;
 mod working;
 
-pub use floor::{Floor, open_floor};
+pub use floor::{DrillSetup, open_floor};
 pub use joining::{Joined, join_all};
 pub use rounds::make_plan;
 pub use running::{MAX_NODES, MAX_WORKERS, Open, Size, drill};
 pub use settling::close_all;
 pub use telling::tell;
-pub use working::{Worked, work};
+pub use working::{DrillResult, work};

@@ -6,9 +6,8 @@ use crate::rounds::make_plan;
 use crate::settling::close_all;
 use crate::telling::tell;
 use crate::working::work;
-use drill_log::Drill;
 use intake_queue::MAX_CAPACITY;
-use named_log::LogName;
+use named_log::{Drill, LogName};
 use node_threads::{Gate, Job};
 use std::alloc::{AllocError, Global};
 use std::sync::Wait;
@@ -38,7 +37,7 @@ impl Gate for Open {
     fn after(&self, _job: Job) {}
 }
 
-/// Runs a drill, and gives its text. An error is want of memory, or of a thread.
+/// Runs a drill, and gives its text. An error is lack of memory, or of a thread.
 pub fn drill<R: Threads + Wait + Sync>(
     rt: &R,
     alloc: Global,

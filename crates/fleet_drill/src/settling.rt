@@ -3,7 +3,7 @@ ghost use Rattle.node_cell.specs.Node.{IsPassOf};
 ghost use Rattle.node_threads.specs.Refusals.{AllStarted};
 ghost use Rattle.node_threads.specs.Work.{receipts_in};
 
-use crate::working::Worked;
+use crate::working::DrillResult;
 use named_log::LogName;
 use node_cell::laws::receipts_stand;
 use node_cell::{AbsorbFault, Closed, DeliverFault, Node, Pass, Receipt, settle};
@@ -12,12 +12,12 @@ use segment_core::CommitFault;
 use std::alloc::{AllocError, Global};
 use std::sync::Wait;
 
-/// Closes each node with its pass, in order, and settles its receipts. An error is want of memory, or of a thread, also of a worker
+/// Closes each node with its pass, in order, and settles its receipts. An error is lack of memory, or of a thread, also of a worker
 /// before: the nodes are then gone.
 pub fn close_all<L: LogName, R: Wait>(
     rt: &R,
     alloc: Global,
-    mut worked: Worked<L>,
+    mut worked: DrillResult<L>,
 ) -> Result<Vec<Closed<L>>, AllocError>
     ensures { IfOk result (λ closed. length closed.items ≡ length worked.nodes.items) }
 {
@@ -27,11 +27,11 @@ pub fn close_all<L: LogName, R: Wait>(
     Ok(closed)
 }
 
-// Closes the nodes, the last first. They are lent, so that no want of memory lets them go here.
+// Closes the nodes, the last first. They are lent, so that no lack of memory lets them go here.
 fn close_each<L: LogName, R: Wait>(
     rt: &R,
     alloc: Global,
-    worked: &mut Worked<L>,
+    worked: &mut DrillResult<L>,
     closed: &mut Vec<Closed<L>>,
 ) -> Result<(), AllocError>
     ensures { OnOk result (length closed.new.items ≡ length closed.old.items + length worked.old.nodes.items) }
@@ -46,7 +46,7 @@ fn close_each<L: LogName, R: Wait>(
 fn close_last<L: LogName, R: Wait>(
     rt: &R,
     alloc: Global,
-    worked: &mut Worked<L>,
+    worked: &mut DrillResult<L>,
     closed: &mut Vec<Closed<L>>,
 ) -> Result<(), AllocError>
     requires started { AllStarted worked.old.refusals.items }

@@ -12,7 +12,7 @@ const SHOWN: usize = 8;
 
 /// What is told of a drill: the number of facts, the front of each segment, the beginning of each page at the complete point of the
 /// first, and whether all mean the same. Where that point is below the first one's minimum read point, its page lines tell that.
-/// The only error is want of memory.
+/// The only error is lack of memory.
 pub fn tell<L: LogName>(
     alloc: Global,
     facts: usize,
@@ -63,7 +63,7 @@ fn put_image(alloc: Global, text: &mut String, page: u16, image: &Page) -> Resul
     writeln!(text, "page {page} {digits}")
 }
 
-// A segment that means a part of a log answers a read of its complete point, but for want of memory, or says that it is too low.
+// A segment that means a part of a log answers a read of its complete point, but for lack of memory, or says that it is too low.
 fn put_page<L: LogName>(
     alloc: Global,
     text: &mut String,

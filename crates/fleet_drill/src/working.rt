@@ -5,7 +5,7 @@ ghost use Rattle.node_threads.specs.Each.{Each};
 ghost use Rattle.node_threads.specs.Refusals.{AllStarted};
 ghost use Rattle.node_threads.specs.Work.{receipts_in};
 
-use crate::floor::Floor;
+use crate::floor::DrillSetup;
 use front_board::Board;
 use named_log::LogName;
 use node_cell::Node;
@@ -17,7 +17,7 @@ use std::thread::Threads;
 /// The nodes after the work, what came back of their inlets, the answers, and what was refused. Where all workers were started, each
 /// pass has just the receipts among the answers of its inlet.
 #[derive(Drop)]
-pub struct Worked<L: LogName> {
+pub struct DrillResult<L: LogName> {
     pub board: Board<L>,
     pub nodes: Vec<Node<L>>,
     pub inlets: Vec<Option<Inlet<L>>>,
@@ -28,16 +28,16 @@ pub struct Worked<L: LogName> {
     ghost passes: { AllStarted refusals.items → Each (λ k n s. (is_some s ≡ true) × ((j : _) → s ≡ Some j → IsPassOf n j.pass × ((a : _) → slice_get answers.items k ≡ Some a → j.pass.list ≡ receipts_in a.items))) nodes.items inlets.items },
 }
 
-/// Runs the workers of a floor under a gate. Its only error is want of memory, before the first worker starts; what is refused later
+/// Runs the workers of a floor under a gate. It fails only if memory runs out, before the first worker starts; what is refused later
 /// stands in `refusals`.
 pub fn work<L: LogName + Send + Sync, G: Gate + Sync, R: Threads + Wait + Sync>(
     rt: &R,
     alloc: Global,
-    floor: Floor<L>,
+    floor: DrillSetup<L>,
     plan: Plan,
     gate: &G,
-) -> Result<Worked<L>, AllocError> {
-    let Floor {
+) -> Result<DrillResult<L>, AllocError> {
+    let DrillSetup {
         board,
         nodes,
         feeds,
@@ -52,7 +52,7 @@ pub fn work<L: LogName + Send + Sync, G: Gate + Sync, R: Threads + Wait + Sync>(
                 answers,
                 refusals,
             } = served;
-            Ok(Worked {
+            Ok(DrillResult {
                 board,
                 nodes,
                 inlets,

@@ -17,7 +17,7 @@ use Rattle.fleet_tool.specs.Output.{SaysBadLine, SaysUnsound, SaysReplies, SaysS
 use Rattle.fleet_tool.specs.OneOutput.{OneOutput}
 use Rattle.fleet_tool.specs.declared.answer.Verdict.{Verdict}
 use Rattle.fleet_tool.specs.declared.job.TextTask.TheVariants.{Run, Check, Inspect}
-use Rattle.redo_laws.proofs.FirstFaults.{one_fault, no_fault}
+use Rattle.log_theorems.proofs.FirstFaults.{one_fault, no_fault}
 use Rattle.fleet_tool.proofs.Steps.{takes_from}
 
 one_bad_line : (at : ℕ) (text other : List ℕ) (v w : Verdict) → SaysBadLine at text v → SaysBadLine at other w → (text ≡ other) × (v ≡ w)

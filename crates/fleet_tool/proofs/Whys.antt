@@ -23,7 +23,7 @@ pub bad_why : {T : Type 0} (kinds : Kinds) (r : Result T LineFault) → kinds �
 bad_why kinds (Ok task) none is = tt
 bad_why kinds (Err fault) none is = subst (IsWhy kinds) (sym is) (inl none)
 
--- words without a fault fail for want of memory alone
+-- words without a fault fail only if memory runs out
 pub only_memory : (kinds : Kinds) (e : Error) → kinds ≡ [] → HasKind kinds e → kind_of e ≡ OutOfMemory
 only_memory kinds e none has = elim (subst (λ (k : Kinds). HasKind k e) none has) [
   | inl memory ↦ memory

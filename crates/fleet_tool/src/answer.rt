@@ -132,7 +132,7 @@ fn answer_capture(alloc: Global, input: &[u8]) -> Result<Answered, AllocError>
     })
 }
 
-/// The text that answers an input to the task. Its only error is want of memory.
+/// The text that answers an input to the task. It fails only if memory runs out.
 pub fn answer(alloc: Global, task: TextTask, input: Vec<u8>) -> Result<Answered, AllocError>
     ensures { IfOk result (λ a. IsOutputOf task input.items (string_bytes a.text) a.verdict) }
 {

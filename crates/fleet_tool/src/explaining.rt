@@ -78,7 +78,7 @@ fn unsound(alloc: Global, log: &Log) -> Result<Option<Reason>, AllocError>
     }
 }
 
-/// Why the task's answer to the text names a bad line or a fault of its log; None where it does neither. Its only error is want of memory.
+/// Why the task's answer to the text names a bad line or a fault of its log; None where it does neither. It fails only if memory runs out.
 pub fn reason_of(alloc: Global, task: LinesTask, text: &[u8]) -> Result<Option<Reason>, AllocError>
     ensures { IfOk result (λ found. MatchOption found (HasNothingToTell task text.now) (IsTrueReason task text.now)) }
 {

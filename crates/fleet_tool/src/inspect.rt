@@ -105,7 +105,7 @@ fn put_line(alloc: Global, text: &mut String, digits: &[u8]) -> Result<(), Alloc
     text.push_str("\n")
 }
 
-/// What is told of the text, a line for each of its lines. Its only error is want of memory.
+/// What is told of the text, a line for each of its lines. It fails only if memory runs out.
 pub fn inspected(alloc: Global, input: &[u8]) -> Result<String, AllocError>
     ensures { IfOk result (λ s. string_bytes s ≡ inspected input.now) }
 {

@@ -46,7 +46,7 @@ fn put_answer(
 }
 
 /// The answer lines of a fleet to steps that take their facts from the list. No page is kept for an answer: each step's line is
-/// written before the next step. Its only error is want of memory.
+/// written before the next step. It fails only if memory runs out.
 pub fn answers(
     alloc: Global,
     fleet: &mut Fleet,

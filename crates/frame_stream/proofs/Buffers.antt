@@ -14,9 +14,6 @@ taken_more at k n xs ys within few = search (rules, take-append-add, take-append
 pub taken_front : (k n : ℕ) (xs ys : List ℕ) → n ≤ length ys → take n (put_mid 0 k xs ys) ≡ take n ys
 taken_front k n xs ys few = take-append-le n ys (post_of 0 k xs) few
 
-pub taken_fits : (at k n : ℕ) (xs ys : List ℕ) → at ≤ length xs → n ≤ length ys → at + n ≤ length (put_mid at k xs ys)
-taken_fits at k n xs ys within few = grind (arith, common_steps)
-
 -- two parts, one behind the other, and nothing else up to there
 pub taken_both : (k j n : ℕ) (xs ys zs : List ℕ) → length ys ≡ 4 → n ≡ 4 + length zs → take n (put_mid 4 k (put_mid 0 j xs ys) zs) ≡ ys ++ zs
 taken_both k j n xs ys zs four size =

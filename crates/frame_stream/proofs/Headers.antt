@@ -18,10 +18,6 @@ pub stated_header : (n : ℕ) (bytes : List ℕ) → n < 2 ^ 32 → stated (head
 unfolding header stated
 stated_header n bytes h = from_be_bytes-to_be_bytes_4 n h
 
-pub stated_front : (head bytes : List ℕ) → length head ≡ 4 → stated (head ++ bytes) ≡ from_be_bytes w32 head
-unfolding stated
-stated_front head bytes h = grind (arith, common_steps)
-
 -- four bytes are the header of the number that they spell
 pub header_of : (head : List ℕ) (n : ℕ) → length head ≡ 4 → ((i : ℕ) → get_or head i 0 < 256) → n ≡ from_be_bytes w32 head → header n ≡ head
 unfolding header

@@ -22,7 +22,7 @@ pub struct AnswerFrames {
 }
 
 impl AnswerFrames {
-    /// No answer, and room for so many, of 17 bytes at most. Its only error is want of memory.
+    /// No answer, and room for so many, of 17 bytes at most. It fails only if memory runs out.
     pub fn new(alloc: Global, count: usize) -> Result<Self, AllocError>
         requires { 21 * count ≤ 2 ^ 26 }
         ensures none { IfOk result (λ a. bytes_put a ≡ []) }

@@ -100,7 +100,7 @@ impl<L: LogName> Board<L> {
     }
 
     /// A board of so many nodes, at least one, each word at (0, 0), and seats that know nothing yet.
-    /// Its only error is want of memory.
+    /// It fails only if memory runs out.
     pub fn open(
         alloc: Global,
         nodes: usize,

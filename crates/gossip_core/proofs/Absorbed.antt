@@ -5,21 +5,21 @@ use Rattle.redo_core.specs.Data.{RecordData}
 use Rattle.redo_core.specs.Meaning.{ImageData}
 use Rattle.redo_core.specs.Book.{roster_of}
 use Rattle.redo_core.specs.declared.facts.Fact.TheVariants.{Record}
-use Rattle.redo_laws.proofs.Meanings.{in_map, from_map}
+use Rattle.log_theorems.proofs.Meanings.{in_map, from_map}
 use Rattle.page_base.specs.Raising.{SamePage}
 use Rattle.page_base.specs.Merging.{IsTaken, IsFloored, Merges}
 use Rattle.messages.specs.Deltas.{DeltaData, IsDelta}
-use Rattle.state_laws.specs.State.{State, StoredImage, min_of, version_of, image_of}
-use Rattle.state_laws.specs.Means.{Matters, IsInImage}
-use Rattle.state_laws.specs.Joining.{JoinsBooks}
-use Rattle.state_laws.specs.Gossip.{HasImage, JoinsDelta}
+use Rattle.segment_theorems.specs.State.{State, StoredImage, min_of, version_of, image_of}
+use Rattle.segment_theorems.specs.Means.{Matters, IsInImage}
+use Rattle.segment_theorems.specs.Joining.{JoinsBooks}
+use Rattle.segment_theorems.specs.Gossip.{HasImage, JoinsDelta}
 use Rattle.segment_core.specs.Form.{IsSegment}
 use Rattle.segment_core.specs.Uniting.{Unites}
-use Rattle.segment_told.specs.Told.{facts_told}
-use Rattle.segment_told.specs.InOrder.{TakesEach}
-use Rattle.segment_told.proofs.TakingAll.{IsLate, LeavesAll, leaves_all}
-use Rattle.segment_told.proofs.ToldFacts.{listed_cut, listed_advance, listed_record}
-use Rattle.segment_told.proofs.BookTaken.{HasBook, all, book_joined, least_fits, late_of}
+use Rattle.segment_core.specs.Exported.{exported_facts}
+use Rattle.segment_core.specs.InOrder.{TakesEach}
+use Rattle.segment_core.proofs.TakingAll.{IsLate, LeavesAll, leaves_all}
+use Rattle.segment_core.proofs.ToldFacts.{listed_cut, listed_advance, listed_record}
+use Rattle.segment_core.proofs.BookTaken.{HasBook, all, book_joined, least_fits, late_of}
 use Rattle.gossip_core.specs.Absorbing.{filling_of, based_image, AbsorbsInto}
 
 -- the state has taken what the delta tells
@@ -27,21 +27,21 @@ pub record HasDelta (s : State) (d : DeltaData) (taken : State) : Type 0 where
   pub form : IsSegment s
   pub shape : IsDelta d
   pub one_roster : roster_of s.book ≡ roster_of d.book
-  pub takes : TakesEach s (facts_told d.book d.records) taken
+  pub takes : TakesEach s (exported_facts d.book d.records) taken
 
 module _ (s : State) (d : DeltaData) (taken : State) (h : HasDelta s d taken) where
-  has_book : HasBook s d.book (facts_told d.book d.records) taken
+  has_book : HasBook s d.book (exported_facts d.book d.records) taken
   has_book = record {
     own = late_of s h.form;
     epoch = h.shape.book.complete;
     one_roster = h.one_roster;
-    cut = listed_cut d.book d.records (facts_told d.book d.records) refl;
-    advance = listed_advance d.book d.records (facts_told d.book d.records) refl;
+    cut = listed_cut d.book d.records (exported_facts d.book d.records) refl;
+    advance = listed_advance d.book d.records (exported_facts d.book d.records) refl;
     takes = h.takes;
   }
 
-  left : LeavesAll s (facts_told d.book d.records) taken
-  left = all s taken d.book (facts_told d.book d.records) has_book
+  left : LeavesAll s (exported_facts d.book d.records) taken
+  left = all s taken d.book (exported_facts d.book d.records) has_book
 
   pub base_fits : d.base ≤ min_of taken
   base_fits = search (rules, least_fits, has_book)
@@ -83,7 +83,7 @@ module _ (s : State) (d : DeltaData) (taken new : State) (h : HasDelta s d taken
     takes = h.takes;
     book = (
       unites.book,
-      subst (JoinsBooks s.book d.book) (sym unites.book) (book_joined s taken d.book (facts_told d.book d.records) (has_book s d taken h)),
+      subst (JoinsBooks s.book d.book) (sym unites.book) (book_joined s taken d.book (exported_facts d.book d.records) (has_book s d taken h)),
     );
     held = unites.held;
     base = unites.base_is ∙ ap (λ b. max b d.base) (left s d taken h).base;
@@ -93,8 +93,8 @@ module _ (s : State) (d : DeltaData) (taken new : State) (h : HasDelta s d taken
 -- ---- what the two know together, where each told record that is not dead is held or in its page's image
 module _ (s : State) (d : DeltaData) (new : State) (late : IsLate s) (a : AbsorbsInto s d new)
     (told : (r : RecordData) → Contains d.records r → Matters a.taken.book.cuts a.taken.book.complete r → Contains a.taken.held r ⊎ IsInImage a.taken r) where
-  all_left : LeavesAll s (facts_told d.book d.records) a.taken
-  all_left = leaves_all s (facts_told d.book d.records) a.taken late a.takes
+  all_left : LeavesAll s (exported_facts d.book d.records) a.taken
+  all_left = leaves_all s (exported_facts d.book d.records) a.taken late a.takes
 
   base_known : ((d.base ≤ s.base) × (new.base ≡ s.base)) ⊎ ((s.base < d.base) × (new.base ≡ d.base) × ((g : ℕ) → d.base ≤ version_of new.store g))
   base_known = search rules
@@ -110,7 +110,7 @@ module _ (s : State) (d : DeltaData) (new : State) (late : IsLate s) (a : Absorb
   of_both r x =
       ⊎_elim
       (λ (y : Contains s.held r). inl y)
-      (λ (y : Contains (facts_told d.book d.records) (Record r)). inr ((listed_record d.book d.records (facts_told d.book d.records) refl r).0 y))
+      (λ (y : Contains (exported_facts d.book d.records) (Record r)). inr ((listed_record d.book d.records (exported_facts d.book d.records) refl r).0 y))
       (all_left.more r (subst (λ hs. Contains hs r) a.held x))
 
   in_image : (r : RecordData) → IsInImage a.taken r → IsInImage new r

@@ -6,11 +6,11 @@ use Rattle.redo_core.specs.Order.{IsRising, IsFirst}
 use Rattle.redo_core.specs.Keys.{key_of}
 use Rattle.redo_core.specs.declared.keys.Key.{Key}
 use Rattle.redo_core.proofs.Members.{here, there, which}
-use Rattle.state_laws.specs.State.{State}
-use Rattle.state_laws.specs.HasMeaning.{IsKeptBy}
+use Rattle.segment_theorems.specs.State.{State}
+use Rattle.segment_theorems.specs.HasMeaning.{IsKeptBy}
 use Rattle.gossip_core.specs.Answering.{IsCovered}
 use Rattle.hot_log.specs.Kept.{ListsKeysOf}
-use Rattle.redo_laws.proofs.Meanings.{from_map}
+use Rattle.log_theorems.proofs.Meanings.{from_map}
 
 each_of : {X : Type 0} (P : X → Type 0) (xs : List X) → AllByRecursion P xs → (x : X) → Contains xs x → P x
 each_of P xs all x h = grind (arith, common_steps)

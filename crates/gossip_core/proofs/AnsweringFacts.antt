@@ -9,17 +9,17 @@ use Rattle.redo_core.specs.Sound.{IsSound}
 use Rattle.redo_core.specs.Standing.{IsAlive, IsDead, IsWaiting}
 use Rattle.redo_core.specs.Meaning.{IsKept}
 use Rattle.redo_core.specs.declared.facts.Fact.{Fact}
-use Rattle.redo_laws.proofs.Alike.{alive_by}
-use Rattle.redo_laws.proofs.Deciding.{settled_lt}
-use Rattle.redo_laws.proofs.Fronts.{settled_alive, same_sym}
-use Rattle.redo_laws.proofs.Log.{log_of_sound}
+use Rattle.log_theorems.proofs.Alike.{alive_by}
+use Rattle.log_theorems.proofs.Deciding.{settled_lt}
+use Rattle.log_theorems.proofs.Fronts.{settled_alive, same_sym}
+use Rattle.log_theorems.proofs.Log.{log_of_sound}
 use Rattle.messages.specs.Summaries.{SummaryData}
-use Rattle.state_laws.specs.State.{State}
-use Rattle.state_laws.specs.Means.{MeansAt, Matters, IsInImage}
-use Rattle.state_laws.specs.HasMeaning.{HasAnchor}
-use Rattle.state_laws.specs.Gossip.{IsAccounted, AnswersFor}
-use Rattle.state_laws.proofs.Own.{anchor_law}
-use Rattle.segment_told.proofs.Scanning.{of_member}
+use Rattle.segment_theorems.specs.State.{State}
+use Rattle.segment_theorems.specs.Means.{MeansAt, Matters, IsInImage}
+use Rattle.segment_theorems.specs.HasMeaning.{HasAnchor}
+use Rattle.segment_theorems.specs.Gossip.{IsAccounted, AnswersFor}
+use Rattle.segment_theorems.proofs.Own.{anchor_law}
+use Rattle.segment_core.proofs.Scanning.{of_member}
 use Rattle.gossip_core.specs.Answering.{IsCovered, IsUncovered, listing_of}
 use Rattle.gossip_core.specs.declared.answering.Shown.{Shown}
 use Rattle.gossip_core.specs.declared.answering.Shown.TheVariants.{Anchor as OfAnchor, Key as OfKey}

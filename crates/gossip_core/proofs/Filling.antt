@@ -9,14 +9,14 @@ use Rattle.redo_core.specs.Order.{Lists, RecordBefore}
 use Rattle.redo_core.specs.Standing.{IsAlive, IsWaiting}
 use Rattle.redo_core.specs.Writing.{zeros}
 use Rattle.redo_core.specs.Meaning.{ImageBefore}
-use Rattle.redo_laws.proofs.Deciding.{settled_eq, settled_and, some_or_none}
+use Rattle.log_theorems.proofs.Deciding.{settled_eq, settled_and, some_or_none}
 use Rattle.messages.specs.Summaries.{SummaryData}
 use Rattle.messages.specs.Deltas.{DeltaData}
-use Rattle.state_laws.specs.State.{State}
-use Rattle.state_laws.specs.Shows.{Shows}
-use Rattle.state_laws.specs.HasMeaning.{IsKeptBy}
-use Rattle.state_laws.specs.Laws.{SameAnchor}
-use Rattle.state_laws.specs.Gossip.{IsListed, IsDeltaFor, ReplyFills}
+use Rattle.segment_theorems.specs.State.{State}
+use Rattle.segment_theorems.specs.Shows.{Shows}
+use Rattle.segment_theorems.specs.HasMeaning.{IsKeptBy}
+use Rattle.segment_theorems.specs.Laws.{SameAnchor}
+use Rattle.segment_theorems.specs.Gossip.{IsListed, IsDeltaFor, ReplyFills}
 use Rattle.gossip_core.specs.Answering.{listing_of}
 use Rattle.gossip_core.specs.Absorbing.{filling_of}
 use Rattle.gossip_core.specs.Replying.{IsSent, SendsRecords, SendsPages, AnswersSummary, FillsSummary}

@@ -3,19 +3,19 @@ use Rattle.std.proofs.Common.{◌≡◌, ℕ, ⊎_elim, List, ◌++◌}
 use Rattle.redo_core.specs.Position.{Position}
 use Rattle.redo_core.specs.declared.facts.Fact.{Fact}
 use Rattle.redo_core.proofs.FactParts.{record_in, cut_in, advance_in, part_records}
-use Rattle.redo_laws.proofs.Log.{log_of_sound}
+use Rattle.log_theorems.proofs.Log.{log_of_sound}
 use Rattle.messages.specs.Summaries.{SummaryData}
 use Rattle.messages.specs.Deltas.{DeltaData, IsDelta}
-use Rattle.state_laws.specs.State.{State}
-use Rattle.state_laws.specs.Means.{MeansAt}
-use Rattle.state_laws.proofs.Absorbing.{absorb_law}
-use Rattle.state_laws.proofs.Booked.{epoch_of}
+use Rattle.segment_theorems.specs.State.{State}
+use Rattle.segment_theorems.specs.Means.{MeansAt}
+use Rattle.segment_theorems.proofs.Absorbing.{absorb_law}
+use Rattle.segment_theorems.proofs.Booked.{epoch_of}
 use Rattle.segment_core.specs.declared.answers.Refusal.{Refusal}
 use Rattle.segment_core.specs.declared.answers.Refusal.TheVariants.{Memory}
-use Rattle.segment_told.specs.Told.{facts_told}
-use Rattle.segment_told.specs.InOrder.{RefusesOne}
-use Rattle.segment_told.proofs.TakingAll.{IsLate}
-use Rattle.segment_told.proofs.ToldInLog.{TellsPart, none_of_part, kept_of_part}
+use Rattle.segment_core.specs.Exported.{exported_facts}
+use Rattle.segment_core.specs.InOrder.{RefusesOne}
+use Rattle.segment_core.proofs.TakingAll.{IsLate}
+use Rattle.segment_core.proofs.ToldInLog.{TellsPart, none_of_part, kept_of_part}
 use Rattle.gossip_core.specs.Answering.{listing_of}
 use Rattle.gossip_core.proofs.AnsweringFacts.{answers_for}
 use Rattle.gossip_core.specs.Absorbing.{filling_of, IsAnsweredInLog, MeansBoth, IsOfOneLog, Answers, AbsorbsInto, RefusesTold}
@@ -45,16 +45,16 @@ module _ (roster : ℕ) (log F G : List Fact) (f g : Position) (s : State) (summ
       (known_together s d new late absorbs
       (kept_of_part roster log a.sound s absorbs.taken F G g d.book d.records (f, a.means) (tells_part shape) absorbs.takes))
 
-  pub nothing_refused : IsDelta d → (why : Refusal) → RefusesOne s (facts_told d.book d.records) why → ⊥
+  pub nothing_refused : IsDelta d → (why : Refusal) → RefusesOne s (exported_facts d.book d.records) why → ⊥
   nothing_refused shape why refused = none_of_part roster log a.sound s F G g d.book d.records (f, a.means) (tells_part shape) why refused
 
--- a refusal inside one sound log is want of memory, where nothing is uncovered
+-- a refusal inside one sound log is lack of memory, where nothing is uncovered
 pub only_memory : (s : State) (summary : SummaryData) (d : DeltaData) (why : Refusal) → IsDelta d → RefusesTold s d why
     → IsOfOneLog s summary d → why ≡ Memory
 only_memory s summary d why shape refused one =
     ⊎_elim
     (λ (e : why ≡ Memory). e)
-    (λ (x : RefusesOne s (facts_told d.book d.records) why).
+    (λ (x : RefusesOne s (exported_facts d.book d.records) why).
     absurd (nothing_refused one.0 one.1 one.2 one.3 one.4 one.5 s summary d one.6 shape why x))
     refused
 

@@ -9,9 +9,9 @@ use Rattle.redo_core.proofs.Members.{lists_unique}
 use Rattle.redo_core.proofs.Pairs.{pair_apart}
 use Rattle.messages.specs.Summaries.{SummaryData, summary_of}
 use Rattle.messages.specs.Deltas.{DeltaData}
-use Rattle.state_laws.specs.State.{State}
-use Rattle.state_laws.specs.Shows.{Shows}
-use Rattle.state_laws.specs.HasMeaning.{IsKeptBy}
+use Rattle.segment_theorems.specs.State.{State}
+use Rattle.segment_theorems.specs.Shows.{Shows}
+use Rattle.segment_theorems.specs.HasMeaning.{IsKeptBy}
 use Rattle.gossip_core.specs.Summarizing.{Summarizes}
 use Rattle.gossip_core.specs.Replying.{IsSent, SendsRecords, SendsPages, AnswersSummary}
 use Rattle.segment_core.proofs.OneView.{one_anchor}

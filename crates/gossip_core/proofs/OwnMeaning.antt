@@ -9,16 +9,16 @@ use Rattle.redo_core.specs.Writing.{zeros}
 use Rattle.redo_core.specs.Meaning.{Meaning, ImageData, ImageBefore}
 use Rattle.redo_core.proofs.Members.{lists_unique}
 use Rattle.redo_core.proofs.Pairs.{pair_apart, pair_trans, pair_order, advance_apart}
-use Rattle.redo_laws.proofs.Deciding.{settled_le, settled_lt, settled_and, settled_or, in_order}
-use Rattle.redo_laws.proofs.Fronts.{settled_alive, settled_linked}
-use Rattle.redo_laws.proofs.Meanings.{lists_as, nat_order, same_image, list_eq, in_map, from_map, record_of_meaning}
+use Rattle.log_theorems.proofs.Deciding.{settled_le, settled_lt, settled_and, settled_or, in_order}
+use Rattle.log_theorems.proofs.Fronts.{settled_alive, settled_linked}
+use Rattle.log_theorems.proofs.Meanings.{lists_as, nat_order, same_image, list_eq, in_map, from_map, record_of_meaning}
 use Rattle.redo_core.proofs.Numbers.{greatest_below}
-use Rattle.state_laws.specs.State.{State, StoredImage, min_of}
-use Rattle.state_laws.specs.Shows.{Shows}
-use Rattle.state_laws.specs.HasMeaning.{IsLinkedIn, HasAnchor, IsKeptBy, HasMeaning}
+use Rattle.segment_theorems.specs.State.{State, StoredImage, min_of}
+use Rattle.segment_theorems.specs.Shows.{Shows}
+use Rattle.segment_theorems.specs.HasMeaning.{IsLinkedIn, HasAnchor, IsKeptBy, HasMeaning}
 use Rattle.segment_core.specs.Form.{IsSegment}
 use Rattle.segment_core.proofs.Keys.{one_of_key}
-use Rattle.segment_told.proofs.BarePages.{IsBare, shows_some, bare_is_zeros, bare_or_not}
+use Rattle.segment_core.proofs.BarePages.{IsBare, shows_some, bare_is_zeros, bare_or_not}
 use Rattle.gossip_core.specs.Laws.{EverySegmentHasOneMeaning}
 use Rattle.segment_core.proofs.OneView.{one_anchor}
 use Rattle.segment_core.proofs.SamePages.{shows_one}

@@ -8,11 +8,11 @@ use Rattle.redo_core.specs.Shape.{page_len}
 use Rattle.messages.specs.Summaries.{SummaryData}
 use Rattle.messages.specs.Deltas.{delta_of}
 use Rattle.redo_wire.specs.Deltas.{delta_bytes}
-use Rattle.state_laws.specs.State.{State}
-use Rattle.state_laws.specs.HasMeaning.{HasAnchor}
-use Rattle.state_laws.specs.Laws.{SameAnchor}
-use Rattle.state_laws.specs.Gossip.{ReplyFills}
-use Rattle.segment_told.specs.StoredPages.{CountsShown}
+use Rattle.segment_theorems.specs.State.{State}
+use Rattle.segment_theorems.specs.HasMeaning.{HasAnchor}
+use Rattle.segment_theorems.specs.Laws.{SameAnchor}
+use Rattle.segment_theorems.specs.Gossip.{ReplyFills}
+use Rattle.segment_core.specs.StoredPages.{CountsShown}
 use Rattle.gossip_core.specs.Replying.{IsSent, SendsRecords, SendsPages, AnswersSummary}
 use Rattle.gossip_core.specs.Sizes.{IsSizeOf, IsReplySize}
 use Rattle.gossip_core.proofs.Filling.{fills, answers_short, answers_whole}

@@ -12,10 +12,10 @@ use Rattle.redo_core.specs.Meaning.{Meaning}
 use Rattle.redo_core.proofs.Members.{here, there, each, lists_unique}
 use Rattle.redo_core.proofs.Pairs.{pair_apart, advance_apart}
 use Rattle.messages.specs.Summaries.{SummaryData}
-use Rattle.state_laws.specs.State.{State}
-use Rattle.state_laws.specs.HasMeaning.{HasMeaning, IsKeptBy}
+use Rattle.segment_theorems.specs.State.{State}
+use Rattle.segment_theorems.specs.HasMeaning.{HasMeaning, IsKeptBy}
 use Rattle.segment_core.specs.Form.{IsSegment}
-use Rattle.segment_told.proofs.StoredCuts.{same_cuts}
+use Rattle.segment_core.proofs.StoredCuts.{same_cuts}
 use Rattle.gossip_core.specs.Summarizing.{Summarizes, IsSummaryOf}
 use Rattle.segment_core.proofs.OneView.{one_anchor}
 

@@ -9,10 +9,10 @@ use Rattle.redo_core.specs.Sound.{IsSound}
 use Rattle.redo_core.specs.declared.facts.Fact.{Fact}
 use Rattle.redo_core.proofs.Members.{here, which, none_in, all_members}
 use Rattle.messages.specs.Summaries.{SummaryData}
-use Rattle.state_laws.specs.State.{State}
-use Rattle.state_laws.specs.Means.{MeansAt}
-use Rattle.state_laws.specs.HasMeaning.{HasAnchor}
-use Rattle.state_laws.specs.Gossip.{IsAccounted}
+use Rattle.segment_theorems.specs.State.{State}
+use Rattle.segment_theorems.specs.Means.{MeansAt}
+use Rattle.segment_theorems.specs.HasMeaning.{HasAnchor}
+use Rattle.segment_theorems.specs.Gossip.{IsAccounted}
 use Rattle.gossip_core.specs.Answering.{IsCovered, IsUncoveredKey}
 use Rattle.gossip_core.specs.declared.answering.Shown.TheVariants.{Key as OfKey}
 use Rattle.gossip_core.proofs.AnsweringFacts.{answers_for, tells_answer}

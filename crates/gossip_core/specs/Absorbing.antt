@@ -10,15 +10,15 @@ use Rattle.page_base.specs.Raising.{SamePage}
 use Rattle.page_base.specs.Stored.{stored}
 use Rattle.messages.specs.Summaries.{SummaryData}
 use Rattle.messages.specs.Deltas.{DeltaData}
-use Rattle.state_laws.specs.State.{State, StoredImage, version_of, image_of}
-use Rattle.state_laws.specs.Means.{MeansAt, Means}
-use Rattle.state_laws.specs.HasMeaning.{HasAnchor}
-use Rattle.state_laws.specs.Joining.{JoinsBooks}
-use Rattle.state_laws.specs.Gossip.{Delta, Fills, HasImage}
+use Rattle.segment_theorems.specs.State.{State, StoredImage, version_of, image_of}
+use Rattle.segment_theorems.specs.Means.{MeansAt, Means}
+use Rattle.segment_theorems.specs.HasMeaning.{HasAnchor}
+use Rattle.segment_theorems.specs.Joining.{JoinsBooks}
+use Rattle.segment_theorems.specs.Gossip.{Delta, Fills, HasImage}
 use Rattle.segment_core.specs.declared.answers.Refusal.{Refusal}
 use Rattle.segment_core.specs.declared.answers.Refusal.TheVariants.{OtherRoster, Memory}
-use Rattle.segment_told.specs.Told.{facts_told}
-use Rattle.segment_told.specs.InOrder.{TakesEach, RefusesOne}
+use Rattle.segment_core.specs.Exported.{exported_facts}
+use Rattle.segment_core.specs.InOrder.{TakesEach, RefusesOne}
 use Rattle.gossip_core.specs.Answering.{IsUncovered, listing_of}
 use Rattle.gossip_core.specs.declared.absorbing.AbsorbRefusal.{AbsorbRefusal}
 use Rattle.gossip_core.specs.declared.absorbing.AbsorbRefusal.TheVariants.{Uncovered, Refused}
@@ -55,7 +55,7 @@ Answers s summary = (anchor : ℕ) × HasAnchor s anchor × IsUncovered s anchor
 pub record AbsorbsInto (old : State) (d : DeltaData) (new : State) : Type 0 where
   pub one_roster : roster_of old.book ≡ roster_of d.book
   pub taken : State
-  pub takes : TakesEach old (facts_told d.book d.records) taken
+  pub takes : TakesEach old (exported_facts d.book d.records) taken
   pub book : (new.book ≡ taken.book) × JoinsBooks old.book d.book new.book
   pub held : new.held ≡ taken.held
   pub base : new.base ≡ max old.base d.base
@@ -69,9 +69,9 @@ IsOfOther s d why = (roster_of s.book ≢ roster_of d.book) × (why ≡ OtherRos
 
 -- one of the facts that the delta tells is refused, or memory is wanting
 abbrev pub RefusesTold : State → DeltaData → Refusal → Type 0
-RefusesTold s d why = (why ≡ Memory) ⊎ RefusesOne s (facts_told d.book d.records) why
+RefusesTold s d why = (why ≡ Memory) ⊎ RefusesOne s (exported_facts d.book d.records) why
 
--- why an absorb is refused: another roster; else what is uncovered; else want of memory, or what the delta tells
+-- why an absorb is refused: another roster; else what is uncovered; else lack of memory, or what the delta tells
 abbrev pub RefusesAbsorb : State → SummaryData → DeltaData → AbsorbRefusal → Type 0
 RefusesAbsorb s summary d (Uncovered shown) =
     (roster_of s.book ≡ roster_of d.book) × ((anchor : ℕ) × HasAnchor s anchor × IsUncovered s anchor summary (Some shown))

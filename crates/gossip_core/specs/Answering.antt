@@ -7,8 +7,8 @@ use Rattle.redo_core.specs.declared.keys.Key.{Key}
 use Rattle.redo_core.specs.Standing.{IsDead}
 use Rattle.hot_log.specs.Held.{HoldsKey}
 use Rattle.messages.specs.Summaries.{SummaryData}
-use Rattle.state_laws.specs.State.{State}
-use Rattle.state_laws.specs.Gossip.{Listing}
+use Rattle.segment_theorems.specs.State.{State}
+use Rattle.segment_theorems.specs.Gossip.{Listing}
 use Rattle.gossip_core.specs.declared.answering.Shown.{Shown}
 use Rattle.gossip_core.specs.declared.answering.Shown.TheVariants.{Anchor as OfAnchor, Key as OfKey}
 

@@ -1,8 +1,8 @@
 -- The meaning that clauses over any facts speak of is there.
 use Rattle.std.specs.Prelude.{◌≡◌}
 use Rattle.redo_core.specs.Meaning.{Meaning}
-use Rattle.state_laws.specs.State.{State}
-use Rattle.state_laws.specs.HasMeaning.{HasMeaning}
+use Rattle.segment_theorems.specs.State.{State}
+use Rattle.segment_theorems.specs.HasMeaning.{HasMeaning}
 use Rattle.segment_core.specs.Form.{IsSegment}
 
 -- Whatever facts reached it, a segment tells a meaning by itself, and no other one.

@@ -12,11 +12,11 @@ use Rattle.redo_core.specs.Sound.{IsSound}
 use Rattle.redo_core.specs.declared.facts.Fact.{Fact}
 use Rattle.messages.specs.Summaries.{SummaryData}
 use Rattle.messages.specs.Deltas.{DeltaData}
-use Rattle.state_laws.specs.State.{State}
-use Rattle.state_laws.specs.Means.{MeansAt}
-use Rattle.state_laws.specs.Shows.{Shows}
-use Rattle.state_laws.specs.HasMeaning.{HasAnchor, IsKeptBy}
-use Rattle.state_laws.specs.Gossip.{Fills}
+use Rattle.segment_theorems.specs.State.{State}
+use Rattle.segment_theorems.specs.Means.{MeansAt}
+use Rattle.segment_theorems.specs.Shows.{Shows}
+use Rattle.segment_theorems.specs.HasMeaning.{HasAnchor, IsKeptBy}
+use Rattle.segment_theorems.specs.Gossip.{Fills}
 use Rattle.segment_core.specs.Forgetting.{IsFirstBreak}
 use Rattle.segment_core.specs.declared.answers.ReadFault.{ReadFault}
 use Rattle.segment_core.specs.declared.answers.ReadFault.TheVariants.{BrokenBlockChain}

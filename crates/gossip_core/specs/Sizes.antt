@@ -3,7 +3,7 @@ use Rattle.std.specs.Prelude.{◌≡◌, ℕ, length}
 use Rattle.messages.specs.Summaries.{SummaryData}
 use Rattle.messages.specs.Deltas.{DeltaData}
 use Rattle.redo_wire.specs.Deltas.{delta_bytes}
-use Rattle.state_laws.specs.State.{State}
+use Rattle.segment_theorems.specs.State.{State}
 use Rattle.gossip_core.specs.Replying.{AnswersSummary, FillsSummary}
 
 -- so many bytes spell a delta on the wire

@@ -6,8 +6,8 @@ use Rattle.redo_core.specs.Order.{Lists, RecordBefore}
 use Rattle.redo_core.specs.CompleteEpoch.{IsCompleteEpoch}
 use Rattle.redo_core.specs.Meaning.{Meaning}
 use Rattle.messages.specs.Summaries.{SummaryData}
-use Rattle.state_laws.specs.State.{State}
-use Rattle.state_laws.specs.HasMeaning.{HasAnchor, IsKeptBy}
+use Rattle.segment_theorems.specs.State.{State}
+use Rattle.segment_theorems.specs.HasMeaning.{HasAnchor, IsKeptBy}
 
 -- the summary of a state: its book, its anchor, and the keys of its kept records, rising
 pub record Summarizes (s : State) (summary : SummaryData) : Type 0 where

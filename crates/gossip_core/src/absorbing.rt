@@ -3,8 +3,8 @@ ghost use Rattle.redo_core.specs.Book.{roster_of};
 ghost use Rattle.segment_core.specs.Savepoint.{IsSavepointOf};
 ghost use Rattle.segment_core.specs.Union.{began, reached};
 ghost use Rattle.segment_core.specs.declared.answers.Refusal.TheVariants.{Memory as MemoryOf};
-ghost use Rattle.segment_told.specs.Told.{facts_told};
-ghost use Rattle.segment_told.specs.InOrder.{TakesEach, RefusesOne};
+ghost use Rattle.segment_core.specs.Exported.{exported_facts};
+ghost use Rattle.segment_core.specs.InOrder.{TakesEach, RefusesOne};
 ghost use Rattle.gossip_core.specs.declared.absorbing.AbsorbRefusal.TheVariants.{Refused as RefusedFor, Uncovered as UncoveredBy};
 ghost use Rattle.gossip_core.specs.declared.answering.Shown.{Shown as AnyShown};
 ghost use Rattle.gossip_core.specs.Absorbing.{based_image, MeansBoth, IsOfOneLog, Answers, AbsorbsInto, RefusesAbsorb, TellsRoster};
@@ -13,8 +13,7 @@ use crate::answering::{Shown, uncovered};
 use messages::{Delta, PageImage, Summary};
 use page_base::BaseImage;
 use redo_core::Record;
-use segment_core::{Refusal, Savepoint, Segment, Union};
-use segment_told::take_told;
+use segment_core::{MergeTransaction, Refusal, Savepoint, Segment, import_facts};
 use std::alloc::{AllocError, Global};
 use thiserror::Error;
 
@@ -33,7 +32,7 @@ pub enum AbsorbRefusal {
 ///
 /// Errors: `OtherRoster` exactly where the two rosters differ; else `Uncovered` exactly where the segment does not answer for the
 /// summary; else as of the first fact that `take` would refuse, of the delta's truncations, each reader's point in its complete epoch,
-/// its waiting advances and its records (over a sound log want of memory alone). The segment is then as it was.
+/// its waiting advances and its records (over a sound log lack of memory alone). The segment is then as it was.
 pub fn absorb(segment: &mut Segment, summary: &Summary, delta: &Delta) -> Result<(), AbsorbRefusal>
     // Inside one sound log.
     ensures means { OnOk result (MeansBoth segment.old summary.now delta.now segment.new) }
@@ -67,7 +66,7 @@ pub fn absorb(segment: &mut Segment, summary: &Summary, delta: &Delta) -> Result
 fn take_delta(segment: &mut Segment, delta: &Delta) -> Result<(), Refusal>
     requires { roster_of segment.old.book ≡ roster_of delta.now.book }
     ensures absorbs { OnOk result (AbsorbsInto segment.old delta.now segment.new) }
-    ensures refused { IfErr result (λ e. (e ≡ MemoryOf) ⊎ RefusesOne segment.old (facts_told delta.now.book delta.now.records) e) }
+    ensures refused { IfErr result (λ e. (e ≡ MemoryOf) ⊎ RefusesOne segment.old (exported_facts delta.now.book delta.now.records) e) }
     ensures unchanged { OnErr result (segment.new ≡ segment.old) }
 {
     let mut saved = segment.savepoint()?;
@@ -79,13 +78,13 @@ fn take_saved(segment: &mut Segment, saved: &mut Savepoint, delta: &Delta) -> Re
     requires roster { roster_of segment.old.book ≡ roster_of delta.now.book }
     requires saved { IsSavepointOf segment.old saved.old }
     ensures absorbs { OnOk result (AbsorbsInto segment.old delta.now segment.new) }
-    ensures refused { IfErr result (λ e. (e ≡ MemoryOf) ⊎ RefusesOne segment.old (facts_told delta.now.book delta.now.records) e) }
+    ensures refused { IfErr result (λ e. (e ≡ MemoryOf) ⊎ RefusesOne segment.old (exported_facts delta.now.book delta.now.records) e) }
     ensures unchanged { OnErr result (segment.new ≡ segment.old) }
 {
     segment.opens_form();
     let base = delta.base();
     let images = images_at(segment.allocator(), base, delta.pages())?;
-    let mut union = Union::begin(segment, saved);
+    let mut union = MergeTransaction::begin(segment, saved);
     if let Err(why) = take_facts(&mut union, delta) {
         return Err(why);
     }
@@ -94,13 +93,13 @@ fn take_saved(segment: &mut Segment, saved: &mut Savepoint, delta: &Delta) -> Re
 }
 
 /// Takes each fact that a delta tells.
-fn take_facts(union: &mut Union<'_>, delta: &Delta) -> Result<(), Refusal>
-    ensures takes { OnOk result (TakesEach (reached union.old) (facts_told delta.now.book delta.now.records) (reached union.new)) }
-    ensures refused { IfErr result (λ e. (e ≡ MemoryOf) ⊎ RefusesOne (reached union.old) (facts_told delta.now.book delta.now.records) e) }
+fn take_facts(union: &mut MergeTransaction<'_>, delta: &Delta) -> Result<(), Refusal>
+    ensures takes { OnOk result (TakesEach (reached union.old) (exported_facts delta.now.book delta.now.records) (reached union.new)) }
+    ensures refused { IfErr result (λ e. (e ≡ MemoryOf) ⊎ RefusesOne (reached union.old) (exported_facts delta.now.book delta.now.records) e) }
     ensures began { began union.new ≡ began union.old }
 {
     let records = each_of(union.segment().allocator(), delta.records())?;
-    take_told(union, &delta.book().lend(), &records)
+    import_facts(union, &delta.book().lend(), &records)
 }
 
 /// References to each of the records.

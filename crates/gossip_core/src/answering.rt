@@ -5,15 +5,14 @@ ghost use Rattle.redo_core.specs.Position.{Position};
 ghost use Rattle.redo_core.specs.Sound.{IsSound};
 ghost use Rattle.redo_core.specs.declared.facts.Fact.{Fact as AnyFact};
 ghost use Rattle.redo_core.specs.Keys.{KeyBefore};
-ghost use Rattle.state_laws.specs.Means.{MeansAt};
-ghost use Rattle.state_laws.specs.HasMeaning.{HasAnchor};
-ghost use Rattle.state_laws.specs.Gossip.{AnswersFor};
+ghost use Rattle.segment_theorems.specs.Means.{MeansAt};
+ghost use Rattle.segment_theorems.specs.HasMeaning.{HasAnchor};
+ghost use Rattle.segment_theorems.specs.Gossip.{AnswersFor};
 ghost use Rattle.gossip_core.specs.Answering.{IsCovered, IsFirstUncovered, IsUncovered, listing_of};
 
 use messages::Summary;
 use redo_core::Key;
-use segment_core::Segment;
-use segment_told::are_few;
+use segment_core::{Segment, prefers_lookup};
 
 /// What of a summary a segment does not answer for.
 #[derive(Clone, Copy, Debug, PartialEq, Eq)]
@@ -69,7 +68,7 @@ fn first_uncovered(segment: &Segment, anchor: u64, keys: &[Key]) -> Option<Key>
 fn keeps_all(segment: &Segment, anchor: u64, keys: &[Key]) -> bool
     ensures { IsTrue result → All (IsCovered segment.now anchor) keys.now }
 {
-    if are_few(keys.len(), segment) {
+    if prefers_lookup(keys.len(), segment) {
         return false;
     }
     match segment.kept_keys(anchor) {

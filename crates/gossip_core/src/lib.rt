@@ -20,6 +20,6 @@ mod unlisted;
 pub use absorbing::{AbsorbRefusal, absorb};
 pub use answering::{Shown, uncovered};
 pub use replies::reply;
-pub use segment_told::{book_of, stored_page_after};
+pub use segment_core::{book_of, stored_page_after};
 pub use sizes::reply_size;
 pub use summaries::summary;

@@ -1,14 +1,13 @@
 ghost use Rattle.std.specs.Prelude.{◌≡◌, ℕ, ◌<◌, ◌⊎◌, ◌↔◌, IfOk, IfErr, Err};
 ghost use Rattle.segment_core.specs.Forgetting.{IsSoundState, IsWhole, IsFirstBreak};
 ghost use Rattle.segment_core.specs.declared.answers.ReadFault.TheVariants.{BrokenBlockChain as BrokenAt, Memory as MemoryOf};
-ghost use Rattle.segment_told.specs.StoredPages.{AreShown};
+ghost use Rattle.segment_core.specs.StoredPages.{AreShown};
 ghost use Rattle.gossip_core.specs.Replying.{SendsRecords, SendsPages, AnswersSummary, FillsSummary, IsLeastBreak};
 
 use crate::unlisted::unlisted;
 use messages::{Delta, PageImage, Summary};
-use segment_core::{ReadFault, Segment};
-use segment_told::{book_of, pages_at_anchor};
-use state_laws::{reply_fills, same_anchor};
+use segment_core::{ReadFault, Segment, book_of, pages_at_anchor};
+use segment_theorems::{reply_fills, same_anchor};
 use std::alloc::AllocError;
 
 /// What a segment has beyond a summary, whichever segment told it and when: its book, and records that the summary does not list.

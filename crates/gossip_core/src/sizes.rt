@@ -7,9 +7,8 @@ ghost use Rattle.gossip_core.specs.Sizes.{IsReplySize, IsSizeOf};
 
 use messages::Summary;
 use redo_wire::delta_size;
-use segment_core::{ReadFault, Segment};
-use segment_told::{count_at_anchor, lent_book};
-use state_laws::{reply_fills, same_anchor};
+use segment_core::{ReadFault, Segment, book_ref, count_at_anchor};
+use segment_theorems::{reply_fills, same_anchor};
 use std::alloc::AllocError;
 
 /// How many bytes of the wire the reply to a summary has, as `reply` makes it. No part of that is kept: a page that is not folded is
@@ -40,7 +39,7 @@ fn with_records_size(segment: &Segment, summary: &Summary) -> Result<u128, Alloc
 {
     let point = segment.anchor().min(summary.anchor());
     let records = segment.kept_unlisted(point, summary.keys())?;
-    Ok(delta_size(&lent_book(segment), 0, &records))
+    Ok(delta_size(&book_ref(segment), 0, &records))
 }
 
 /// The size of the delta with the pages at the anchor, where no chain is broken.
@@ -68,5 +67,5 @@ fn with_shown_size(segment: &Segment, summary: &Summary) -> Result<u128, AllocEr
     let pages = count_at_anchor(segment)?;
     let anchor = segment.anchor();
     let records = segment.kept_unlisted(anchor, summary.keys())?;
-    Ok(delta_size(&lent_book(segment), pages, &records))
+    Ok(delta_size(&book_ref(segment), pages, &records))
 }

@@ -2,20 +2,19 @@ ghost use Rattle.std.specs.Prelude.{ℕ, List, IfOk};
 ghost use Rattle.redo_core.specs.Meaning.{Meaning, IsMeaning};
 ghost use Rattle.redo_core.specs.Sound.{IsSound};
 ghost use Rattle.redo_core.specs.declared.facts.Fact.{Fact as AnyFact};
-ghost use Rattle.state_laws.specs.Means.{Means};
-ghost use Rattle.state_laws.specs.HasMeaning.{HasMeaning};
+ghost use Rattle.segment_theorems.specs.Means.{Means};
+ghost use Rattle.segment_theorems.specs.HasMeaning.{HasMeaning};
 ghost use Rattle.segment_core.specs.Form.{IsSegment};
 ghost use Rattle.gossip_core.specs.Summarizing.{Summarizes, IsSummaryOf};
 
 use messages::Summary;
-use segment_core::Segment;
-use segment_told::book_of;
-use state_laws::same_meaning;
+use segment_core::{Segment, book_of};
+use segment_theorems::same_meaning;
 use std::alloc::AllocError;
 
 /// What a segment tells of itself: its book, its anchor and the keys of the records that its meaning keeps, rising.
 ///
-/// Its only error is want of memory.
+/// It fails only if memory runs out.
 pub fn summary(segment: &Segment) -> Result<Summary, AllocError>
     // Over any facts.
     ensures own { IfOk result (Summarizes segment.now) }

@@ -5,13 +5,13 @@ use Rattle.redo_core.specs.Data.{RecordData}
 use Rattle.redo_core.specs.Linked.{Linked}
 use Rattle.redo_core.specs.Linked.Linked.{start, next}
 use Rattle.epoch_book.specs.Book.{BookData}
-use Rattle.hot_log.specs.Alive.{IsHeldAlive, IsLinkedFrom, IsStraight}
+use Rattle.hot_log.specs.Alive.{IsHeldAlive, IsLinkedFrom, IsContiguous}
 use Rattle.hot_log.specs.Found.{IsLeastRecord}
 use Rattle.hot_log.proofs.Chain.{link_at_least}
 
 -- a straight chain
 pub record Straight (b : BookData) (held : List RecordData) (from top : ℕ) : Type 0 where
-  pub is : IsStraight b held from top
+  pub is : IsContiguous b held from top
   pub linked : IsLinkedFrom b held from top
 
 -- a linked number above top is that of an alive record above top

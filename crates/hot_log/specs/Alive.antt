@@ -73,7 +73,7 @@ IsReached book held from limit r = IsHeldAlive book held r × IsLinkedFrom book 
 
 -- From one number to another the chain is straight: each alive record above the one and up to the other is linked, and each
 -- linked number is linked from each lower one. So there is no stray and no fork.
-pub record IsStraight (book : BookData) (held : List RecordData) (from to : ℕ) : Type 0 where
+pub record IsContiguous (book : BookData) (held : List RecordData) (from to : ℕ) : Type 0 where
   pub linked : (r : RecordData) → IsHeldAlive book held r → from < r.number → r.number ≤ to → IsLinkedFrom book held from r.number
   pub onward : (m n : ℕ) → IsLinkedFrom book held from m → IsLinkedFrom book held from n → m ≤ n → n ≤ to → IsLinkedFrom book held m n
 
@@ -85,7 +85,7 @@ IsOpenedBelow book held epoch number r = IsHeldAlive book held r × (epoch < r.e
 pub record IsStraightEnd (book : BookData) (held : List RecordData) (from n : ℕ) : Type 0 where
   pub linked : IsLinkedFrom book held from n
   pub most : (m : ℕ) → IsLinkedFrom book held from m → m ≤ n
-  pub straight : IsStraight book held from n
+  pub straight : IsContiguous book held from n
 
 -- the key of the alive record with the least number above one, or none where there is none
 abbrev pub IsAliveKey : BookData → List RecordData → ℕ → Option Key → Type 0

@@ -21,7 +21,7 @@ fn linked_number_has_one_answer(view: &View, from: u64, limit: u64) -> (u64, u64
 fn straight_end_has_one_answer(view: &View, from: u64) -> (Option<u64>, Option<u64>)
     ensures { result.0 ≡ result.1 }
 {
-    (view.straight_end(from), view.straight_end(from))
+    (view.contiguous_end(from), view.contiguous_end(from))
 }
 
 fn key_after_has_one_answer(log: &HotLog, after: Option<Key>) -> (Option<Key>, Option<Key>)

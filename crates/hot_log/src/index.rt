@@ -31,7 +31,7 @@ impl KeyIndex {
         }
     }
 
-    /// An equal index with memory of its own. Its only error is want of memory.
+    /// An equal index with memory of its own. It fails only if memory runs out.
     pub fn copy(&self) -> Result<Self, AllocError>
         ensures { IfOk result (λ i. i ≡ self.now) }
     {
@@ -40,7 +40,7 @@ impl KeyIndex {
         })
     }
 
-    /// Adds a key to a group. Its only error is want of memory; the index is then as it was.
+    /// Adds a key to a group. It fails only if memory runs out; the index is then as it was.
     pub fn insert(&mut self, group: u64, key: Key) -> Result<(), AllocError>
         ensures gains { OnOk result (GainsKey self.old group key self.new) }
         ensures unchanged { OnErr result (self.new ≡ self.old) }

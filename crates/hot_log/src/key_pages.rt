@@ -45,7 +45,7 @@ impl KeyPages {
         }
     }
 
-    /// Equal keys and pages with memory of their own. Its only error is want of memory.
+    /// Equal keys and pages with memory of their own. It fails only if memory runs out.
     pub fn copy(&self) -> Result<Self, AllocError>
         ensures { IfOk result (λ k. k ≡ self.now) }
     {
@@ -61,7 +61,7 @@ impl KeyPages {
         self.map.get(&key).copied()
     }
 
-    /// Gives a key a page where it has none, and tells the page that it had. Its only error is want of memory; the keys are then as
+    /// Gives a key a page where it has none, and tells the page that it had. It fails only if memory runs out; the keys are then as
     /// they were, without this one.
     pub fn add(&mut self, key: Key, page: u16) -> Result<Option<u16>, AllocError>
         ensures adds { IfOk result (AddsPage self.old key page self.new) }
@@ -127,7 +127,7 @@ impl KeyPages {
         Some(*key)
     }
 
-    /// The keys above one given that wait, or are alive above a number, rising. Its only error is want of memory.
+    /// The keys above one given that wait, or are alive above a number, rising. It fails only if memory runs out.
     pub fn kept_keys(
         &self,
         alloc: Global,

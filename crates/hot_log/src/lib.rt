@@ -4,7 +4,7 @@
 //! refused. Against a book of truncations it removes what an image has and what is dead; a `View` lends both, and answers which
 //! numbers are linked from a base, the alive records of a page in order of their numbers, the successor of a number, and what the
 //! first alive record above a number hangs on. Every answer is exact over every set of records, also one that no sound log has.
-//! Only `put`, `copy`, `records_of`, `records_anew`, `kept_keys`, `kept_unlisted` and `missing_by_page` want memory.
+//! Only `put`, `copy`, `records_of`, `records_since_init`, `kept_keys`, `kept_unlisted` and `missing_by_page` want memory.
 //!
 //! The records stand by page and, within a page, by key (`records`); beside them are the page of each key (`key_pages`) and the
 //! keys by segment backlink (`index`). The questions of a view stand in `view`; those that go from key to key in `search`, and those

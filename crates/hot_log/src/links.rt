@@ -5,7 +5,7 @@ ghost use Rattle.redo_core.specs.Data.{RecordData};
 ghost use Rattle.redo_core.specs.Order.{Lists, RecordBefore};
 ghost use Rattle.hot_log.specs.Held.{IsHeld};
 ghost use Rattle.hot_log.specs.Ahead.{AreOnward, PassesToAlive};
-ghost use Rattle.hot_log.specs.Alive.{HasNoneEarlier, IsAliveOfBack, IsLinkedFrom, IsLinkedHeld, IsReached, IsStraight, IsStraightEnd};
+ghost use Rattle.hot_log.specs.Alive.{HasNoneEarlier, IsAliveOfBack, IsLinkedFrom, IsLinkedHeld, IsReached, IsContiguous, IsStraightEnd};
 ghost use Rattle.hot_log.specs.Found.{IsGreatestRecord, IsOnlyRecord};
 ghost use Rattle.hot_log.specs.Gaps.{IsGapAbove};
 ghost use Rattle.hot_log.specs.Seen.{seen_in};
@@ -122,7 +122,7 @@ impl<'a> View<'a> {
     }
 
     /// The end of the chain from a number on: the greatest number linked from there. None where the chain has a fork or a stray.
-    pub fn straight_end(&self, from: u64) -> Option<u64>
+    pub fn contiguous_end(&self, from: u64) -> Option<u64>
         ensures some { IfSome result (seen_in self.now IsStraightEnd from) }
         ensures none { IsNone result → (n : ℕ) → seen_in self.now IsStraightEnd from n → ⊥ }
     {

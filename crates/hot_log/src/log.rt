@@ -75,7 +75,7 @@ impl HotLog {
         }
     }
 
-    /// An equal log with memory of its own. Its only error is want of memory.
+    /// An equal log with memory of its own. It fails only if memory runs out.
     pub fn copy(&self) -> Result<Self, AllocError>
         ensures { IfOk result (λ h. h ≡ self.now) }
     {
@@ -262,7 +262,7 @@ impl HotLog {
     }
 
     /// The records of another log that this one does not hold, by page, and within a page by key. Both are gone over side by side, so
-    /// none is looked up. Its only error is want of memory.
+    /// none is looked up. It fails only if memory runs out.
     pub fn missing_by_page<'a>(
         &self,
         alloc: Global,
@@ -314,7 +314,7 @@ impl Clone for HotLog {
     }
 }
 
-// Holds a record whose key is free, and lists the key by the segment backlink. Its only error is want of memory: the record comes
+// Holds a record whose key is free, and lists the key by the segment backlink. It fails only if memory runs out: the record comes
 // back, and what is held and listed is as it was.
 fn hold(
     records: &mut PagedRecords,

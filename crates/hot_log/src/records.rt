@@ -51,7 +51,7 @@ impl PagedRecords {
         }
     }
 
-    /// Equal records with memory of their own. Its only error is want of memory.
+    /// Equal records with memory of their own. It fails only if memory runs out.
     pub fn copy(&self) -> Result<Self, AllocError>
         ensures { IfOk result (λ p. p ≡ self.now) }
     {
@@ -92,7 +92,7 @@ impl PagedRecords {
         }
     }
 
-    /// Holds a record under its page and key. Its only error is want of memory: the records are then as they were, and it comes back.
+    /// Holds a record under its page and key. It fails only if memory runs out: the records are then as they were, and it comes back.
     pub fn insert(&mut self, redo: Record) -> Result<(), Refused<Record, AllocError>>
         requires { IsRecordAt self.old (key_of redo) None }
         ensures gains { OnOk result ((r : RecordData) → Contains self.new r ↔ (Contains self.old r ⊎ (r ≡ redo))) }
@@ -166,7 +166,7 @@ impl PagedRecords {
         Some(place.0)
     }
 
-    /// The alive records of a page with keys above one and up to another, rising. Its only error is want of memory.
+    /// The alive records of a page with keys above one and up to another, rising. It fails only if memory runs out.
     pub fn alive_between(
         &self,
         alloc: Global,
@@ -189,7 +189,7 @@ impl PagedRecords {
     }
 
     /// The same from the last of them on that begins the page anew, where one does. What comes before that one is not looked at.
-    pub fn alive_anew(
+    pub fn alive_since_init(
         &self,
         alloc: Global,
         book: &EpochBook,
@@ -217,7 +217,7 @@ impl PagedRecords {
 
 impl PagedRecords {
     /// The records of another log that this one does not hold, by page, and within a page by key. Both logs are gone over side by side,
-    /// so none is looked up. Its only error is want of memory.
+    /// so none is looked up. It fails only if memory runs out.
     pub fn missing_by_page<'a>(
         &self,
         alloc: Global,

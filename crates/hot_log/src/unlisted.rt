@@ -16,7 +16,7 @@ use std::alloc::{AllocError, Global};
 
 impl<'a> View<'a> {
     /// The records that wait, or are alive above a number, and whose keys are not among the ones given, which rise; rising by key. Its
-    /// only error is want of memory.
+    /// only error is lack of memory.
     pub fn kept_unlisted(
         &self,
         alloc: Global,

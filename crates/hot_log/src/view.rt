@@ -49,7 +49,7 @@ impl<'a> View<'a> {
         }
     }
 
-    /// The alive records of a page with numbers above `from` and up to `to`, rising. Its only error is want of memory.
+    /// The alive records of a page with numbers above `from` and up to `to`, rising. It fails only if memory runs out.
     pub fn records_of(
         &self,
         alloc: Global,
@@ -72,8 +72,8 @@ impl<'a> View<'a> {
     }
 
     /// The same from the last of them on that begins the page anew, where one does: what comes before that one does not show in the
-    /// page, and is not looked at. Its only error is want of memory.
-    pub fn records_anew(
+    /// page, and is not looked at. It fails only if memory runs out.
+    pub fn records_since_init(
         &self,
         alloc: Global,
         page: u16,
@@ -91,10 +91,10 @@ impl<'a> View<'a> {
         if above.epoch > to.epoch || from >= to.number {
             return Ok(Vec::new(alloc));
         }
-        held.records.alive_anew(alloc, book, page, above, to)
+        held.records.alive_since_init(alloc, book, page, above, to)
     }
 
-    /// The keys of the records that wait, or are alive above a number, rising. Its only error is want of memory.
+    /// The keys of the records that wait, or are alive above a number, rising. It fails only if memory runs out.
     pub fn kept_keys(&self, alloc: Global, point: u64) -> Result<Vec<Key>, AllocError>
         ensures { IfOk result (λ v. ListsKeysOf (seen_in self.now IsKeptAbove point) v.items) }
     {

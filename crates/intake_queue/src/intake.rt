@@ -53,7 +53,7 @@ impl<L: LogName> Model for Intake<L> {
 
 impl<L: LogName> Intake<L> {
     /// An intake with room for 1 to 65,536 parcels, its 1 to 64 senders, numbered from 1, and its taker.
-    /// Its only error is want of memory.
+    /// It fails only if memory runs out.
     pub fn open(
         alloc: Global,
         senders: usize,
@@ -111,7 +111,7 @@ impl<L: LogName> Intake<L> {
 
     /// What is left, front first, once no thread shares the intake. Of each sender what was taken and then what is left are
     /// numbered in turn, and of each sender handed in they are its accepted offers.
-    /// The only error is want of memory, and then all is handed back as it was.
+    /// The only error is lack of memory, and then all is handed back as it was.
     pub fn end<R: Wait>(
         self,
         rt: &R,

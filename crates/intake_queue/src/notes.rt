@@ -52,7 +52,7 @@ impl<L: LogName> Intake<L> {
     }
 
     /// The taker hears what was accepted: from now on it finds nothing only once it has taken so much.
-    pub fn tell_taker(&self, taker: &mut TakerPass<L>, note: Note<L>)
+    pub fn notify_taker(&self, taker: &mut TakerPass<L>, note: Note<L>)
         requires own { (taker.old.intake ≡ self.now.id) × (note.intake ≡ self.now.id) }
         ensures { taker.new ≡ record taker.old { heard = taker.old.heard ++ note.accepted } }
     {

@@ -46,7 +46,7 @@ fn told(line: &[u8], reason: LineReason) -> LineReason
     }
 }
 
-/// Why the line is bad at that place: a reason exactly where it is not read there, and a true one. Its only error is want of memory.
+/// Why the line is bad at that place: a reason exactly where it is not read there, and a true one. It fails only if memory runs out.
 pub fn line_reason(
     alloc: Global,
     place: Place,

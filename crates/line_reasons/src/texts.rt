@@ -92,7 +92,7 @@ fn ended_reason(
 }
 
 /// Why the line of that number, from 1, of a script or of fact lines alone is bad, as the text stands before it: a true reason, or none
-/// where nothing is wrong with the line, or there is none. Its only error is want of memory.
+/// where nothing is wrong with the line, or there is none. It fails only if memory runs out.
 pub fn text_reason(
     alloc: Global,
     is_script: bool,

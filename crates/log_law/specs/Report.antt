@@ -15,7 +15,7 @@ use Rattle.log_law.specs.Links.{Judges}
 abbrev pub Reports : ℕ → List Fact → LawFault → Type 0
 Reports roster log fault = (place : ℕ) × (fault.place ≡ place + 1) × IsFirstFault roster log place fault.law
 
--- an unsound log is reported by its first fault; want of memory says nothing of the log
+-- an unsound log is reported by its first fault; lack of memory says nothing of the log
 abbrev pub ReportsFault : ℕ → List Fact → CheckFault → Type 0
 ReportsFault roster log (Unsound fault) = Reports roster log fault
 ReportsFault roster log Memory = Unit {0}

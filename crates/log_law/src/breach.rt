@@ -46,7 +46,7 @@ pub enum Breach {
     CutBelow { place: u64 },
 }
 
-/// With what else a reported fact breaks its law. None only for a fault that is none; the only error is want of memory.
+/// With what else a reported fact breaks its law. None only for a fault that is none; the only error is lack of memory.
 pub fn breach_of(
     alloc: Global,
     facts: &[Fact],

@@ -30,7 +30,7 @@ pub(crate) struct CountedCuts {
 }
 
 impl CountedCuts {
-    /// The truncations that count among these facts. Its only error is want of memory.
+    /// The truncations that count among these facts. It fails only if memory runs out.
     pub(crate) fn new(alloc: Global, facts: &[Fact], roster: Roster) -> Result<Self, AllocError>
         ensures cuts { IfOk result (Describes facts.now) }
         ensures least_later_lo { IfOk result (HasLeastLaterLo roster facts.now) }
@@ -162,7 +162,7 @@ fn empty_table(alloc: Global, len: usize) -> Result<Vec<Option<Cut>>, AllocError
     vec![in alloc; None; len]
 }
 
-/// A list of `len` times the same number. Its only error is want of memory.
+/// A list of `len` times the same number. It fails only if memory runs out.
 pub(crate) fn filled(alloc: Global, number: u64, len: usize) -> Result<Vec<u64>, AllocError>
     ensures { IfOk result (λ v. (length v.items ≡ len) × ((k : ℕ) → slice_index_or v.items k number ≡ number)) }
 {

@@ -11,7 +11,7 @@ use std::collections::HashMap;
 /// Where the first record of each key stands.
 type Places = HashMap<Key, usize>;
 
-/// The least place (from 0) that breaks law 1, or the number of facts. Its only error is want of memory.
+/// The least place (from 0) that breaks law 1, or the number of facts. It fails only if memory runs out.
 pub(crate) fn first_key_conflict(
     alloc: Global,
     facts: &[Fact],

@@ -28,7 +28,7 @@ pub(crate) struct BrokenLink {
     pub(crate) law: Law,
 }
 
-/// The least place whose record keeps law 2 and breaks law 3 or 4. Its only error is want of memory.
+/// The least place whose record keeps law 2 and breaks law 3 or 4. It fails only if memory runs out.
 pub(crate) fn first_broken_link(
     alloc: Global,
     facts: &[Fact],

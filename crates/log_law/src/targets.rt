@@ -16,7 +16,7 @@ pub(crate) struct Target {
     pub(crate) number: u64,
 }
 
-/// What a backlink of a record has to name, over the records of a page or of all pages. Its only error is want of memory.
+/// What a backlink of a record has to name, over the records of a page or of all pages. It fails only if memory runs out.
 pub(crate) fn target_of(
     alloc: Global,
     facts: &[Fact],

@@ -51,7 +51,7 @@ impl Model for Writer {
 }
 
 impl Writer {
-    /// A writer of an empty log of a roster, in epoch 0. Its only error is want of memory.
+    /// A writer of an empty log of a roster, in epoch 0. It fails only if memory runs out.
     pub fn new(alloc: Global, roster: Roster) -> Result<Self, AllocError>
         ensures { IfOk result (λ w. w ≡ writer_of roster []) }
     {

@@ -78,7 +78,7 @@ impl Book {
         &self.waits
     }
 
-    /// An equal book with memory of its own. Its only error is want of memory.
+    /// An equal book with memory of its own. It fails only if memory runs out.
     pub fn copy(&self) -> Result<Self, AllocError>
         ensures { IfOk result (λ b. b ≡ self.now) }
     {
@@ -91,10 +91,10 @@ impl Book {
     }
 
     /// The book, lent.
-    pub fn lend(&self) -> LentBook<'_>
+    pub fn lend(&self) -> BookRef<'_>
         ensures { result ≡ self.now }
     {
-        LentBook {
+        BookRef {
             cuts: &self.cuts,
             complete: self.complete,
             points: self.points.as_slice(),
@@ -120,14 +120,14 @@ impl Book {
 
 /// A book that is lent: that of a message, or what a segment tells of its own.
 #[derive(Drop)]
-pub struct LentBook<'a> {
+pub struct BookRef<'a> {
     cuts: &'a [Cut],
     complete: u16,
     points: &'a [u64],
     waits: &'a [Advance],
 }
 
-impl<'a> Model for LentBook<'a> {
+impl<'a> Model for BookRef<'a> {
     ghost use Rattle.redo_core.specs.Book.{BookData, book_of, IsBook};
 
     ghost Value = { BookData };
@@ -137,18 +137,18 @@ impl<'a> Model for LentBook<'a> {
     ghost invariant = { λ b. IsBook (book_of b.cuts.now b.complete b.points.now b.waits.now) };
 }
 
-impl<'a> LentBook<'a> {
+impl<'a> BookRef<'a> {
     /// The book of truncations with their complete epoch, the points of 1 to 15 readers, each up to 2^48 - 1, and waiting advances.
     pub fn new(
         cuts: &'a [Cut],
         complete: u16,
         points: &'a [u64],
         waits: &'a [Advance],
-    ) -> LentBook<'a>
+    ) -> BookRef<'a>
         requires { IsBook (book_of cuts.now complete points.now waits.now) }
         ensures { result ≡ book_of cuts.now complete points.now waits.now }
     {
-        LentBook {
+        BookRef {
             cuts,
             complete,
             points,
@@ -186,7 +186,7 @@ impl<'a> LentBook<'a> {
         self.waits
     }
 
-    /// An equal book with memory of its own. Its only error is want of memory.
+    /// An equal book with memory of its own. It fails only if memory runs out.
     pub fn to_book(&self, alloc: Global) -> Result<Book, AllocError>
         ensures { IfOk result (λ b. b ≡ self.now) }
     {

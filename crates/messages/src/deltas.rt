@@ -77,7 +77,7 @@ impl Delta {
         let _base = self.base;
     }
 
-    /// An equal delta, which shares the pages. Its only error is want of memory.
+    /// An equal delta, which shares the pages. It fails only if memory runs out.
     pub fn copy(&self) -> Result<Self, AllocError>
         ensures { IfOk result (λ d. d ≡ self.now) }
     {

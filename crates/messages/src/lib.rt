@@ -11,7 +11,7 @@ mod images;
 mod pieces;
 mod summaries;
 
-pub use books::{Book, LentBook};
+pub use books::{Book, BookRef};
 pub use deltas::Delta;
 pub use images::PageImage;
 pub use pieces::{MAX_BATCH, Piece, PieceContent, RecordBatch};

@@ -56,7 +56,7 @@ impl Summary {
         &self.keys
     }
 
-    /// An equal summary with memory of its own. Its only error is want of memory.
+    /// An equal summary with memory of its own. It fails only if memory runs out.
     pub fn copy(&self) -> Result<Self, AllocError>
         ensures { IfOk result (λ s. s ≡ self.now) }
     {

@@ -38,7 +38,7 @@ impl<L: LogName> LogFact<L> {
         }
     }
 
-    /// The fact at a place of the log, from 1, or none outside it. Its only error is want of memory.
+    /// The fact at a place of the log, from 1, or none outside it. It fails only if memory runs out.
     pub fn at(alloc: Global, place: u64) -> Result<Option<LogFact<L>>, AllocError>
         ensures value { IfOk result (λ found. found ≡ placed place (fact_at L.log place)) }
         ensures inside { IfOk result (λ found. IsSome found ↔ IsLogPlace L.log place) }

@@ -3,12 +3,12 @@ use Rattle.std.proofs.Common.{◌≡◌, ℕ, List, ◌++◌, Result, Ok, Err, I
 use Rattle.redo_core.specs.Meaning.{Meaning, IsMeaning}
 use Rattle.redo_core.specs.Sound.{IsSound}
 use Rattle.redo_core.specs.declared.facts.Fact.{Fact}
-use Rattle.redo_laws.specs.WellFormed.{OneMeaning}
-use Rattle.redo_laws.proofs.Union.{left, right}
+use Rattle.log_theorems.specs.WellFormed.{OneMeaning}
+use Rattle.log_theorems.proofs.Union.{left, right}
 use Rattle.messages.specs.Summaries.{SummaryData}
 use Rattle.messages.specs.Deltas.{DeltaData}
-use Rattle.state_laws.specs.State.{State}
-use Rattle.state_laws.specs.Means.{Means}
+use Rattle.segment_theorems.specs.State.{State}
+use Rattle.segment_theorems.specs.Means.{Means}
 use Rattle.segment_core.specs.Reading.{IsFrontAt}
 use Rattle.segment_core.specs.declared.answers.Front.{Front}
 use Rattle.front_board.specs.FrontWord.{FrontData}

@@ -10,15 +10,15 @@ use Rattle.redo_core.specs.Answer.ReadAnswer.{Image as OfImage}
 use Rattle.redo_core.specs.Sound.{IsSound}
 use Rattle.redo_core.specs.declared.facts.Fact.{Fact}
 use Rattle.redo_core.proofs.Members.{here}
-use Rattle.redo_laws.specs.WellFormed.{OnePage}
-use Rattle.redo_laws.proofs.Log.{log_of_sound}
-use Rattle.redo_laws.proofs.OfWholeLog.{front_law, page_law}
-use Rattle.redo_laws.proofs.Union.{left, right}
+use Rattle.log_theorems.specs.WellFormed.{OnePage}
+use Rattle.log_theorems.proofs.Log.{log_of_sound}
+use Rattle.log_theorems.proofs.OfWholeLog.{front_law, page_law}
+use Rattle.log_theorems.proofs.Union.{left, right}
 use Rattle.named_log.specs.Places.{fact_at}
-use Rattle.state_laws.specs.State.{State}
-use Rattle.state_laws.specs.Means.{Means, MeansAt}
-use Rattle.state_laws.specs.Promises.{IsFinalPage}
-use Rattle.state_laws.proofs.Own.{anchor_law}
+use Rattle.segment_theorems.specs.State.{State}
+use Rattle.segment_theorems.specs.Means.{Means, MeansAt}
+use Rattle.segment_theorems.specs.Promises.{IsFinalPage}
+use Rattle.segment_theorems.proofs.Own.{anchor_law}
 use Rattle.segment_core.specs.Folding.{IsFoldOf, RefusesCommit}
 use Rattle.segment_core.specs.Reading.{IsFrontAt}
 use Rattle.segment_core.specs.declared.answers.Front.{Front}

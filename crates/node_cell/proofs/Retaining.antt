@@ -2,8 +2,8 @@
 use Rattle.std.proofs.Common.{◌≡◌, ℕ, List, [], ◌∷◌, ◌++◌, Result, Ok, Err, IfOk, OnOk, OnErr, subst, sym, ◌∙◌, append-nil}
 use Rattle.redo_core.specs.Sound.{IsSound}
 use Rattle.redo_core.specs.declared.facts.Fact.{Fact}
-use Rattle.redo_laws.proofs.Union.{left}
-use Rattle.state_laws.specs.State.{State}
+use Rattle.log_theorems.proofs.Union.{left}
+use Rattle.segment_theorems.specs.State.{State}
 use Rattle.gossip_core.specs.Absorbing.{MeansBoth}
 use Rattle.segment_core.specs.Folding.{Commits}
 use Rattle.segment_core.specs.declared.fold_plan.Folded.{Folded}

@@ -5,8 +5,8 @@ use Rattle.redo_core.specs.Position.{Position, IsPosition}
 use Rattle.redo_core.specs.declared.facts.Fact.{Fact}
 use Rattle.named_log.specs.Places.{fact_at}
 use Rattle.front_board.specs.FrontWord.{FrontData}
-use Rattle.state_laws.specs.State.{State}
-use Rattle.state_laws.specs.Promises.{TakesFact}
+use Rattle.segment_theorems.specs.State.{State}
+use Rattle.segment_theorems.specs.Promises.{TakesFact}
 use Rattle.node_cell.specs.Kept.{HasPlace, HasPlaces}
 use Rattle.node_cell.specs.declared.answers.DeliverFault.{DeliverFault}
 use Rattle.node_cell.specs.declared.answers.DeliverFault.TheVariants.{TrailFull, Memory}

@@ -3,7 +3,7 @@ use Rattle.std.specs.Prelude.{◌≡◌, ℕ, ◌<◌, List, Result, MatchResult
 use Rattle.redo_core.specs.Sets.{IsPart}
 use Rattle.redo_core.specs.Position.{Position, IsPosition}
 use Rattle.redo_core.specs.declared.facts.Fact.{Fact}
-use Rattle.state_laws.specs.State.{State}
+use Rattle.segment_theorems.specs.State.{State}
 use Rattle.segment_core.specs.Folding.{IsFoldOf, Commits}
 use Rattle.segment_core.specs.Forgetting.{DiscardsJust}
 use Rattle.segment_core.specs.declared.fold_plan.Folded.{Folded}

@@ -10,8 +10,8 @@ use Rattle.redo_core.specs.Meaning.{Meaning, IsMeaning}
 use Rattle.redo_core.specs.declared.facts.Fact.{Fact}
 use Rattle.messages.specs.Summaries.{SummaryData}
 use Rattle.messages.specs.Deltas.{DeltaData}
-use Rattle.state_laws.specs.State.{State}
-use Rattle.state_laws.specs.Gossip.{Fills, IsAccounted}
+use Rattle.segment_theorems.specs.State.{State}
+use Rattle.segment_theorems.specs.Gossip.{Fills, IsAccounted}
 use Rattle.front_board.specs.FrontWord.{FrontData}
 use Rattle.gossip_core.specs.Summarizing.{IsSummaryOf}
 use Rattle.gossip_core.specs.Answering.{listing_of}

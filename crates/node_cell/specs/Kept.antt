@@ -4,8 +4,8 @@ use Rattle.std.specs.List.{Contains}
 use Rattle.redo_core.specs.declared.facts.Fact.{Fact}
 use Rattle.named_log.specs.Places.{fact_at}
 use Rattle.node_lock.specs.Trail.{Entry}
-use Rattle.state_laws.specs.State.{State}
-use Rattle.state_laws.specs.Means.{Means}
+use Rattle.segment_theorems.specs.State.{State}
+use Rattle.segment_theorems.specs.Means.{Means}
 
 -- what a segment stores, and a trail: of each acknowledged fact the number of the pass that brought it, and its place in the log
 pub record KeptData : Type 0 where

@@ -7,7 +7,7 @@ use Rattle.redo_core.specs.Answer.ReadAnswer.{Image as OfImage}
 use Rattle.redo_core.specs.declared.facts.Fact.{Fact}
 use Rattle.segment_core.specs.Reading.{IsReadFault}
 use Rattle.segment_core.specs.declared.answers.ReadFault.{ReadFault}
-use Rattle.state_laws.specs.State.{State}
+use Rattle.segment_theorems.specs.State.{State}
 use Rattle.node_lock.specs.Trail.{Entry}
 use Rattle.node_cell.specs.Kept.{HasPlaces, MeansTrail}
 use Rattle.node_cell.specs.Receipt.{ReceiptData}

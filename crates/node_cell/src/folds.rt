@@ -79,7 +79,7 @@ impl<L: LogName> Folded<L> {
         self.folded
     }
 
-    /// An equal fold with memory of its own. Its only error is want of memory.
+    /// An equal fold with memory of its own. It fails only if memory runs out.
     pub fn copy(&self) -> Result<Folded<L>, AllocError>
         ensures { IfOk result (λ folded. folded ≡ self.now) }
     {

@@ -1,5 +1,5 @@
 ghost use Rattle.std.specs.Prelude.{◌≡◌, ◌≢◌, ◌≤◌, ◌<◌, ◌⊎◌, ◌↔◌, ◌+◌, ◌++◌, ◌∷◌, [], length, IfOk, IfErr, OnErr, OnOk, Some, None};
-ghost use Rattle.state_laws.specs.Means.{Means};
+ghost use Rattle.segment_theorems.specs.Means.{Means};
 ghost use Rattle.segment_core.specs.Folding.{Commits};
 ghost use Rattle.segment_core.specs.Forgetting.{DiscardsJust};
 ghost use Rattle.node_cell.specs.Kept.{MeansTrail, KeepsParts};
@@ -17,12 +17,12 @@ use crate::receipts::Receipt;
 use crate::views::View;
 use front_board::LogFront;
 use gossip_core::AbsorbRefusal;
+use log_theorems::one_meaning;
 use messages::Summary;
 use named_log::{LogFact, LogName};
 use node_lock::Trailed;
 use read_cache::CachedSegment;
 use redo_core::Refused;
-use redo_laws::one_meaning;
 use segment_core::{CommitFault, ReadFault, Refusal, Segment};
 use std::alloc::{AllocError, Global};
 use std::marker::{Model, PhantomData};
@@ -65,7 +65,7 @@ impl<L: LogName> Trailed for Kept<L> {
 }
 
 impl<L: LogName> Kept<L> {
-    /// No fact, and an empty trail. Its only error is want of memory.
+    /// No fact, and an empty trail. It fails only if memory runs out.
     pub(crate) fn new(alloc: Global) -> Result<Self, AllocError>
         ensures trail { IfOk result (λ k. k.trail ≡ []) }
         ensures empty { IfOk result (λ k. Means L.roster L.log [] k.segment) }
@@ -209,7 +209,7 @@ impl<L: LogName> Kept<L> {
         self.segment.discard();
     }
 
-    /// What the segment tells of itself. Its only error is want of memory.
+    /// What the segment tells of itself. It fails only if memory runs out.
     pub(crate) fn summary(&self) -> Result<Summary, AllocError>
         ensures told { IfOk result (IsSummaryOfLog L.roster L.log) }
         ensures keeps { MeansTrail L.roster L.log self.now.segment self.now.trail }

@@ -3,8 +3,8 @@ ghost use Rattle.std.specs.Prelude.{◌≡◌};
 ghost use Rattle.node_cell.specs.Laws.{ReceiptsStand};
 
 use crate::views::View;
+use log_theorems::one_page;
 use named_log::LogName;
-use redo_laws::one_page;
 
 /// The receipts of a pass stand in the trail of the closed node, so they settle.
 pub fn receipts_stand()

@@ -36,7 +36,7 @@ impl<L: LogName> Mail<L> {
         }
     }
 
-    /// An equal mail, which shares the pages. Its only error is want of memory.
+    /// An equal mail, which shares the pages. It fails only if memory runs out.
     pub fn copy(&self) -> Result<Mail<L>, AllocError>
         ensures { IfOk result (λ mail. mail ≡ self.now) }
     {

@@ -49,7 +49,7 @@ impl<L: LogName> Model for Node<L> {
 
 impl<L: LogName> Node<L> {
     /// A node that no fact has reached, with its number on boards (from 1), its passes, 1 to 64, and how many entries its trail may
-    /// have. Its only error is want of memory.
+    /// have. It fails only if memory runs out.
     pub fn open(
         alloc: Global,
         number: usize,
@@ -166,7 +166,7 @@ impl<L: LogName> Node<L> {
         answer
     }
 
-    /// What the node tells of itself, for another node to answer. Its only error is want of memory.
+    /// What the node tells of itself, for another node to answer. It fails only if memory runs out.
     pub fn summary<R: Wait>(&self, rt: &R) -> Result<Summary, AllocError>
         ensures { IfOk result (IsSummaryOfLog L.roster L.log) }
     {
@@ -176,7 +176,7 @@ impl<L: LogName> Node<L> {
         answer
     }
 
-    /// What the node has beyond a summary, of whichever node and time. Its only error is want of memory: the summary comes back.
+    /// What the node has beyond a summary, of whichever node and time. It fails only if memory runs out: the summary comes back.
     pub fn reply<R: Wait>(
         &self,
         rt: &R,
@@ -212,7 +212,7 @@ impl<L: LogName> Node<L> {
         answer
     }
 
-    /// A plan to fold a page to the anchor, to be carried out apart from the node. Its only error is want of memory.
+    /// A plan to fold a page to the anchor, to be carried out apart from the node. It fails only if memory runs out.
     pub fn fold_plan<R: Wait>(&self, rt: &R, page: u16) -> Result<FoldPlan<L>, AllocError>
         ensures page { IfOk result (λ plan. plan.page ≡ page) }
         ensures fold { IfOk result (λ plan. IsFoldOfLog L.roster L.log plan) }

@@ -17,15 +17,9 @@ is_some (Some t) = true
 pub out_is : (b : Bool) (noted trail : List Entry) → out_of b noted ≡ Some trail → (b ≡ true) × (noted ≡ trail)
 out_is b noted trail e = search rules
 
-pub out_none : (b : Bool) (noted : List Entry) → out_of b noted ≡ None → b ≡ false
-out_none b noted e = search rules
-
 -- the place of the last entry
 pub last_place : (noted trail after : List Entry) (e : Entry) → noted ≡ trail → after ≡ trail ++ e ∷ [] → suc (length noted) ≡ length after
 last_place noted trail after e same grown = grind (arith, common_steps)
-
-new_first : (k n : ℕ) → 0 < n → first_part (new_parts k n) ≡ (k, []) ∷ []
-new_first k n h = search rules
 
 new_rest : (k passes : ℕ) → k < passes → rest_parts (new_parts k (passes - k)) ≡ new_parts (k + 1) (passes - (k + 1))
 new_rest k passes h = search rules
@@ -48,10 +42,6 @@ module _ {T : Type 0} where
       → (m.0.parts ≡ (k, list_in m.0.parts) ∷ []) × (m.1 ≡ carried m.0.holds)
   own_part m passes k l now = search rules
 
-  pub reseated : (m : Me (Option T) Known) (passes known : ℕ) (parts : List Part) → m ≡ (standing_for known parts, []) → known ≡ passes
-      → m ≡ (standing_for passes m.0.parts, [])
-  reseated m passes known parts e same = e ∙ (λ i. seated (same i) ((sym e i).0.parts))
-
 pub idle_snoc : (lock : TableId) (ps : List PassData) (p : PassData) → AreIdle lock ps → (p.lock ≡ lock) × (p.out ≡ None) → AreIdle lock (ps ++ p ∷ [])
 idle_snoc lock [] p are is = (is, tt)
 idle_snoc lock (q ∷ qs) p are is = (are.0, idle_snoc lock qs p are.1 is)
@@ -73,6 +63,3 @@ count_is (p ∷ ps) = ap (λ (n : ℕ). length p.list + n) (count_is ps)
 pub joined : (parts : List Part) (own : Part) (p : PassData) (rest rest' : List PassData) (all : List Part) → own ≡ part_of p → rest ≡ p ∷ rest'
     → parts ++ map part_of rest ≡ all → (parts ++ own ∷ []) ++ map part_of rest' ≡ all
 joined parts own p rest rest' all is steps h = grind (arith, common_steps)
-
-pub all_joined : (parts : List Part) (rest items : List PassData) → length rest ≡ 0 → parts ++ map part_of rest ≡ map part_of items → parts ≡ map part_of items
-all_joined parts rest items none h = grind (arith, common_steps)

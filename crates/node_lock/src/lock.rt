@@ -42,7 +42,7 @@ impl<S: Trailed + Drop> Model for Lock<S> {
 
 impl<S: Trailed + Drop> Lock<S> {
     /// A lock round a state with an empty trail, and its passes, 1 to 64, numbered from 0.
-    /// Its only error is want of memory. The state comes back.
+    /// It fails only if memory runs out. The state comes back.
     pub fn open(
         alloc: Global,
         state: S,

@@ -109,7 +109,7 @@ module _ (old : ReplicaData) (bytes rest out : List ℕ) (left : ℕ) (mid : Rep
       }
 
 -- ---- what was put is an answer
--- the reply of what only reads may be told as want of memory
+-- the reply of what only reads may be told as lack of memory
 lacking : (old : ReplicaData) (asked : Result Asked LineFault) (text : List ℕ) (new : ReplicaData) → ReadsAsked by_frames asked old text new
     → AnswersAsked by_frames asked old (codes "memory") new
 lacking old (Ok asked) text new h = inl (record { is = refl; unchanged = h.unchanged; did = inr (h.told, h.replies) })

@@ -3,7 +3,7 @@ use Rattle.std.proofs.Common.{◌≡◌, ℕ, Bool, true, false, Option, Some, N
 use Rattle.redo_core.specs.declared.facts.Fact.{Fact}
 use Rattle.redo_core.specs.declared.refusal.Refused.{Refused}
 use Rattle.messages.specs.Pieces.{PieceData}
-use Rattle.state_laws.specs.State.{State}
+use Rattle.segment_theorems.specs.State.{State}
 use Rattle.segment_core.specs.declared.answers.Taken.{Taken}
 use Rattle.segment_core.specs.declared.answers.Taken.TheVariants as taken
 use Rattle.segment_core.specs.declared.answers.Refusal.{Refusal}
@@ -13,12 +13,12 @@ use Rattle.segment_core.specs.declared.answers.ReadFault.TheVariants as fault
 use Rattle.segment_core.specs.declared.fold_plan.Folded.{Folded}
 use Rattle.gossip_core.specs.declared.absorbing.AbsorbRefusal.{AbsorbRefusal}
 use Rattle.gossip_core.specs.declared.absorbing.AbsorbRefusal.TheVariants as absorb
-use Rattle.hydration.specs.Snapshots.{SnapshotData}
-use Rattle.hydration.specs.Stagings.{StagingData}
-use Rattle.hydration.specs.declared.staging.AddFault.{AddFault}
-use Rattle.hydration.specs.declared.staging.AddFault.TheVariants as add
-use Rattle.hydration.specs.declared.finishing.FinishFault.{FinishFault}
-use Rattle.hydration.specs.declared.finishing.FinishFault.TheVariants as finish
+use Rattle.snapshot.specs.Snapshots.{SnapshotData}
+use Rattle.snapshot.specs.Stagings.{StagingData}
+use Rattle.snapshot.specs.declared.staging.AddFault.{AddFault}
+use Rattle.snapshot.specs.declared.staging.AddFault.TheVariants as add
+use Rattle.snapshot.specs.declared.finishing.FinishFault.{FinishFault}
+use Rattle.snapshot.specs.declared.finishing.FinishFault.TheVariants as finish
 use Rattle.read_cache.specs.Cached.{Cached}
 use Rattle.replica.specs.AtSegment.{CommitsPlan, Opens}
 use Rattle.replica.specs.Hydrating.{FreezesAs, AddsTo, StandsFor, Finishes, EndsInUnion, UnitesMade}

@@ -15,7 +15,7 @@ use Rattle.node_stream.specs.declared.faults.LineFault.{LineFault}
 use Rattle.node_stream.specs.declared.faults.LineFault.TheVariants as fault
 
 -- A form of the stream: the bytes of many requests, where those of one hold many; what one request asks; and the texts of replies, of
--- faults, of want of memory, for a request that is too long, and for what exceeds the limit of the answer to many.
+-- faults, of lack of memory, for a request that is too long, and for what exceeds the limit of the answer to many.
 pub record Spoken : Type 0 where
   pub many : List ℕ → Option (List ℕ)
   pub asks : List ℕ → Result Asked LineFault

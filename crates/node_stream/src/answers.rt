@@ -16,7 +16,7 @@ use std::alloc::{AllocError, Global};
 
 /// The answer line of a reply; `room` is for that of a snapshot which is kept.
 ///
-/// Its only error is want of memory, and not for a reply to a request that has changed something.
+/// It fails only if memory runs out, and not for a reply to a request that has changed something.
 pub fn told(
     alloc: Global,
     window: Window,

@@ -68,7 +68,7 @@ fn answer_fault(alloc: Global, fault: LineFault) -> FrameAnswer
 /// Answers the bytes of the frame of one request: the reply where they ask something, else why they ask nothing, and then nothing has
 /// changed.
 ///
-/// The bytes `memory` stand for want of memory. Then, where the reply is a refusal, and where the answer has more than 17 bytes, nothing
+/// The bytes `memory` stand for lack of memory. Then, where the reply is a refusal, and where the answer has more than 17 bytes, nothing
 /// has changed but which images the cache keeps.
 pub fn answer_one(alloc: Global, replica: &mut Replica, frame: &[u8]) -> FrameAnswer
     ensures answers { AnswersRequest by_frames replica.old frame.now (bytes_of result) replica.new }

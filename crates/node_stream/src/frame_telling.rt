@@ -169,7 +169,7 @@ fn frozen_frame(room: String, pieces: u32) -> Result<FrameAnswer, AllocError>
 
 /// The answer frame of a reply; `room` is for that of a snapshot which is kept.
 ///
-/// Its only error is want of memory, and not for a reply to a request that has changed something.
+/// It fails only if memory runs out, and not for a reply to a request that has changed something.
 pub fn told(
     alloc: Global,
     window: Window,

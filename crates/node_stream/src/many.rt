@@ -96,7 +96,7 @@ fn answer_many(alloc: Global, replica: &mut Replica, bytes: &[u8]) -> FrameAnswe
 /// nothing has changed. Behind the word `many` stand whole frames of requests, and the answer is the frames of their answers, of up to
 /// 64 MiB together.
 ///
-/// The bytes `memory` stand for want of memory, and `long` for an answer that would exceed the limit of that to many. Then, and where the
+/// The bytes `memory` stand for lack of memory, and `long` for an answer that would exceed the limit of that to many. Then, and where the
 /// reply is a refusal, nothing has changed but which images the cache keeps.
 pub fn answer_frame(alloc: Global, replica: &mut Replica, frame: &[u8]) -> FrameAnswer
     ensures answers { IsFrameAnswer replica.old frame.now (bytes_of result) replica.new }

@@ -61,7 +61,7 @@ fn answer_fault(alloc: Global, fault: LineFault) -> Answer
 /// Answers a request line, which stands here without its LF, by a line: that of the reply where it asks something, else why it asks
 /// nothing, and then nothing has changed.
 ///
-/// The line `memory` stands for want of memory. Then, and where the reply is a refusal, nothing has changed but which images the cache
+/// The line `memory` stands for lack of memory. Then, and where the reply is a refusal, nothing has changed but which images the cache
 /// keeps.
 pub fn answer_line(alloc: Global, replica: &mut Replica, line: &[u8]) -> Answer
     ensures { IsAnswer replica.old line.now (text_of result) replica.new }
@@ -95,7 +95,7 @@ impl Model for Node {
 impl Node {
     /// A replica of a roster of readers that no fact has reached. Its cache keeps at most so many images of pages, with 0 none.
     ///
-    /// Its only error is want of memory.
+    /// It fails only if memory runs out.
     pub fn new(alloc: Global, roster: Roster, pages: usize) -> Result<Self, AllocError>
         ensures { IfOk result (λ n. n ≡ empty_replica roster pages) }
     {

@@ -58,7 +58,7 @@ fn ended_by(rt: &impl Eprint, ended: Result<(), RunFault>) -> ExitCode {
     ExitCode::from(status_of(ended))
 }
 
-/// A node of one reader, without facts, in memory of its own. Its only error is want of memory.
+/// A node of one reader, without facts, in memory of its own. It fails only if memory runs out.
 fn open_node(alloc: Global) -> Result<Box<Node>, AllocError> {
     match Roster::new(1) {
         Ok(roster) => Ok(Box::new(alloc, Node::new(alloc, roster, PAGES)?)?),

@@ -9,14 +9,6 @@ use Rattle.node_lock.specs.Passes.{PassData}
 use Rattle.intake_queue.specs.Ends.{SenderData, TakerData}
 use Rattle.node_threads.specs.Work.{Offered, Answered, answered_place, receipt_in, receipts_in}
 
-pub offered_none : (s : SenderData) (facts : List PlacedFact) → Offered s facts s facts
-offered_none s facts = record {
-  same = refl;
-  done = [];
-  all = refl;
-  accepted = sym (append-nil (parcel_facts s.accepted));
-}
-
 -- nothing more was accepted
 pub offered_same : (old : SenderData) (facts : List PlacedFact) (s s' : SenderData) (rest rest' : List PlacedFact) → Offered old facts s rest → s' ≡ s → rest' ≡ rest → Offered old facts s' rest'
 offered_same old facts s s' rest rest' o is same = subst (λ u. Offered old facts u rest') (sym is) (subst (Offered old facts s) (sym same) o)

@@ -5,7 +5,7 @@ ghost use Rattle.node_threads.specs.Work.{Answered, Names, NamesItem, answered_p
 
 use crate::gate::{Gate, Job, Kind};
 use crate::list::numbered;
-use crate::stop::{Halt, Stop, told};
+use crate::stop::{StopSignal, StopToken, told};
 use front_board::{Board, Seat};
 use intake_queue::{Intake, Parcel, TakerPass};
 use named_log::{LogFact, LogName};
@@ -19,7 +19,7 @@ pub type Answer<L> = Result<Receipt<L>, Refused<LogFact<L>, DeliverFault>>;
 
 /// What a drainer owns: the ends of its inlet, and the answers so far, with room for all.
 #[derive(Drop)]
-pub struct Hold<L: LogName> {
+pub struct DrainerState<L: LogName> {
     pub taker: TakerPass<L>,
     pub node: usize,
     pub pass: Pass<L>,
@@ -29,9 +29,9 @@ pub struct Hold<L: LogName> {
 
 /// What a drainer brings back.
 #[derive(Drop)]
-pub struct Drained<'s, L: LogName> {
-    pub hold: Hold<L>,
-    pub halt: Option<Halt<'s>>,
+pub struct DrainerResult<'s, L: LogName> {
+    pub hold: DrainerState<L>,
+    pub halt: Option<StopToken<'s>>,
     pub absent: bool,
 }
 
@@ -42,12 +42,12 @@ pub fn run_drainer<'s, L: LogName, G: Gate, R: Wait>(
     nodes: &[Node<L>],
     board: &Board<L>,
     gate: &G,
-    stop: &'s Stop,
+    stop: &'s StopSignal,
     intake: &Intake<L>,
     worker: u64,
     count: u64,
-    mut hold: Hold<L>,
-) -> Drained<'s, L>
+    mut hold: DrainerState<L>,
+) -> DrainerResult<'s, L>
     requires taker { hold.taker.intake ≡ intake.now.id }
     requires seat { hold.seat.board ≡ board.now }
     requires pass { (n : _) → NamesItem hold.node nodes.now n → IsPassOf n hold.pass }
@@ -61,7 +61,7 @@ pub fn run_drainer<'s, L: LogName, G: Gate, R: Wait>(
     ensures halt { IfSome result.halt (λ t. (t.of ≡ stop.entry.now.id) × (t.value ≢ 0)) }
 {
     let Some(node) = numbered(nodes, hold.node) else {
-        return Drained {
+        return DrainerResult {
             hold,
             halt: None,
             absent: true,
@@ -70,7 +70,7 @@ pub fn run_drainer<'s, L: LogName, G: Gate, R: Wait>(
     let halt = drain_all(
         rt, node, board, gate, stop, intake, worker, count, &mut hold,
     );
-    Drained {
+    DrainerResult {
         hold,
         halt,
         absent: false,
@@ -82,12 +82,12 @@ fn drain_all<'s, L: LogName, G: Gate, R: Wait>(
     node: &Node<L>,
     board: &Board<L>,
     gate: &G,
-    stop: &'s Stop,
+    stop: &'s StopSignal,
     intake: &Intake<L>,
     worker: u64,
     count: u64,
-    hold: &mut Hold<L>,
-) -> Option<Halt<'s>>
+    hold: &mut DrainerState<L>,
+) -> Option<StopToken<'s>>
     requires taker { hold.old.taker.intake ≡ intake.now.id }
     requires seat { hold.old.seat.board ≡ board.now }
     requires pass { IsPassOf node.now hold.old.pass }
@@ -123,7 +123,7 @@ fn deliver<L: LogName, R: Wait>(
     rt: &R,
     node: &Node<L>,
     board: &Board<L>,
-    hold: &mut Hold<L>,
+    hold: &mut DrainerState<L>,
     parcel: Parcel<L>,
 )
     requires seat { hold.old.seat.board ≡ board.now }
@@ -147,10 +147,10 @@ fn deliver<L: LogName, R: Wait>(
 // Takes the next parcel, as soon as there is one, unless a worker could not be started.
 fn take_waiting<'s, L: LogName, R: Wait>(
     rt: &R,
-    stop: &'s Stop,
+    stop: &'s StopSignal,
     intake: &Intake<L>,
     taker: &mut TakerPass<L>,
-) -> Result<Parcel<L>, Halt<'s>>
+) -> Result<Parcel<L>, StopToken<'s>>
     requires own { taker.old.intake ≡ intake.now.id }
     ensures { MatchResult result (λ p. taker.new ≡ record taker.old { taken = taker.old.taken ++ p ∷ [] }) (λ t. (taker.new ≡ taker.old) × (t.of ≡ stop.entry.now.id) × (t.value ≢ 0)) }
 {

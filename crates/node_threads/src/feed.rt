@@ -2,7 +2,7 @@ ghost use Rattle.std.specs.Prelude.{◌≡◌, ◌≢◌, ◌⊎◌, ℕ, ◌+�
 ghost use Rattle.node_threads.specs.Work.{Offered, IsDone, Names, NamesItem};
 
 use crate::list::numbered;
-use crate::stop::{Halt, Stop, told};
+use crate::stop::{StopSignal, StopToken, told};
 use intake_queue::{Intake, SenderPass};
 use named_log::{LogFact, LogName};
 use std::sync::Wait;
@@ -18,9 +18,9 @@ pub struct Feed<L: LogName> {
 
 /// What a feeder brings back.
 #[derive(Drop)]
-pub struct Fed<'s, L: LogName> {
+pub struct FeederResult<'s, L: LogName> {
     pub feed: Feed<L>,
-    pub halt: Option<Halt<'s>>,
+    pub halt: Option<StopToken<'s>>,
     pub absent: bool,
 }
 
@@ -29,9 +29,9 @@ pub struct Fed<'s, L: LogName> {
 pub fn run_feeder<'s, L: LogName, R: Wait>(
     rt: &R,
     intakes: &[Intake<L>],
-    stop: &'s Stop,
+    stop: &'s StopSignal,
     feed: Feed<L>,
-) -> Fed<'s, L>
+) -> FeederResult<'s, L>
     requires own { (i : _) → NamesItem feed.inlet intakes.now i → feed.sender.intake ≡ i.id }
     ensures inlet { result.feed.inlet ≡ feed.inlet }
     ensures offered { Offered feed.sender feed.facts.items result.feed.sender result.feed.facts.items }
@@ -48,7 +48,7 @@ pub fn run_feeder<'s, L: LogName, R: Wait>(
             facts.as_mut_slice().reverse();
             let halt = offer_all(rt, intake, stop, &mut sender, &mut facts);
             facts.as_mut_slice().reverse();
-            Fed {
+            FeederResult {
                 feed: Feed {
                     inlet,
                     sender,
@@ -58,7 +58,7 @@ pub fn run_feeder<'s, L: LogName, R: Wait>(
                 absent: false,
             }
         }
-        None => Fed {
+        None => FeederResult {
             feed: Feed {
                 inlet,
                 sender,
@@ -74,10 +74,10 @@ pub fn run_feeder<'s, L: LogName, R: Wait>(
 fn offer_all<'s, L: LogName, R: Wait>(
     rt: &R,
     intake: &Intake<L>,
-    stop: &'s Stop,
+    stop: &'s StopSignal,
     sender: &mut SenderPass<L>,
     facts: &mut Vec<LogFact<L>>,
-) -> Option<Halt<'s>>
+) -> Option<StopToken<'s>>
     requires own { sender.old.intake ≡ intake.now.id }
     ensures offered { Offered sender.old (reverse facts.old.items) sender.new (reverse facts.new.items) }
     ensures done { IfNone result (IsDone sender.new (reverse facts.new.items)) }

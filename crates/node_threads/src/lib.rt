@@ -28,13 +28,13 @@ mod start_feeders;
 mod start_rounds;
 mod stop;
 
-pub use drain::{Answer, Drained, Hold, run_drainer};
-pub use feed::{Fed, Feed, run_feeder};
+pub use drain::{Answer, DrainerResult, DrainerState, run_drainer};
+pub use feed::{Feed, FeederResult, run_feeder};
 pub use folding::fold_many;
 pub use gate::{Gate, Job, Kind};
 pub use inlet::Inlet;
 pub use refusal::Refusal;
 pub use rounds::{run_folder, run_gossiper};
 pub use run::Plan;
-pub use serving::{Handed, Served, serve};
-pub use stop::{Halt, Stop};
+pub use serving::{ServeInput, Served, serve};
+pub use stop::{StopSignal, StopToken};

@@ -1,7 +1,7 @@
 //! Lists that are reserved before the first start, with room for all that comes.
 ghost use Rattle.std.specs.Prelude.{◌≡◌, ◌+◌, ◌≤◌, [], length, sum_by, vec_len, vec_capacity, IfOk, IfSome};
 
-use crate::drain::Hold;
+use crate::drain::DrainerState;
 use crate::feed::Feed;
 use crate::refusal::Refusal;
 use crate::run::Plan;
@@ -21,7 +21,7 @@ pub(crate) struct Rooms<'s, L: LogName> {
     pub folds: Vec<Rounds<'s>>,
     pub gossip: Vec<Rounds<'s>>,
     pub feeds: Vec<Option<Feed<L>>>,
-    pub holds: Vec<Option<Hold<L>>>,
+    pub holds: Vec<Option<DrainerState<L>>>,
     pub refusals: Vec<Refusal>,
 }
 

@@ -5,7 +5,7 @@ ghost use Rattle.front_board.specs.Seat.{IsNode};
 ghost use Rattle.node_cell.specs.Node.{IsPassOf};
 ghost use Rattle.node_threads.specs.Work.{Offered, IsDone, Names, NamesItem, Answered, count_of};
 
-use crate::drain::Hold;
+use crate::drain::DrainerState;
 use crate::feed::Feed;
 use crate::gate::Gate;
 use crate::join_drainers::join_drainers;
@@ -16,7 +16,7 @@ use crate::rooms::{Rooms, make_rooms};
 use crate::start_drainers::start_drainers;
 use crate::start_feeders::start_feeders;
 use crate::start_rounds::start_rounders;
-use crate::stop::{Halt, Stop};
+use crate::stop::{StopSignal, StopToken};
 use front_board::Board;
 use intake_queue::Intake;
 use named_log::LogName;
@@ -39,19 +39,23 @@ pub struct Plan {
 #[derive(Drop)]
 pub(crate) struct Parts<L: LogName> {
     pub feeds: Vec<Feed<L>>,
-    pub holds: Vec<Hold<L>>,
+    pub holds: Vec<DrainerState<L>>,
 }
 
 /// What comes back from the workers.
 #[derive(Drop)]
 pub(crate) struct Ran<L: LogName> {
     pub feeds: Vec<Option<Feed<L>>>,
-    pub holds: Vec<Option<Hold<L>>>,
+    pub holds: Vec<Option<DrainerState<L>>>,
     pub refusals: Vec<Refusal>,
 }
 
 // The last word of the stop flag: 0, unless a worker could not be started, which is then listed.
-fn last_word<'s, R: Wait>(rt: &R, stop: &'s Stop, refusals: &mut Vec<Refusal>) -> (Halt<'s>, u64)
+fn last_word<'s, R: Wait>(
+    rt: &R,
+    stop: &'s StopSignal,
+    refusals: &mut Vec<Refusal>,
+) -> (StopToken<'s>, u64)
     requires room { vec_len refusals.old < vec_capacity refusals.old }
     ensures word { (result.0.of ≡ stop.entry.now.id) × (result.1 ≡ result.0.value) }
     ensures told { AllStarted refusals.new.items → result.0.value ≡ 0 }
@@ -65,7 +69,7 @@ fn last_word<'s, R: Wait>(rt: &R, stop: &'s Stop, refusals: &mut Vec<Refusal>) -
     (word, worker)
 }
 
-/// Starts all workers, and joins them. Its only error is want of memory, before the first start.
+/// Starts all workers, and joins them. It fails only if memory runs out, before the first start.
 pub(crate) fn run_all<'s, E, L: LogName + Send + Sync, G: Gate + Sync, R: Threads + Wait + Sync>(
     rt: &'s R,
     alloc: Global,
@@ -73,11 +77,11 @@ pub(crate) fn run_all<'s, E, L: LogName + Send + Sync, G: Gate + Sync, R: Thread
     nodes: &'s [Node<L>],
     board: &'s Board<L>,
     gate: &'s G,
-    stop: &'s Stop,
+    stop: &'s StopSignal,
     intakes: &'s [Intake<L>],
     plan: &'s Plan,
     feeds: Vec<Feed<L>>,
-    holds: Vec<Hold<L>>,
+    holds: Vec<DrainerState<L>>,
 ) -> Result<Ran<L>, Refused<Parts<L>, AllocError>>
     requires feeds { (k : ℕ) (f : _) (i : _) → slice_get feeds.items k ≡ Some f → NamesItem f.inlet intakes.now i → f.sender.intake ≡ i.id }
     requires intakes { length holds.items ≡ length intakes.now }
@@ -137,11 +141,11 @@ pub(crate) fn run_in_scope<L: LogName + Send + Sync, G: Gate + Sync, R: Threads 
     nodes: &[Node<L>],
     board: &Board<L>,
     gate: &G,
-    stop: &Stop,
+    stop: &StopSignal,
     intakes: &[Intake<L>],
     plan: &Plan,
     feeds: Vec<Feed<L>>,
-    holds: Vec<Hold<L>>,
+    holds: Vec<DrainerState<L>>,
 ) -> Result<Ran<L>, Refused<Parts<L>, AllocError>>
     requires feeds { (k : ℕ) (f : _) (i : _) → slice_get feeds.items k ≡ Some f → NamesItem f.inlet intakes.now i → f.sender.intake ≡ i.id }
     requires intakes { length holds.items ≡ length intakes.now }

@@ -12,7 +12,7 @@ use crate::inlet::{Halves, Inlet, Whole, assemble, rejoin, split};
 use crate::refusal::Refusal;
 use crate::run::{Parts, Plan, Ran, run_in_scope};
 use crate::start_drainers::parcels_of;
-use crate::stop::Stop;
+use crate::stop::StopSignal;
 use front_board::Board;
 use named_log::LogName;
 use node_cell::Node;
@@ -33,7 +33,7 @@ pub struct Served<L: LogName> {
 
 /// What `serve` was handed.
 #[derive(Drop)]
-pub struct Handed<L: LogName> {
+pub struct ServeInput<L: LogName> {
     pub feeds: Vec<Feed<L>>,
     pub inlets: Vec<Inlet<L>>,
     pub plan: Plan,
@@ -92,13 +92,13 @@ fn no_memory<L: LogName>(
     feeds: Vec<Feed<L>>,
     inlets: Vec<Inlet<L>>,
     plan: Plan,
-) -> Refused<Handed<L>, AllocError>
+) -> Refused<ServeInput<L>, AllocError>
     ensures feeds { result.value.feeds ≡ feeds }
     ensures inlets { result.value.inlets ≡ inlets }
     ensures plan { result.value.plan ≡ plan }
 {
     Refused {
-        value: Handed {
+        value: ServeInput {
             feeds,
             inlets,
             plan,
@@ -108,7 +108,7 @@ fn no_memory<L: LogName>(
 }
 
 /// Runs a feeder for each feed, a drainer for each inlet, and a folder and a gossiper for each list of the plan. The only
-/// error is want of memory, before the first start.
+/// error is lack of memory, before the first start.
 pub fn serve<L: LogName + Send + Sync, G: Gate + Sync, R: Threads + Wait + Sync>(
     rt: &R,
     alloc: Global,
@@ -118,7 +118,7 @@ pub fn serve<L: LogName + Send + Sync, G: Gate + Sync, R: Threads + Wait + Sync>
     board: &Board<L>,
     plan: Plan,
     gate: &G,
-) -> Result<Served<L>, Refused<Handed<L>, AllocError>>
+) -> Result<Served<L>, Refused<ServeInput<L>, AllocError>>
     requires feeds { (k : ℕ) (f : _) (i : _) → slice_get feeds.items k ≡ Some f → NamesItem f.inlet inlets.items i → f.sender.intake ≡ i.intake.id }
     requires inlets { (k : ℕ) (i : _) → slice_get inlets.items k ≡ Some i → (i.taker.intake ≡ i.intake.id) × (i.seat.board ≡ board.now) }
     requires passes { (k : ℕ) (i : _) (n : _) → slice_get inlets.items k ≡ Some i → NamesItem i.node nodes.now n → IsPassOf n i.pass }
@@ -139,7 +139,7 @@ pub fn serve<L: LogName + Send + Sync, G: Gate + Sync, R: Threads + Wait + Sync>
         back,
     } = space;
     let Halves { intakes, holds } = split(inlets, rooms, halves);
-    let stop: Stop = OnceLock::new();
+    let stop: StopSignal = OnceLock::new();
     let shared = intakes.as_slice();
     let ran = match run_in_scope(
         rt, alloc, nodes, board, gate, &stop, shared, &plan, feeds, holds,

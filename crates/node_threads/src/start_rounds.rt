@@ -4,7 +4,7 @@ ghost use Rattle.node_threads.specs.Refusals.{most_listed};
 use crate::gate::Gate;
 use crate::refusal::Refusal;
 use crate::rounds::{run_folder, run_gossiper};
-use crate::stop::Stop;
+use crate::stop::StopSignal;
 use named_log::LogName;
 use node_cell::Node;
 use std::alloc::{AllocError, Global};
@@ -75,7 +75,7 @@ pub(crate) fn start_rounders<
     scope: &Scope<'s, E>,
     nodes: &'s [Node<L>],
     gate: &'s G,
-    stop: &'s Stop,
+    stop: &'s StopSignal,
     base: u64,
     folds: Vec<Rounds<'s>>,
     gossip: Vec<Rounds<'s>>,
@@ -116,7 +116,7 @@ fn start_folders<'s, E, L: LogName + Send + Sync, G: Gate + Sync, R: Threads + W
     scope: &Scope<'s, E>,
     nodes: &'s [Node<L>],
     gate: &'s G,
-    stop: &'s Stop,
+    stop: &'s StopSignal,
     base: u64,
     workers: Vec<Rounds<'s>>,
     started: &mut Vec<Rounder>,
@@ -140,7 +140,7 @@ fn start_folder<'s, E, L: LogName + Send + Sync, G: Gate + Sync, R: Threads + Wa
     scope: &Scope<'s, E>,
     nodes: &'s [Node<L>],
     gate: &'s G,
-    stop: &'s Stop,
+    stop: &'s StopSignal,
     worker: u64,
     work: Rounds<'s>,
 ) -> Rounder
@@ -169,7 +169,7 @@ fn start_gossipers<'s, E, L: LogName + Send + Sync, G: Gate + Sync, R: Wait + Sy
     scope: &Scope<'s, E>,
     nodes: &'s [Node<L>],
     gate: &'s G,
-    stop: &'s Stop,
+    stop: &'s StopSignal,
     base: u64,
     workers: Vec<Rounds<'s>>,
     started: &mut Vec<Rounder>,
@@ -191,7 +191,7 @@ fn start_gossiper<'s, E, L: LogName + Send + Sync, G: Gate + Sync, R: Wait + Syn
     scope: &Scope<'s, E>,
     nodes: &'s [Node<L>],
     gate: &'s G,
-    stop: &'s Stop,
+    stop: &'s StopSignal,
     worker: u64,
     work: Rounds<'s>,
 ) -> Rounder

@@ -3,13 +3,13 @@ ghost use Rattle.std.specs.Prelude.{◌≡◌, ◌≢◌, IfSome};
 use std::sync::{OnceLock, OnceToken};
 
 /// Whether a worker could not be started: set once, to its number, or to 0 where all were started.
-pub type Stop = OnceLock<u64>;
+pub type StopSignal = OnceLock<u64>;
 
 /// That a worker could not be started.
-pub type Halt<'s> = OnceToken<'s, u64>;
+pub type StopToken<'s> = OnceToken<'s, u64>;
 
 /// Whether the others are told to stop.
-pub(crate) fn told<'s>(stop: &'s Stop) -> Option<Halt<'s>>
+pub(crate) fn told<'s>(stop: &'s StopSignal) -> Option<StopToken<'s>>
     ensures { IfSome result (λ t. (t.of ≡ stop.now.id) × (t.value ≢ 0)) }
 {
     let token = stop.witness()?;

@@ -6,9 +6,9 @@ use Rattle.redo_core.specs.Order.{IsRising}
 use Rattle.redo_core.specs.Writing.{zeros}
 use Rattle.redo_core.proofs.Members.{none_in, which, each, filtered, passed}
 use Rattle.redo_core.proofs.Rising.{rising_filter}
-use Rattle.redo_laws.proofs.Deciding.{settled_eq, some_or_none}
+use Rattle.log_theorems.proofs.Deciding.{settled_eq, some_or_none}
 use Rattle.redo_core.specs.Store.{StoredImage, version_of, image_of, PageBefore}
-use Rattle.redo_laws.proofs.Storing.{stored_images}
+use Rattle.log_theorems.proofs.Storing.{stored_images}
 use Rattle.page_base.specs.Stored.{store_of, IsBase}
 use Rattle.page_base.specs.Adopting.{Adopts, StoresJust}
 

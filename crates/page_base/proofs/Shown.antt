@@ -3,9 +3,9 @@ use Rattle.std.proofs.Common.{◌≡◌, ◌≢◌, ℕ, ◌<◌, ◌≤◌, inl
 use Rattle.std.specs.List.{Contains, insert}
 use Rattle.redo_core.specs.Order.{IsRising}
 use Rattle.redo_core.specs.Writing.{zeros}
-use Rattle.redo_laws.proofs.Deciding.{settled_eq, some_or_none}
+use Rattle.log_theorems.proofs.Deciding.{settled_eq, some_or_none}
 use Rattle.redo_core.specs.Store.{StoredImage, image_in, version_of, image_of, PageBefore, PutsImage}
-use Rattle.redo_laws.proofs.Storing.{stored_images, elsewhere}
+use Rattle.log_theorems.proofs.Storing.{stored_images, elsewhere}
 use Rattle.page_base.specs.Stored.{stored, store_of, IsBase}
 use Rattle.page_base.specs.Placing.{IsPlace}
 use Rattle.page_base.specs.Raising.{Raises}

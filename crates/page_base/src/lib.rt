@@ -2,7 +2,7 @@
 //!
 //! A page that is stored does not change: what copies a store, or takes an image out of it, shares the page.
 //! A page that was never raised is zeros at version 0, or at the greatest base adopted or floor taken over. Versions only rise: a
-//! raise replaces an older image, an adoption brings every page to the base at least, and a merge takes in what is newer. Each error is want of memory, hands back what was
+//! raise replaces an older image, an adoption brings every page to the base at least, and a merge takes in what is newer. Each error is lack of memory, hands back what was
 //! given, and leaves the images as they were.
 #![tactic(auto)]
 

@@ -43,7 +43,7 @@ impl BaseStore {
         }
     }
 
-    /// An equal store, which shares the pages. Its only error is want of memory.
+    /// An equal store, which shares the pages. It fails only if memory runs out.
     pub fn copy(&self) -> Result<Self, AllocError>
         ensures { IfOk result (λ s. s ≡ self.now) }
     {
@@ -80,7 +80,7 @@ impl BaseStore {
         self.floor
     }
 
-    /// A copy of the image of a page, or zeros. Its only error is want of memory.
+    /// A copy of the image of a page, or zeros. It fails only if memory runs out.
     pub fn image(&self, page: u16) -> Result<Page, AllocError>
         ensures { IfOk result (λ image. image ≡ image_of self.now page) }
     {
@@ -95,7 +95,7 @@ impl BaseStore {
     }
 
     /// Gives a page an image of a version above the page's own; one of any other version changes nothing.
-    /// The error is want of memory; it hands the image back and leaves the store as it was.
+    /// The error is lack of memory; it hands the image back and leaves the store as it was.
     pub fn raise(
         &mut self,
         page: u16,
@@ -111,7 +111,7 @@ impl BaseStore {
     }
 
     /// Brings each page of a version below `base` to it, with the first image given of that page, or zeros where none is.
-    /// The error is want of memory; it hands the pages back and leaves the store as it was.
+    /// The error is lack of memory; it hands the pages back and leaves the store as it was.
     pub fn adopt(
         &mut self,
         base: u64,
@@ -133,7 +133,7 @@ impl BaseStore {
     }
 
     /// Raises each page given, in order, and then each page of a version below the floor to it, as zeros.
-    /// The error is want of memory; it hands the images back and leaves the store as it was.
+    /// The error is lack of memory; it hands the images back and leaves the store as it was.
     pub fn merge(
         &mut self,
         floor: u64,

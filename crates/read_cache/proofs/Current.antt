@@ -6,9 +6,9 @@ use Rattle.redo_core.specs.Data.{RecordData}
 use Rattle.redo_core.specs.declared.facts.Fact.{Fact}
 use Rattle.redo_core.specs.declared.facts.Fact.TheVariants.{Record, Cut, Advance}
 use Rattle.redo_core.specs.declared.refusal.Refused.{Refused}
-use Rattle.state_laws.specs.State.{State, version_of, image_of}
-use Rattle.state_laws.specs.HasMeaning.{IsLinkedIn, HasComplete}
-use Rattle.state_laws.specs.Learning.{PutsRecord}
+use Rattle.segment_theorems.specs.State.{State, version_of, image_of}
+use Rattle.segment_theorems.specs.HasMeaning.{IsLinkedIn, HasComplete}
+use Rattle.segment_theorems.specs.Learning.{PutsRecord}
 use Rattle.segment_core.specs.Taking.{Stores}
 use Rattle.segment_core.specs.Folding.{Commits}
 use Rattle.segment_core.specs.Forgetting.{DiscardsJust}

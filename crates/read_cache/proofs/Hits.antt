@@ -3,15 +3,15 @@ use Rattle.std.proofs.Common.{◌≡◌, ℕ, ◌<◌, ◌≤◌, ◌⊎◌, ⊎
 use Rattle.redo_core.specs.Position.{Position}
 use Rattle.redo_core.specs.Sound.{IsSound}
 use Rattle.redo_core.specs.declared.facts.Fact.{Fact}
-use Rattle.redo_laws.proofs.Log.{log_of_sound}
-use Rattle.redo_laws.proofs.Views.{anchor_is}
-use Rattle.state_laws.specs.State.{State, min_of}
-use Rattle.state_laws.specs.HasMeaning.{HasComplete}
-use Rattle.state_laws.specs.Means.{MeansAt}
-use Rattle.state_laws.specs.Shows.{Shows}
-use Rattle.state_laws.proofs.Own.{complete_of}
-use Rattle.state_laws.proofs.Reading.{pages_law}
-use Rattle.state_laws.proofs.Same.{same_min}
+use Rattle.log_theorems.proofs.Log.{log_of_sound}
+use Rattle.log_theorems.proofs.Views.{anchor_is}
+use Rattle.segment_theorems.specs.State.{State, min_of}
+use Rattle.segment_theorems.specs.HasMeaning.{HasComplete}
+use Rattle.segment_theorems.specs.Means.{MeansAt}
+use Rattle.segment_theorems.specs.Shows.{Shows}
+use Rattle.segment_theorems.proofs.Own.{complete_of}
+use Rattle.segment_theorems.proofs.Reading.{pages_law}
+use Rattle.segment_theorems.proofs.Same.{same_min}
 use Rattle.segment_core.specs.Reading.{IsReadResult, IsReadFault, TellsOutside}
 use Rattle.segment_core.specs.declared.answers.ReadFault.{ReadFault}
 use Rattle.segment_core.specs.declared.answers.ReadFault.TheVariants.{Below, Above, BrokenBlockChain, Memory}
@@ -38,7 +38,7 @@ hit_result c page q (Ok image) h roster log facts p sound means =
     let settled : p.anchor ≤ q = omega arith in
     ((least, most), (pages_law log facts p c.segment page q image l means settled most).0 (hit_shows c page q image h))
 
--- no other fault is told than want of memory
+-- no other fault is told than lack of memory
 not_told : (c : Cached) (page q : ℕ) (result : Result (List ℕ) ReadFault) → IsHit c page q result → (fault : ReadFault) → (fault ≡ Memory → ⊥)
     → result ≡ Err fault → ⊥
 not_told c page q result h fault other e = search rules

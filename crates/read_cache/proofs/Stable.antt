@@ -6,10 +6,10 @@ use Rattle.redo_core.specs.Order.{BeforeByNumber}
 use Rattle.redo_core.specs.Standing.{IsAlive}
 use Rattle.redo_core.specs.Writing.{after_records}
 use Rattle.hot_log.proofs.Chain.{linked_more}
-use Rattle.redo_laws.proofs.Meanings.{lists_as}
-use Rattle.state_laws.specs.State.{State, version_of, image_of}
-use Rattle.state_laws.specs.HasMeaning.{IsLinkedIn}
-use Rattle.state_laws.specs.Shows.{Shows, IsApplied}
+use Rattle.log_theorems.proofs.Meanings.{lists_as}
+use Rattle.segment_theorems.specs.State.{State, version_of, image_of}
+use Rattle.segment_theorems.specs.HasMeaning.{IsLinkedIn}
+use Rattle.segment_theorems.specs.Shows.{Shows, IsApplied}
 
 -- the two states have one view: which records are alive
 pub record SameView (s t : State) : Type 0 where

@@ -2,9 +2,9 @@
 use Rattle.std.specs.Prelude.{◌≡◌, ℕ, ◌≤◌, List, length, nat_eq}
 use Rattle.std.specs.List.{Contains, IsDistinct}
 use Rattle.std.specs.Map.{keys_of}
-use Rattle.state_laws.specs.State.{State}
-use Rattle.state_laws.specs.HasMeaning.{HasComplete}
-use Rattle.state_laws.specs.Shows.{Shows}
+use Rattle.segment_theorems.specs.State.{State}
+use Rattle.segment_theorems.specs.HasMeaning.{HasComplete}
+use Rattle.segment_theorems.specs.Shows.{Shows}
 use Rattle.read_cache.specs.declared.kept.KeptImage.{KeptImage}
 
 -- the segment, how many images are kept at most, and the images kept by page, the one last read first

@@ -1,7 +1,7 @@
 -- What a read through the cache answers.
 use Rattle.std.specs.Prelude.{◌≡◌, ℕ, ◌≤◌, List, Result, Err, IfOk, IfErr}
 use Rattle.std.specs.List.{Contains}
-use Rattle.state_laws.specs.State.{min_of}
+use Rattle.segment_theorems.specs.State.{min_of}
 use Rattle.segment_core.specs.BlockChain.{BreaksAt, IsReadable, TellsBreak}
 use Rattle.segment_core.specs.declared.answers.ReadFault.{ReadFault}
 use Rattle.segment_core.specs.declared.answers.ReadFault.TheVariants.{BrokenBlockChain, Memory}

@@ -3,9 +3,9 @@ use Rattle.std.specs.Prelude.{◌≡◌, ℕ, ◌≤◌, ◌↔◌, Bool, false,
 use Rattle.std.specs.List.{Contains}
 use Rattle.redo_core.specs.declared.facts.Fact.{Fact}
 use Rattle.redo_core.specs.declared.facts.Fact.TheVariants.{Record, Cut, Advance}
-use Rattle.state_laws.specs.State.{State}
-use Rattle.state_laws.specs.HasMeaning.{IsLinkedIn}
-use Rattle.state_laws.specs.Shows.{Shows}
+use Rattle.segment_theorems.specs.State.{State}
+use Rattle.segment_theorems.specs.HasMeaning.{IsLinkedIn}
+use Rattle.segment_theorems.specs.Shows.{Shows}
 use Rattle.read_cache.specs.declared.kept.KeptImage.{KeptImage}
 
 -- Each image is what the segment shows at its point, and no point is above `top`. No bound of the linked numbers is below that.

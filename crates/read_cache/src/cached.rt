@@ -9,12 +9,12 @@ ghost use Rattle.redo_core.specs.Linked.{IsLinked};
 ghost use Rattle.redo_core.specs.Order.{IsRising, RecordBefore};
 ghost use Rattle.redo_core.specs.declared.facts.Fact.{Fact as AnyFact};
 ghost use Rattle.redo_core.specs.declared.facts.Fact.TheVariants.{Cut as OfCut};
-ghost use Rattle.state_laws.specs.Means.{MeansAt};
-ghost use Rattle.state_laws.specs.Shows.{Shows};
-ghost use Rattle.state_laws.specs.Promises.{KeepsMeaning, KeepsMeaningWith};
+ghost use Rattle.segment_theorems.specs.Means.{MeansAt};
+ghost use Rattle.segment_theorems.specs.Shows.{Shows};
+ghost use Rattle.segment_theorems.specs.Promises.{KeepsMeaning, KeepsMeaningWith};
 ghost use Rattle.segment_core.specs.BlockChain.{TellsBreak};
 ghost use Rattle.segment_core.specs.Exactly.{TakesExactly};
-ghost use Rattle.state_laws.specs.HasMeaning.{HasAnchor};
+ghost use Rattle.segment_theorems.specs.HasMeaning.{HasAnchor};
 ghost use Rattle.segment_core.specs.Folding.{IsPlanResult, PlansFold, Commits, RefusesCommit, RefusesAhead};
 ghost use Rattle.segment_core.specs.Forgetting.{DiscardsJust, Tidies, HoldsJustKept, IsSoundState, TellsFirstBreak, RefusesTidy};
 ghost use Rattle.segment_core.specs.Reading.{IsFrontAt, IsFrontOf, IsReadResult, TellsOutside};
@@ -67,7 +67,7 @@ impl Model for CachedSegment {
 impl CachedSegment {
     /// A segment that keeps at most so many images, at first none; with 0 pages it never keeps one.
     ///
-    /// The only error is want of memory: the segment comes back.
+    /// The only error is lack of memory: the segment comes back.
     pub fn new(segment: Segment, pages: usize) -> Result<Self, Refused<Segment, AllocError>>
         ensures made { IfOk result (λ c. c ≡ cached segment pages []) }
         ensures back { IfErr result (λ e. e.value ≡ segment) }
@@ -126,7 +126,7 @@ impl CachedSegment {
         self.segment.plan_fold(page)
     }
 
-    /// The keys (epoch and number) of the records held, rising. Its only error is want of memory.
+    /// The keys (epoch and number) of the records held, rising. It fails only if memory runs out.
     pub fn stored(&self) -> Result<Vec<Key>, AllocError>
         ensures keys { IfOk result (λ v. v.items ≡ map key_of self.now.segment.held) }
         ensures rising { IsRising RecordBefore self.now.segment.held }

@@ -50,7 +50,7 @@ impl Images {
         }
     }
 
-    /// A copy of the page's image, where one is kept that was read at the point. Its only error is want of memory.
+    /// A copy of the page's image, where one is kept that was read at the point. It fails only if memory runs out.
     pub(crate) fn find(&mut self, page: u16, point: u64) -> Option<Result<Page, AllocError>>
         ensures found { IfSome result (λ copied. (kept : Kept) × Contains self.old.entries (page, kept) × (kept.point ≡ point) × IfOk copied (λ image. image ≡ kept.image)) }
         ensures among { IsAmong self.new self.old }

@@ -15,14 +15,14 @@ pub enum Fact {
 }
 
 impl Fact {
-    /// An equal fact: with memory of its own, unless this one is shared. Its only error is want of memory.
+    /// An equal fact: with memory of its own, unless this one is shared. It fails only if memory runs out.
     pub fn copy(&self) -> Result<Self, AllocError>
         ensures { IfOk result (λ f. f ≡ self.now) }
     {
         self.clone()
     }
 
-    /// An equal fact, whose copies share its patches as those of a shared record do. The only error is want of memory, and gives
+    /// An equal fact, whose copies share its patches as those of a shared record do. The only error is lack of memory, and gives
     /// the fact back.
     pub fn share(self) -> Result<Self, AllocFailed<Self>>
         ensures ok { IfOk result (λ f. f ≡ self) }

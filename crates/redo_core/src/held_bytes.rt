@@ -42,7 +42,7 @@ impl HeldBytes {
         }
     }
 
-    /// A copy: a short one takes no memory. The only error is want of memory.
+    /// A copy: a short one takes no memory. The only error is lack of memory.
     pub fn of_slice(alloc: Global, bytes: &[u8]) -> Result<Self, AllocError>
         ensures { IfOk result (λ b. b ≡ bytes.now) }
     {
@@ -71,7 +71,7 @@ impl HeldBytes {
         }
     }
 
-    /// Equal bytes. The only error is want of memory.
+    /// Equal bytes. The only error is lack of memory.
     pub fn copy(&self) -> Result<Self, AllocError>
         ensures { IfOk result (λ b. b ≡ self.now) }
     {

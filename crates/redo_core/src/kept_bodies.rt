@@ -75,7 +75,7 @@ impl KeptBody {
         }
     }
 
-    /// One patch: a short one stands in the record itself. The only error is want of memory for a list.
+    /// One patch: a short one stands in the record itself. The only error is lack of memory for a list.
     pub fn of_patch(alloc: Global, patch: Patch) -> Result<Self, AllocError>
         ensures { IfOk result (λ k. k ≡ patch ∷ []) }
     {
@@ -113,7 +113,7 @@ impl KeptBody {
         }
     }
 
-    /// The same patches, for any number of owners. The error gives them back for want of memory.
+    /// The same patches, for any number of owners. The error gives them back for lack of memory.
     pub fn share(self) -> Result<Self, AllocFailed<Self>>
         ensures ok { IfOk result (λ k. k ≡ self) }
         ensures err { IfErr result (λ e. e.value ≡ self) }
@@ -126,7 +126,7 @@ impl KeptBody {
         }
     }
 
-    /// The same patches: one more owner of those that are shared, and else a copy. Its only error is want of memory.
+    /// The same patches: one more owner of those that are shared, and else a copy. It fails only if memory runs out.
     pub fn copy(&self) -> Result<Self, AllocError>
         ensures { IfOk result (λ k. k ≡ self.now) }
     {

@@ -29,7 +29,7 @@ impl Model for Page {
 }
 
 impl Page {
-    /// The page that nothing was written to. Its only error is want of memory.
+    /// The page that nothing was written to. It fails only if memory runs out.
     #[tactic(auto, unfolding(crate::specs::Writing::zeros))]
     pub fn zeros(alloc: Global) -> Result<Self, AllocError>
         ensures { IfOk result (λ p. p ≡ zeros) }
@@ -53,7 +53,7 @@ impl Page {
         &self.bytes
     }
 
-    /// An equal page with memory of its own. Its only error is want of memory.
+    /// An equal page with memory of its own. It fails only if memory runs out.
     pub fn copy(&self) -> Result<Self, AllocError>
         ensures { IfOk result (λ p. p ≡ self.now) }
     {

@@ -22,7 +22,7 @@ pub enum Body<'a> {
 }
 
 impl Patch {
-    /// An equal patch with memory of its own. Its only error is want of memory.
+    /// An equal patch with memory of its own. It fails only if memory runs out.
     pub fn copy(&self) -> Result<Self, AllocError>
         ensures { IfOk result (λ p. p ≡ self.now) }
     {

@@ -24,7 +24,7 @@ impl Model for ReadPoints {
 }
 
 impl ReadPoints {
-    /// A point of 0 for each reader of a roster. Its only error is want of memory.
+    /// A point of 0 for each reader of a roster. It fails only if memory runs out.
     pub fn new(alloc: Global, roster: Roster) -> Result<Self, AllocError>
         ensures zeros { IfOk result (λ p. p ≡ replicate roster 0) }
         ensures range { IsRoster roster }
@@ -41,7 +41,7 @@ impl ReadPoints {
         ReadPoints { by_reader: points }
     }
 
-    /// Equal points with memory of their own. Its only error is want of memory.
+    /// Equal points with memory of their own. It fails only if memory runs out.
     pub fn copy(&self) -> Result<Self, AllocError>
         ensures { IfOk result (λ p. p ≡ self.now) }
     {

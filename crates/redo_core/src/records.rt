@@ -108,7 +108,7 @@ impl Record {
     }
 
     /// The same of a record with one patch, which takes no memory where it is short. None where the record's shape has a fault; the
-    /// only error is want of memory.
+    /// only error is lack of memory.
     pub fn with_one(
         alloc: Global,
         epoch: u16,
@@ -215,14 +215,14 @@ impl Record {
         self.body.body()
     }
 
-    /// An equal record: with memory of its own, unless this one is shared. Its only error is want of memory.
+    /// An equal record: with memory of its own, unless this one is shared. It fails only if memory runs out.
     pub fn copy(&self) -> Result<Self, AllocError>
         ensures { IfOk result (λ r. r ≡ self.now) }
     {
         self.clone()
     }
 
-    /// An equal record whose copies share its patches, so that a copy allocates nothing. The only error is want of memory, and gives
+    /// An equal record whose copies share its patches, so that a copy allocates nothing. The only error is lack of memory, and gives
     /// the record back.
     pub fn share(self) -> Result<Self, AllocFailed<Self>>
         ensures ok { IfOk result (λ r. r ≡ self) }

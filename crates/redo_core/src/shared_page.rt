@@ -38,7 +38,7 @@ impl Model for SharedPage {
 }
 
 impl SharedPage {
-    /// The page with its first owner. The error is want of memory for a few words beside the bytes, and hands the page back.
+    /// The page with its first owner. The error is lack of memory for a few words beside the bytes, and hands the page back.
     pub fn new(alloc: Global, page: Page) -> Result<Self, AllocFailed<Page>>
         ensures ok { IfOk result (λ p. p ≡ page) }
         ensures back { IfErr result (λ e. e.value ≡ page) }

@@ -30,7 +30,7 @@ impl Write {
         }
     }
 
-    /// A write of a copy of `bytes` from `offset` on: a short one takes no memory. Its only error is want of memory.
+    /// A write of a copy of `bytes` from `offset` on: a short one takes no memory. It fails only if memory runs out.
     pub fn of_slice(alloc: Global, offset: u16, bytes: &[u8]) -> Result<Self, AllocError>
         ensures { IfOk result (λ w. w ≡ record { offset = offset; bytes = bytes.now }) }
     {
@@ -58,7 +58,7 @@ impl Write {
         self.bytes.is_short()
     }
 
-    /// An equal write with memory of its own. Its only error is want of memory.
+    /// An equal write with memory of its own. It fails only if memory runs out.
     pub fn copy(&self) -> Result<Self, AllocError>
         ensures { IfOk result (λ w. w ≡ self.now) }
     {

@@ -10,10 +10,6 @@ use Rattle.redo_wire.proofs.FieldReaders.{byte_reads}
 abbrev Both : Type 0
 Both = Bool × List ℕ
 
-form_cases : (p q : Bool) (bytes : List ℕ) (x : Both) → cond p (Ok (false, bytes)) (cond q (Ok (true, bytes)) (Err UnknownTag)) ≡ Ok x
-    → ((p ≡ true) × ((false, bytes) ≡ x)) ⊎ ((q ≡ true) × ((true, bytes) ≡ x))
-form_cases p q bytes x e = search rules
-
 form_takes : (first second : ℕ) (bytes : List ℕ) (x : Both) → IsBytes bytes → form_at first second bytes ≡ Ok x → Takes bytes (form_bytes first second x.0) x.1
 unfolding form_at
 form_takes first second bytes x fits e = search (rules, byte_reads)

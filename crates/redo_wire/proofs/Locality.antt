@@ -43,13 +43,6 @@ record Follows {A : Type 0} (y : List ℕ) (r s : Read A) : Type 0 where
   reads : IsReading r
   extends : Extends y r s
 
-bind_reads : {A B : Type 0} (r : Read A) (f : A × List ℕ → Read B) → IsReading r → ((x : A × List ℕ) → IsReading (f x)) → IsReading (r >>= f)
-bind_reads r f first then' = search rules
-
-bind_extends : {A B : Type 0} (y : List ℕ) (r s : Read A) (f : A × List ℕ → Read B) → Extends y r s
-    → ((v : A) (rest : List ℕ) → Extends y (f (v, rest)) (f (v, rest ++ y))) → Extends y (r >>= f) (s >>= f)
-bind_extends y r s f h k = search rules
-
 bind_ext : {A B : Type 0} (y : List ℕ) (r s : Read A) (f : A × List ℕ → Read B) → Follows y r s
     → ((v : A) (rest : List ℕ) → Follows y (f (v, rest)) (f (v, rest ++ y))) → Follows y (r >>= f) (s >>= f)
 bind_ext y r s f h k = search rules
@@ -289,9 +282,6 @@ rest_of b v f e = search rules
 stays : {A : Type 0} (y : List ℕ) (r s : Read A) (f : WireFault) → Extends y r s → whole r ≡ Err f → (f ≡ Short → ⊥) → (f ≡ Rest → ⊥) → whole s ≡ Err f
 stays y r s f h e short rest = search rules
 
-is_rest : {A : Type 0} (v : A) (xs y : List ℕ) → 0 < length y → whole (Ok (v, xs ++ y)) ≡ Err Rest
-is_rest v xs y l = let n = length-append xs y in let t : eqb (length (xs ++ y)) 0 ≡ false = grind (arith, nat_tests) in rw t refl
-
 shorts : {A : Type 0} (y : List ℕ) (r s : Read A) (v : A) → 0 < length y → Extends y r s → whole s ≡ Ok v → whole r ≡ Err Short
 shorts y r s v l h w = grind (arith, common_steps)
 
@@ -353,9 +343,6 @@ decoded_piece_reads bytes = whole_reads (piece_at bytes) (piece_ext [] bytes).re
 
 -- ---- values of any kind: with more bytes behind, the same decoder is asked
 
-valued_err : {A : Type 0} (kind : A → WireValue) (r : Result A WireFault) (f : WireFault) → valued kind r ≡ Err f → r ≡ Err f
-valued_err kind r f e = search rules
-
 valued_ok : {A : Type 0} (kind : A → WireValue) (r : Result A WireFault) (v : WireValue) → valued kind r ≡ Ok v → (x : A) × (r ≡ Ok x)
 valued_ok kind r v e = search rules
 
@@ -373,9 +360,6 @@ local_value y kind r s h = search rules
 
 local_whole : {A : Type 0} (y : List ℕ) (r s : Read A) → Follows y r s → Local y (whole r) (whole s)
 local_whole y r s h = record { stay = λ f. stays y r s f h.extends; short = λ v l. shorts y r s v l h.extends; rest = λ v l. rests y r s v l h.extends }
-
-short_is : {A : Type 0} (r : Result A WireFault) (f : WireFault) → r ≡ Err f → r ≡ Err Short → f ≡ Short
-short_is r f g e = cc
 
 local_short : {A : Type 0} (y : List ℕ) (r s : Result A WireFault) → r ≡ Err Short → Local y r s
 local_short y r s e = search rules

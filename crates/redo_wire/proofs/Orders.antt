@@ -54,9 +54,6 @@ cut_tests = search rules
 pub image_tests : Tests (λ least p. leb least p.page) (λ p. p.page + 1) ImageBefore
 image_tests = search rules
 
-pub pair_from_above : (a b c d : ℕ) → is_pair_above a b c d ≡ true → PairBefore a b c d
-pair_from_above a b c d e = search rules
-
 pub above_from_pair : (a b c d : ℕ) → PairBefore a b c d → is_pair_above a b c d ≡ true
 above_from_pair a b c d h = search rules
 
@@ -72,18 +69,8 @@ above_zero k pos = above_from_pair 0 0 k.epoch k.number (elim (cases_lt 0 k.epoc
 abbrev BeforeIn : WaitPlace → WaitPlace → Type 0
 BeforeIn p q = (p.0 < q.0) ⊎ ((p.0 ≡ q.0) × PairBefore p.1 p.2 q.1 q.2)
 
-before_from_above : (p q : WaitPlace) → is_wait_above p q ≡ true → BeforeIn p q
-before_from_above p q e = search rules
-
-above_from_before : (p q : WaitPlace) → BeforeIn p q → is_wait_above p q ≡ true
-above_from_before p q h = search rules
-
 abbrev pub place_of : AdvanceData → WaitPlace
 place_of a = (a.epoch, a.reader, a.point)
-
-before_trans : (a b c x y z k m n : ℕ) → (a < x) ⊎ ((a ≡ x) × PairBefore b c y z) → (x < k) ⊎ ((x ≡ k) × PairBefore y z m n)
-    → (a < k) ⊎ ((a ≡ k) × PairBefore b c m n)
-before_trans a b c x y z k m n p q = grind arith
 
 pub wait_tests : Tests (λ last a. is_wait_above last (place_of a)) place_of AdvanceBefore
 wait_tests = search rules

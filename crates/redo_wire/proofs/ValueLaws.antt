@@ -31,11 +31,5 @@ value_reads_spellings v bytes all = (λ e. value_from_read bytes v (bytes_from_A
 abbrev IsReading : {A : Type 0} → Result A WireFault → Type 0
 IsReading r = r ≡ Err TooLong → ⊥
 
-chosen_reads : (b : Bool) (p q : Result WireValue WireFault) → IsReading p → IsReading q → IsReading (cond b p q)
-chosen_reads b p q h k = search rules
-
-valued_reads : {A : Type 0} (kind : A → WireValue) (r : Result A WireFault) → IsReading r → IsReading (valued kind r)
-valued_reads kind r h = search rules
-
 pub value_never_too_long : NeverTooLong decoded_value
 value_never_too_long = search (rules, decoded_fact_reads, decoded_piece_reads, decoded_delta_reads, decoded_summary_reads)

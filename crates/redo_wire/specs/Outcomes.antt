@@ -4,7 +4,7 @@ use Rattle.redo_wire.specs.declared.faults.WireFault.{WireFault}
 use Rattle.redo_wire.specs.declared.faults.WireError.{WireError}
 use Rattle.redo_wire.specs.declared.faults.WireError.TheVariants as errors
 
--- the call failed by want of memory, or by the fault of the reading
+-- the call failed by lack of memory, or by the fault of the reading
 abbrev pub Fails : {Y : Type 0} → WireError → Result Y WireFault → Type 0
 Fails errors.Memory read = Unit {0}
 Fails (errors.Fault f) read = read ≡ Err f

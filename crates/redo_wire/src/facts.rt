@@ -32,7 +32,7 @@ pub fn decode_fact(alloc: Global, bytes: &[u8]) -> Result<Fact, WireError>
     whole_fact(alloc, bytes)
 }
 
-/// Appends the one spelling of the fact. Its only error is want of memory, and then nothing has changed.
+/// Appends the one spelling of the fact. It fails only if memory runs out, and then nothing has changed.
 pub fn encode_fact(out: &mut BytesMut, fact: &Fact) -> Result<(), AllocError>
     ensures ok { OnOk result (out.new.items ≡ out.old.items ++ fact_bytes fact.now) }
     ensures spelled { OnOk result (SpellsFact fact.now (fact_bytes fact.now)) }

@@ -49,7 +49,7 @@ impl WireFault {
     }
 }
 
-/// Why a call of this crate failed: want of memory, or a fault of what it was given.
+/// Why a call of this crate failed: lack of memory, or a fault of what it was given.
 #[derive(Debug, Drop, Error)]
 pub enum WireError {
     #[error("out of memory")]

@@ -65,7 +65,7 @@ fn has_nonzero(bytes: &[u8]) -> bool
     bytes.iter().any(|b| *b != 0)
 }
 
-/// The page of these bytes. Its only error is want of memory.
+/// The page of these bytes. It fails only if memory runs out.
 fn page_of(alloc: Global, bytes: &[u8]) -> Result<SharedPage, AllocError>
     requires { length bytes.now ≡ page_len }
     ensures { IfOk result (λ page. page ≡ bytes.now) }

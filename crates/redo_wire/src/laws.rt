@@ -20,7 +20,7 @@ ghost use Rattle.redo_wire.specs.Laws.{HasOneSpelling, HasOneValue, BeginsNoOthe
 /// A fact has one spelling and a spelling one fact, none begins another, reading finds just what is spelled, and
 /// never a list that is too long. A fault other than short or rest stays whatever follows, a proper beginning of a spelling
 /// is short, and what stands behind a spelling is a rest.
-pub fn fact_spellings()
+pub fn fact_encodings()
     ensures one_spelling { HasOneSpelling SpellsFact }
     ensures one_value { HasOneValue SpellsFact }
     ensures none_begins { BeginsNoOther SpellsFact }
@@ -44,7 +44,7 @@ pub fn summary_spellings()
 {}
 
 /// The same of deltas.
-pub fn delta_spellings()
+pub fn delta_encodings()
     ensures one_spelling { HasOneSpelling SpellsDelta }
     ensures one_value { HasOneValue SpellsDelta }
     ensures none_begins { BeginsNoOther SpellsDelta }

@@ -13,7 +13,7 @@ ghost use Rattle.redo_wire.specs.Deltas.{delta_bytes};
 ghost use Rattle.redo_wire.specs.Records.{patch_bytes, body_bytes, record_bytes};
 
 use crate::records::is_full_record;
-use messages::LentBook;
+use messages::BookRef;
 use redo_core::{Body, PAGE_LEN, Patch, Record, Write};
 
 /// The bytes of a page with its number.
@@ -21,7 +21,7 @@ const IMAGE_LEN: u128 = 2 + PAGE_LEN as u128;
 
 /// How many bytes the delta of a book, so many pages and some records has, whatever its base is.
 #[tactic(auto, using(crate::proofs::Lengths::delta_len))]
-pub fn delta_size(book: &LentBook<'_>, pages: usize, records: &[&Record]) -> u128
+pub fn delta_size(book: &BookRef<'_>, pages: usize, records: &[&Record]) -> u128
     ensures { (base : ℕ) (images : List ImageData) → length images ≡ pages → AllByRecursion (λ p. length p.bytes ≡ page_len) images
         → result ≡ length (delta_bytes (delta_of book.now base images (map (λ r. r.now) records.now))) }
 {
@@ -32,7 +32,7 @@ pub fn delta_size(book: &LentBook<'_>, pages: usize, records: &[&Record]) -> u12
 
 /// How many bytes a book has.
 #[tactic(auto, using(crate::proofs::Lengths::book_len))]
-fn book_size(book: &LentBook<'_>) -> u128
+fn book_size(book: &BookRef<'_>) -> u128
     ensures size { result ≡ length (book_bytes (has_many book.now) book.now) }
     ensures small { result ≤ 2 ^ 72 }
 {

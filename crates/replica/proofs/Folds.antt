@@ -3,9 +3,9 @@ use Rattle.std.proofs.Common.{ℕ, List}
 use Rattle.redo_core.specs.Position.{Position}
 use Rattle.redo_core.specs.Sound.{IsSound}
 use Rattle.redo_core.specs.declared.facts.Fact.{Fact}
-use Rattle.state_laws.specs.State.{State}
-use Rattle.state_laws.specs.Means.{MeansAt}
-use Rattle.state_laws.specs.Promises.{KeepsMeaning, KeepsMeaningWith}
+use Rattle.segment_theorems.specs.State.{State}
+use Rattle.segment_theorems.specs.Means.{MeansAt}
+use Rattle.segment_theorems.specs.Promises.{KeepsMeaning, KeepsMeaningWith}
 use Rattle.segment_core.specs.Folding.{IsFoldOf}
 use Rattle.segment_core.specs.declared.fold_plan.Folded.{Folded}
 use Rattle.segment_core.proofs.Finality.{fold_is_final}

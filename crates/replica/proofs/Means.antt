@@ -6,10 +6,10 @@ use Rattle.redo_core.specs.declared.facts.Fact.{Fact}
 use Rattle.redo_core.specs.declared.refusal.Refused.{Refused}
 use Rattle.messages.specs.Summaries.{SummaryData}
 use Rattle.messages.specs.Deltas.{DeltaData}
-use Rattle.state_laws.specs.State.{State, empty_state}
-use Rattle.state_laws.specs.Means.{Means}
-use Rattle.state_laws.specs.Promises.{TakesFact, KeepsMeaning}
-use Rattle.state_laws.proofs.Bare.{empty_means}
+use Rattle.segment_theorems.specs.State.{State, empty_state}
+use Rattle.segment_theorems.specs.Means.{Means}
+use Rattle.segment_theorems.specs.Promises.{TakesFact, KeepsMeaning}
+use Rattle.segment_theorems.proofs.Bare.{empty_means}
 use Rattle.segment_core.specs.declared.answers.ReadFault.{ReadFault}
 use Rattle.segment_core.specs.declared.answers.Refusal.{Refusal}
 use Rattle.segment_core.specs.declared.answers.Taken.{Taken}
@@ -17,9 +17,9 @@ use Rattle.segment_core.specs.declared.answers.Taken.TheVariants as taken
 use Rattle.gossip_core.specs.Absorbing.{MeansBoth}
 use Rattle.gossip_core.specs.declared.absorbing.AbsorbRefusal.{AbsorbRefusal}
 use Rattle.read_cache.specs.Cached.{Cached, cached}
-use Rattle.hydration.specs.Stagings.{StagingData}
-use Rattle.hydration.specs.Hydrating.{MeansFrozen}
-use Rattle.hydration.specs.declared.finishing.FinishFault.{FinishFault}
+use Rattle.snapshot.specs.Stagings.{StagingData}
+use Rattle.snapshot.specs.Hydrating.{MeansFrozen}
+use Rattle.snapshot.specs.declared.finishing.FinishFault.{FinishFault}
 use Rattle.replica.specs.declared.requests.Request.TheVariants as request
 use Rattle.replica.specs.declared.replies.Reply.{Reply}
 use Rattle.replica.specs.declared.replies.Reply.TheVariants as reply

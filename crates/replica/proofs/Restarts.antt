@@ -3,13 +3,13 @@ use Rattle.std.proofs.Common.{◌≡◌, ◌≢◌, ℕ, ◌⊎◌, List, [], �
 use Rattle.std.specs.List.{AllByRecursion}
 use Rattle.redo_core.specs.Sound.{IsSound}
 use Rattle.redo_core.specs.declared.facts.Fact.{Fact}
-use Rattle.state_laws.specs.State.{State}
-use Rattle.state_laws.specs.Means.{Means}
+use Rattle.segment_theorems.specs.State.{State}
+use Rattle.segment_theorems.specs.Means.{Means}
 use Rattle.read_cache.specs.Cached.{Cached}
-use Rattle.hydration.specs.Snapshots.{SnapshotData, Freezes}
-use Rattle.hydration.specs.Stagings.{StagingData, staging_of}
-use Rattle.hydration.specs.Hydrating.{IsOfState, MeansFrozen}
-use Rattle.hydration.specs.declared.finishing.FinishFault.{FinishFault}
+use Rattle.snapshot.specs.Snapshots.{SnapshotData, Freezes}
+use Rattle.snapshot.specs.Stagings.{StagingData, staging_of}
+use Rattle.snapshot.specs.Hydrating.{IsOfState, MeansFrozen}
+use Rattle.snapshot.specs.declared.finishing.FinishFault.{FinishFault}
 use Rattle.replica.specs.declared.replies.Reply.TheVariants as reply
 use Rattle.replica.specs.Parts.{ReplicaData}
 use Rattle.replica.specs.Replying.{unfinished_reply}

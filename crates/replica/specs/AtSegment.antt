@@ -9,11 +9,11 @@ use Rattle.redo_core.specs.declared.facts.Fact.TheVariants.{Cut}
 use Rattle.redo_core.specs.declared.refusal.Refused.{Refused}
 use Rattle.hot_log.specs.Held.{IsKeyAfter, IsRecordAt}
 use Rattle.hot_log.specs.Kept.{ListsKeysOf}
-use Rattle.state_laws.specs.State.{State, version_of, empty_state, min_of}
-use Rattle.state_laws.specs.Means.{MeansAt}
-use Rattle.state_laws.specs.HasMeaning.{HasComplete, HasAnchor, IsKeptBy}
-use Rattle.state_laws.specs.Shows.{Shows}
-use Rattle.state_laws.specs.Promises.{KeepsMeaning}
+use Rattle.segment_theorems.specs.State.{State, version_of, empty_state, min_of}
+use Rattle.segment_theorems.specs.Means.{MeansAt}
+use Rattle.segment_theorems.specs.HasMeaning.{HasComplete, HasAnchor, IsKeptBy}
+use Rattle.segment_theorems.specs.Shows.{Shows}
+use Rattle.segment_theorems.specs.Promises.{KeepsMeaning}
 use Rattle.segment_core.specs.Exactly.{TakesExactly}
 use Rattle.segment_core.specs.Folding.{PlansFold, Commits}
 use Rattle.segment_core.specs.Forgetting.{DiscardsJust, Tidies, HoldsJustKept, IsSoundState, TellsFirstBreak, RefusesTidy}

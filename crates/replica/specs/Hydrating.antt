@@ -3,18 +3,18 @@ use Rattle.std.specs.Prelude.{◌≡◌, ℕ, ◌<◌, ◌≤◌, ◌⊎◌, ◌
 use Rattle.messages.specs.Pieces.{PieceData}
 use Rattle.hot_log.specs.Found.{IsLeast}
 use Rattle.redo_core.specs.Book.{roster_of}
-use Rattle.state_laws.specs.State.{State}
+use Rattle.segment_theorems.specs.State.{State}
 use Rattle.segment_core.specs.declared.answers.Refusal.{Refusal}
 use Rattle.segment_core.specs.declared.answers.Refusal.TheVariants as refusal
 use Rattle.segment_join.specs.Joining.{MeansUnion, AreOfOneLog, JoinsInto, TakesTold, RefusesJoin}
 use Rattle.read_cache.specs.Cached.{Cached, cached}
-use Rattle.hydration.specs.Snapshots.{SnapshotData, Freezes, IsPieceOf, max_total}
-use Rattle.hydration.specs.Stagings.{StagingData, staging_of, Adds, RefusesPiece, IsMissingPiece, IsStaging}
-use Rattle.hydration.specs.Placing.{IsComplete, IsMisplaced, IsInOrder}
-use Rattle.hydration.specs.Hydrating.{Hydrates, MeansFrozen, IsOfSoundState}
-use Rattle.hydration.specs.declared.staging.AddFault.{AddFault}
-use Rattle.hydration.specs.declared.finishing.FinishFault.{FinishFault}
-use Rattle.hydration.specs.declared.finishing.FinishFault.TheVariants as finish
+use Rattle.snapshot.specs.Snapshots.{SnapshotData, Freezes, IsPieceOf, max_total}
+use Rattle.snapshot.specs.Stagings.{StagingData, staging_of, Adds, RefusesPiece, IsMissingPiece, IsStaging}
+use Rattle.snapshot.specs.Placing.{IsComplete, IsMisplaced, IsInOrder}
+use Rattle.snapshot.specs.Hydrating.{Hydrates, MeansFrozen, IsOfSoundState}
+use Rattle.snapshot.specs.declared.staging.AddFault.{AddFault}
+use Rattle.snapshot.specs.declared.finishing.FinishFault.{FinishFault}
+use Rattle.snapshot.specs.declared.finishing.FinishFault.TheVariants as finish
 use Rattle.replica.specs.declared.replies.Reply.{Reply}
 use Rattle.replica.specs.declared.replies.Reply.TheVariants as reply
 use Rattle.replica.specs.Replying.{unadded_reply, unfinished_reply, united_reply}

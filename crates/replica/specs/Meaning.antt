@@ -7,14 +7,14 @@ use Rattle.redo_core.specs.Sound.{IsSound}
 use Rattle.redo_core.specs.declared.facts.Fact.{Fact}
 use Rattle.messages.specs.Summaries.{SummaryData}
 use Rattle.messages.specs.Deltas.{DeltaData}
-use Rattle.state_laws.specs.State.{State}
-use Rattle.state_laws.specs.Means.{Means}
-use Rattle.state_laws.specs.Gossip.{Fills}
+use Rattle.segment_theorems.specs.State.{State}
+use Rattle.segment_theorems.specs.Means.{Means}
+use Rattle.segment_theorems.specs.Gossip.{Fills}
 use Rattle.gossip_core.specs.Answering.{listing_of}
 use Rattle.gossip_core.specs.Absorbing.{filling_of}
-use Rattle.hydration.specs.Snapshots.{SnapshotData}
-use Rattle.hydration.specs.Stagings.{StagingData}
-use Rattle.hydration.specs.Hydrating.{IsOfState}
+use Rattle.snapshot.specs.Snapshots.{SnapshotData}
+use Rattle.snapshot.specs.Stagings.{StagingData}
+use Rattle.snapshot.specs.Hydrating.{IsOfState}
 use Rattle.replica.specs.declared.requests.Request.{Request}
 use Rattle.replica.specs.declared.requests.Request.TheVariants as request
 use Rattle.replica.specs.declared.replies.Reply.{Reply}

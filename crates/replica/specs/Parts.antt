@@ -1,9 +1,9 @@
 -- What a replica has.
 use Rattle.std.specs.Prelude.{◌≡◌, ℕ, [], Option, None}
-use Rattle.state_laws.specs.State.{empty_state}
+use Rattle.segment_theorems.specs.State.{empty_state}
 use Rattle.read_cache.specs.Cached.{Cached, cached}
-use Rattle.hydration.specs.Snapshots.{SnapshotData}
-use Rattle.hydration.specs.Stagings.{StagingData}
+use Rattle.snapshot.specs.Snapshots.{SnapshotData}
+use Rattle.snapshot.specs.Stagings.{StagingData}
 
 -- the segment with the images that are kept of what was read, the snapshot that is told, and the staging that is filled
 pub record ReplicaData : Type 0 where

@@ -12,14 +12,14 @@ use Rattle.segment_core.specs.declared.answers.ReadFault.{ReadFault}
 use Rattle.segment_core.specs.declared.answers.ReadFault.TheVariants as fault
 use Rattle.gossip_core.specs.declared.absorbing.AbsorbRefusal.{AbsorbRefusal}
 use Rattle.gossip_core.specs.declared.absorbing.AbsorbRefusal.TheVariants as absorb
-use Rattle.hydration.specs.declared.staging.AddFault.{AddFault}
-use Rattle.hydration.specs.declared.staging.AddFault.TheVariants as add
-use Rattle.hydration.specs.declared.finishing.FinishFault.{FinishFault}
-use Rattle.hydration.specs.declared.finishing.FinishFault.TheVariants as finish
+use Rattle.snapshot.specs.declared.staging.AddFault.{AddFault}
+use Rattle.snapshot.specs.declared.staging.AddFault.TheVariants as add
+use Rattle.snapshot.specs.declared.finishing.FinishFault.{FinishFault}
+use Rattle.snapshot.specs.declared.finishing.FinishFault.TheVariants as finish
 use Rattle.replica.specs.declared.replies.Reply.{Reply}
 use Rattle.replica.specs.declared.replies.Reply.TheVariants as reply
 
--- want of memory is replied as such
+-- lack of memory is replied as such
 abbrev pub refusal_reply : Refusal → Reply
 refusal_reply refusal.Memory = reply.Memory
 refusal_reply other = reply.Refused other

@@ -8,7 +8,7 @@ use messages::{Delta, Summary};
 use read_cache::CachedSegment;
 use segment_core::Segment;
 
-/// Tells the segment's summary.
+/// Returns the segment's summary.
 pub fn ask(segment: &Segment) -> Reply
     ensures asks { Asks segment.now result }
 {
@@ -18,14 +18,14 @@ pub fn ask(segment: &Segment) -> Reply
     }
 }
 
-/// Tells what the segment has beyond a summary.
+/// Returns what the segment has beyond a summary.
 pub fn answer(segment: &Segment, summary: &Summary) -> Reply
     ensures replies { RepliesTo segment.now summary.now result }
 {
     delta_reply(reply(segment, summary))
 }
 
-/// Tells what the segment has beyond a summary, where that has at most so many bytes. Its size is told before any of it is made.
+/// Returns what the segment has beyond a summary, if that has at most `limit` bytes; its size is computed before any of it is built.
 pub fn answer_within(segment: &Segment, summary: &Summary, most: u64) -> Reply
     ensures replies { RepliesWithin segment.now summary.now most result }
 {

@@ -4,10 +4,10 @@ ghost use Rattle.replica.specs.Hydrating.{FreezesAs, Pieces, AddsTo, Finishes, E
 use crate::at_segment::put;
 use crate::replies::Reply;
 use crate::replying::{refusal_reply, unadded_reply, unfinished_reply};
-use hydration::{FreezeFault, Snapshot, Staging, freeze};
 use messages::Piece;
 use read_cache::CachedSegment;
 use segment_core::Segment;
+use snapshot::{FreezeFault, Snapshot, Staging, freeze};
 
 /// Keeps a snapshot of the segment in place of an older one.
 pub fn freeze_as(segment: &Segment, name: u64, snapshot: &mut Option<Snapshot>) -> Reply

@@ -8,10 +8,10 @@ use crate::gossiping::{absorb_delta, answer, answer_within, ask};
 use crate::hydrating::{add, finish, freeze_as, piece, unite};
 use crate::replies::Reply;
 use crate::requests::Request;
-use hydration::{Snapshot, Staging};
 use read_cache::CachedSegment;
 use redo_core::Roster;
 use segment_core::Segment;
+use snapshot::{Snapshot, Staging};
 use std::alloc::{AllocError, Global};
 use std::marker::Model;
 
@@ -34,7 +34,7 @@ impl Model for Replica {
 impl Replica {
     /// A replica of a roster of readers that no fact has reached. Its cache keeps at most so many images of pages, with 0 none.
     ///
-    /// Its only error is want of memory.
+    /// It fails only if memory runs out.
     pub fn new(alloc: Global, roster: Roster, pages: usize) -> Result<Self, AllocError>
         ensures { IfOk result (λ r. r ≡ empty_replica roster pages) }
     {

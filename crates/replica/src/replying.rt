@@ -7,10 +7,10 @@ ghost use Rattle.replica.specs.Replying.{absorbed_reply as absorbed_reply_of, un
 
 use crate::replies::Reply;
 use gossip_core::AbsorbRefusal;
-use hydration::{AddFault, FinishFault};
 use messages::Delta;
 use redo_core::{Fact, Page, Refused};
 use segment_core::{Gap, ReadFault, Refusal, Taken};
+use snapshot::{AddFault, FinishFault};
 
 pub fn refusal_reply(refusal: Refusal) -> Reply
     ensures { result ≡ refusal_reply_of refusal }

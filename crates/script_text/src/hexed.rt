@@ -7,7 +7,7 @@ ghost use Rattle.script_text.specs.FactLine.{decoded};
 use hex::FromHexError;
 use std::alloc::{AllocError, Global};
 
-/// Writes the bytes that digits stand for, and says whether they stand for any: they are even in number, and each is a digit.
+/// Writes the bytes that the digits encode, and returns whether they encode any: they are even in number, and each is a digit.
 pub fn put_bytes(digits: &[u8], out: &mut [u8]) -> bool
     requires { length digits.now / 2 ≡ length out.old }
     ensures { decoded (decode_of digits.now) ≡ (if result then Some out.new else None) }
@@ -15,7 +15,7 @@ pub fn put_bytes(digits: &[u8], out: &mut [u8]) -> bool
     hex::decode_to_slice(digits, out).is_ok()
 }
 
-/// The bytes that digits stand for; None where they stand for none. Its only error is want of memory.
+/// The bytes that the digits encode; None where they encode none. It fails only if memory runs out.
 pub fn decoded(alloc: Global, digits: &[u8]) -> Result<Option<Vec<u8>>, AllocError>
     ensures { IfOk result (λ o. option_map (λ v. v.items) o ≡ decoded (decode_of digits.now)) }
 {

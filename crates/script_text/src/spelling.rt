@@ -133,7 +133,7 @@ fn advance_text(alloc: Global, advance: &Advance) -> Result<String, AllocError>
 }
 
 /// The line of the fact, without its line end: numbers in decimal, digits of bytes in lower case, reader 1 without its number.
-/// Its only error is want of memory.
+/// It fails only if memory runs out.
 pub fn fact_text(alloc: Global, fact: &Fact) -> Result<String, AllocError>
     ensures text { IfOk result (λ s. string_bytes s ≡ fact_text fact.now) }
 

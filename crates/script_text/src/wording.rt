@@ -6,7 +6,7 @@ ghost use Rattle.script_text.specs.Spelled.{worded, worded_line, labelled};
 use std::alloc::{AllocError, Global};
 use std::fmt::Write;
 
-/// The word, and behind it the numbers in decimal, between single spaces. Its only error is want of memory.
+/// The word, and behind it the numbers in decimal, between single spaces. It fails only if memory runs out.
 pub fn worded(alloc: Global, word: &str, numbers: &[u64]) -> Result<String, AllocError>
     ensures { IfOk result (λ s. string_bytes s ≡ worded word.now numbers.now) }
 {
@@ -26,7 +26,7 @@ pub fn worded_line(alloc: Global, word: &str, numbers: &[u64]) -> Result<String,
     Ok(text)
 }
 
-/// Each label, and behind it its number in decimal. Its only error is want of memory.
+/// Each label, and behind it its number in decimal. It fails only if memory runs out.
 pub fn labelled(alloc: Global, numbers: &[(&str, u64)]) -> Result<String, AllocError>
     ensures { IfOk result (λ s. string_bytes s ≡ labelled numbers.now) }
 {

@@ -15,22 +15,22 @@ use Rattle.redo_core.specs.declared.facts.Fact.{Fact}
 use Rattle.redo_core.specs.declared.facts.Fact.TheVariants as fact
 use Rattle.redo_core.proofs.FactParts.{record_in, part_records}
 use Rattle.redo_core.proofs.SoundFacts.{kept, counted_in}
-use Rattle.redo_laws.proofs.Log.{IsLog, log_of_sound, alive_within}
+use Rattle.log_theorems.proofs.Log.{IsLog, log_of_sound, alive_within}
 use Rattle.redo_core.proofs.Numbers.{at_greatest}
 use Rattle.redo_core.proofs.CompleteEpochs.{has_cuts}
-use Rattle.redo_laws.proofs.Views.{alive_up, alive_down, linked_below}
+use Rattle.log_theorems.proofs.Views.{alive_up, alive_down, linked_below}
 use Rattle.hot_log.specs.Alive.{IsHeldAlive, HasNoneAbove}
 use Rattle.hot_log.specs.Gaps.{IsGapAbove, IsAwaited, HasWaiting}
 use Rattle.hot_log.proofs.Chain.{Link, link_cases}
 use Rattle.hot_log.proofs.Forks.{link_trans}
 use Rattle.hot_log.proofs.Hanging.{hangs_one}
 use Rattle.hot_log.proofs.Views.{view_of, one_number}
-use Rattle.state_laws.specs.State.{State}
-use Rattle.state_laws.specs.Means.{MeansAt, IsInImage}
-use Rattle.state_laws.specs.HasMeaning.{IsLinkedIn, HasComplete}
-use Rattle.state_laws.proofs.Chains.{alive_on}
-use Rattle.state_laws.proofs.Own.{complete_of}
-use Rattle.state_laws.proofs.Reading.{alive_in_facts}
+use Rattle.segment_theorems.specs.State.{State}
+use Rattle.segment_theorems.specs.Means.{MeansAt, IsInImage}
+use Rattle.segment_theorems.specs.HasMeaning.{IsLinkedIn, HasComplete}
+use Rattle.segment_theorems.proofs.Chains.{alive_on}
+use Rattle.segment_theorems.proofs.Own.{complete_of}
+use Rattle.segment_theorems.proofs.Reading.{alive_in_facts}
 use Rattle.segment_core.specs.Form.{IsSegment}
 use Rattle.segment_core.specs.Gaps.{IsAhead, IsGapOf, IsAliveOf, AllLinked, LacksRecord, LacksTruncation, IsGapAt}
 use Rattle.segment_core.specs.declared.answers.Gap.{Gap}

@@ -10,16 +10,16 @@ use Rattle.redo_core.specs.Writing.{after_records}
 use Rattle.redo_core.proofs.AfterRecords.{after_append}
 use Rattle.redo_core.proofs.Listing.{lists_as}
 use Rattle.redo_core.proofs.Members.{none_in, here, there, which, each, all_of}
-use Rattle.redo_laws.proofs.Deciding.{Settled, settled_le, settled_eq, settled_and, in_order}
-use Rattle.redo_laws.proofs.Fronts.{settled_alive}
+use Rattle.log_theorems.proofs.Deciding.{Settled, settled_le, settled_eq, settled_and, in_order}
+use Rattle.log_theorems.proofs.Fronts.{settled_alive}
 use Rattle.epoch_book.specs.Book.{IsBook}
 use Rattle.hot_log.specs.Anew.{ListsAnew}
 use Rattle.hot_log.specs.Alive.{IsHeldAlive}
 use Rattle.hot_log.specs.Held.{IsHeld}
 use Rattle.hot_log.proofs.Views.{view_of, one_number}
-use Rattle.state_laws.specs.State.{State, version_of, image_of}
-use Rattle.state_laws.specs.Shows.{IsApplied, Shows}
-use Rattle.state_laws.proofs.Anew.{write_anew}
+use Rattle.segment_theorems.specs.State.{State, version_of, image_of}
+use Rattle.segment_theorems.specs.Shows.{IsApplied, Shows}
+use Rattle.segment_theorems.proofs.Anew.{write_anew}
 
 -- records from one with `init` on do not look at the page
 from_anew : (r : RecordData) (P : RecordData → Type 0) (xs : List RecordData) (i j : List ℕ) → P r → r.init ≡ true

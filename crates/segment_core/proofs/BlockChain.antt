@@ -10,17 +10,17 @@ use Rattle.redo_core.specs.declared.facts.Fact.{Fact}
 use Rattle.redo_core.specs.declared.facts.Fact.TheVariants.{Record}
 use Rattle.redo_core.proofs.FactParts.{record_in}
 use Rattle.redo_core.proofs.SoundFacts.{kept}
-use Rattle.redo_laws.proofs.Log.{log_of_sound}
+use Rattle.log_theorems.proofs.Log.{log_of_sound}
 use Rattle.epoch_book.specs.Book.{BookData}
 use Rattle.redo_core.specs.Linked.{IsLinked}
 use Rattle.hot_log.specs.Held.{IsHeld}
 use Rattle.hot_log.specs.Alive.{IsHeldOf, IsLinkedHeld}
 use Rattle.hot_log.specs.Found.{IsLeastRecord, IsGreatestRecord, IsOnlyRecord}
-use Rattle.state_laws.specs.State.{State, state_of, Store, min_of, version_of}
-use Rattle.state_laws.specs.Means.{MeansAt}
-use Rattle.state_laws.specs.Shows.{IsApplied}
-use Rattle.state_laws.proofs.Chains.{whole_block_chains}
-use Rattle.state_laws.proofs.Reading.{held_of, links_law}
+use Rattle.segment_theorems.specs.State.{State, state_of, Store, min_of, version_of}
+use Rattle.segment_theorems.specs.Means.{MeansAt}
+use Rattle.segment_theorems.specs.Shows.{IsApplied}
+use Rattle.segment_theorems.proofs.Chains.{whole_block_chains}
+use Rattle.segment_theorems.proofs.Reading.{held_of, links_law}
 use Rattle.segment_core.specs.Reading.{IsFrontAt, IsFrontOf}
 use Rattle.segment_core.specs.declared.answers.Front.{Front}
 use Rattle.segment_core.specs.declared.answers.ReadFault.{ReadFault}

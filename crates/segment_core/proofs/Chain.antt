@@ -9,16 +9,16 @@ use Rattle.redo_core.specs.Sound.{IsSound}
 use Rattle.redo_core.specs.Position.{Position}
 use Rattle.redo_core.specs.Roster.{least}
 use Rattle.redo_core.specs.declared.facts.Fact.{Fact}
-use Rattle.redo_laws.proofs.Log.{log_of_sound}
+use Rattle.log_theorems.proofs.Log.{log_of_sound}
 use Rattle.epoch_book.specs.Book.{BookData, IsBook}
 use Rattle.hot_log.specs.Held.{IsHeld}
-use Rattle.state_laws.specs.State.{State, state_of, Store}
-use Rattle.state_laws.specs.Means.{MeansAt}
-use Rattle.state_laws.specs.HasMeaning.{HasAnchor}
-use Rattle.state_laws.proofs.Own.{complete_as}
-use Rattle.state_laws.proofs.Same.{anchor_as, same_min}
+use Rattle.segment_theorems.specs.State.{State, state_of, Store}
+use Rattle.segment_theorems.specs.Means.{MeansAt}
+use Rattle.segment_theorems.specs.HasMeaning.{HasAnchor}
+use Rattle.segment_theorems.proofs.Own.{complete_as}
+use Rattle.segment_theorems.proofs.Same.{anchor_as, same_min}
 use Rattle.segment_core.specs.Reading.{IsFrontAt, IsFrontOf}
-use Rattle.segment_core.specs.Due.{DueData, HasDue}
+use Rattle.segment_core.specs.PendingPages.{PendingData, HasPending}
 use Rattle.segment_core.specs.Form.{IsSegment}
 use Rattle.segment_core.specs.Points.{IsTopTo, HasPoints}
 use Rattle.segment_core.specs.declared.points.Points.{Points}
@@ -44,8 +44,8 @@ pub true_anchor : (s : State) (n : ℕ) → HasAnchor s n → (roster : ℕ) (lo
 true_anchor s n own roster log facts p sound means = anchor_as log facts p s (log_of_sound roster log sound) means n own
 
 -- what the parts of a segment keep, it keeps
-pub form_of : (b : BookData) (hs : List RecordData) (base : ℕ) (store : Store) (p : Points) (d : DueData)
-    → IsBook b × IsHeld hs × IsStored store × (base ≤ least b.points) × HasPoints b hs base p × HasDue b hs store d → IsSegment (state_of b hs base store)
+pub form_of : (b : BookData) (hs : List RecordData) (base : ℕ) (store : Store) (p : Points) (d : PendingData)
+    → IsBook b × IsHeld hs × IsStored store × (base ≤ least b.points) × HasPoints b hs base p × HasPending b hs store d → IsSegment (state_of b hs base store)
 form_of b hs base store p d parts = record { book = parts.0; held = parts.1; store = parts.2; base = parts.3 }
 
 pub true_front : (s : State) (front : Front) → IsFrontOf s front → (roster : ℕ) (log facts : List Fact) (p : Position) → IsSound roster log

@@ -5,8 +5,8 @@ use Rattle.std.proofs.lemmas.List.Elements.{Contains-append_left, Contains-appen
 use Rattle.redo_core.specs.Data.{RecordData}
 use Rattle.redo_core.specs.Order.{Lists, BeforeByNumber}
 use Rattle.redo_core.proofs.Members.{none_in, here, there, which}
-use Rattle.state_laws.specs.State.{State, version_of}
-use Rattle.state_laws.specs.Shows.{IsApplied}
+use Rattle.segment_theorems.specs.State.{State, version_of}
+use Rattle.segment_theorems.specs.Shows.{IsApplied}
 use Rattle.hot_log.specs.Anew.{ListsAnew}
 use Rattle.segment_core.specs.BlockChain.{IsLinkedOf, IsLinkedUpTo, IsChained, OnBlockChain, BreaksAt}
 use Rattle.segment_core.specs.BlockChain.OnBlockChain.{start, down}

@@ -2,11 +2,11 @@
 use Rattle.std.proofs.Common.{◌≡◌, ℕ, ◌<◌, ◌≤◌, ◌⊎◌, ⊎_elim, sym, subst, arith, Result, Ok, Err, OnOk, IfErr, rules}
 use Rattle.redo_core.specs.declared.refusal.Refused.{Refused}
 use Rattle.page_base.specs.Raising.{Raises}
-use Rattle.state_laws.specs.State.{State, Store, version_of}
-use Rattle.state_laws.specs.Means.{Means}
-use Rattle.state_laws.specs.HasMeaning.{HasAnchor}
-use Rattle.state_laws.specs.Promises.{KeepsMeaningWith}
-use Rattle.state_laws.proofs.Shed.{commit_keeps}
+use Rattle.segment_theorems.specs.State.{State, Store, version_of}
+use Rattle.segment_theorems.specs.Means.{Means}
+use Rattle.segment_theorems.specs.HasMeaning.{HasAnchor}
+use Rattle.segment_theorems.specs.Promises.{KeepsMeaningWith}
+use Rattle.segment_theorems.proofs.Shed.{commit_keeps}
 use Rattle.segment_core.specs.Folding.{Commits, RefusesAhead}
 use Rattle.segment_core.specs.Forgetting.{with_store}
 use Rattle.segment_core.specs.declared.fold_plan.Folded.{Folded}

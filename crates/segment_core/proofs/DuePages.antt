@@ -7,8 +7,8 @@ use Rattle.std.proofs.lemmas.List.Elements.{All-push}
 use Rattle.redo_core.specs.Data.{RecordData, AdvanceData, CutData}
 use Rattle.redo_core.specs.Standing.{IsAlive}
 use Rattle.redo_core.specs.declared.refusal.Refused.{Refused}
-use Rattle.redo_laws.proofs.Deciding.{settled_eq}
-use Rattle.redo_laws.proofs.Storing.{stored_images}
+use Rattle.log_theorems.proofs.Deciding.{settled_eq}
+use Rattle.log_theorems.proofs.Storing.{stored_images}
 use Rattle.epoch_book.specs.Book.{BookData, IsBook}
 use Rattle.epoch_book.specs.Scanning.{IsLeastLo}
 use Rattle.epoch_book.specs.Learning.{LearnsAdvance}
@@ -22,21 +22,21 @@ use Rattle.hot_log.specs.declared.log.PutFault.{PutFault}
 use Rattle.hot_log.proofs.Views.{view_of}
 use Rattle.page_base.specs.Stored.{IsStored, store_of}
 use Rattle.page_base.specs.Raising.{Raises, SetsImage}
-use Rattle.state_laws.specs.State.{Store, StoredImage, version_of}
+use Rattle.segment_theorems.specs.State.{Store, StoredImage, version_of}
 use Rattle.segment_core.specs.Points.{IsLaterBook}
-use Rattle.segment_core.specs.Due.{DueData, HasDue, IsMoreDue, LooksAt, RemovesInPages, all_due}
+use Rattle.segment_core.specs.PendingPages.{PendingData, HasPending, IsMoreDue, LooksAt, RemovesInPages, all_due}
 use Rattle.segment_core.proofs.Opening.{alive_before}
 
 -- ---- more is due than has to be
-pub more_due : (b : BookData) (held : List RecordData) (store : Store) (d e : DueData) → HasDue b held store d → IsMoreDue d e → HasDue b held store e
+pub more_due : (b : BookData) (held : List RecordData) (store : Store) (d e : PendingData) → HasPending b held store d → IsMoreDue d e → HasPending b held store e
 more_due b held store d e has more = record {
   listed = λ r h low. more.keeps r.page (has.listed r h low);
   top = λ page. let v : version_of store page ≤ d.top = has.top page in let up : d.top ≤ e.top = more.top in omega arith;
 }
 
 -- ---- the held records change
-pub fewer_held : (b : BookData) (old new : List RecordData) (store : Store) (d : DueData) → ((r : RecordData) → Contains new r → Contains old r)
-    → HasDue b old store d → HasDue b new store d
+pub fewer_held : (b : BookData) (old new : List RecordData) (store : Store) (d : PendingData) → ((r : RecordData) → Contains new r → Contains old r)
+    → HasPending b old store d → HasPending b new store d
 fewer_held b old new store d within has = search rules
 
 put_adds : (old new : List RecordData) (redo : RecordData) (answer : Result Put (Refused RecordData PutFault)) → IfOk answer (Puts old redo new)
@@ -46,9 +46,9 @@ put_adds old new redo (Ok put.Known) puts same r h = inl (subst (λ (hs : List R
 put_adds old new redo (Err e) puts same r h = inl (subst (λ (hs : List RecordData). Contains hs r) same h)
 
 -- one record more, whose page is due unless it is above every version
-pub put_due : (b : BookData) (old new : List RecordData) (store : Store) (d e : DueData) (redo : RecordData) (answer : Result Put (Refused RecordData PutFault))
-    → HasDue b old store d → IsMoreDue d e → (redo.number ≤ d.top → LooksAt e redo.page) → IfOk answer (Puts old redo new) → OnErr answer (new ≡ old)
-    → HasDue b new store e
+pub put_due : (b : BookData) (old new : List RecordData) (store : Store) (d e : PendingData) (redo : RecordData) (answer : Result Put (Refused RecordData PutFault))
+    → HasPending b old store d → IsMoreDue d e → (redo.number ≤ d.top → LooksAt e redo.page) → IfOk answer (Puts old redo new) → OnErr answer (new ≡ old)
+    → HasPending b new store e
 put_due b old new store d e redo answer has more looks puts same = record {
   listed = λ r h low. ⊎_elim
       (λ (u : Contains old r). more.keeps r.page (has.listed r (u, h.1) low))
@@ -61,8 +61,8 @@ put_due b old new store d e redo answer has more looks puts same = record {
 }
 
 -- ---- an image is raised
-sets_due : (b : BookData) (held : List RecordData) (old new : Store) (page version : ℕ) (image : List ℕ) (d e : DueData) → HasDue b held old d → IsMoreDue d e
-    → LooksAt e page → version ≤ e.top → SetsImage old page version image new → HasDue b held new e
+sets_due : (b : BookData) (held : List RecordData) (old new : Store) (page version : ℕ) (image : List ℕ) (d e : PendingData) → HasPending b held old d → IsMoreDue d e
+    → LooksAt e page → version ≤ e.top → SetsImage old page version image new → HasPending b held new e
 sets_due b held old new page version image d e has more looks high sets = record {
   listed = λ r h low. ⊎_elim
       (λ (u : r.page ≡ page). subst (LooksAt e) (sym u) looks)
@@ -80,15 +80,15 @@ sets_due b held old new page version image d e has more looks high sets = record
       (settled_eq g page);
 }
 
-pub raise_due : (b : BookData) (held : List RecordData) (old new : Store) (page version : ℕ) (image : List ℕ) (d e : DueData) {X E : Type 0} (answer : Result X E)
-    → HasDue b held old d → IsMoreDue d e → LooksAt e page → version ≤ e.top
-    → OnOk answer (Raises old page version image new) → OnErr answer (new ≡ old) → HasDue b held new e
+pub raise_due : (b : BookData) (held : List RecordData) (old new : Store) (page version : ℕ) (image : List ℕ) (d e : PendingData) {X E : Type 0} (answer : Result X E)
+    → HasPending b held old d → IsMoreDue d e → LooksAt e page → version ≤ e.top
+    → OnOk answer (Raises old page version image new) → OnErr answer (new ≡ old) → HasPending b held new e
 raise_due b held old new page version image d e (Ok x) has more looks high raises same = ⊎_elim
-    (λ (low : version ≤ version_of old page). subst (λ (s : Store). HasDue b held s e) (sym (raises.lower low)) (more_due b held old d e has more))
+    (λ (low : version ≤ version_of old page). subst (λ (s : Store). HasPending b held s e) (sym (raises.lower low)) (more_due b held old d e has more))
     (λ (up : version_of old page < version). sets_due b held old new page version image d e has more looks high (raises.higher up))
     (let t : (version ≤ version_of old page) ⊎ (version_of old page < version) = grind arith in t)
 raise_due b held old new page version image d e (Err x) has more looks high raises same =
-    subst (λ (s : Store). HasDue b held s e) (sym same) (more_due b held old d e has more)
+    subst (λ (s : Store). HasPending b held s e) (sym same) (more_due b held old d e has more)
 
 -- ---- the book changes
 -- a number is at most the least of some truncations, if there are any
@@ -96,14 +96,14 @@ abbrev pub IsTop : Option ℕ → ℕ → Type 0
 IsTop None top = Unit {0}
 IsTop (Some lo) top = top ≤ lo
 
-pub advance_due : (b c : BookData) (held : List RecordData) (store : Store) (d : DueData) (a : AdvanceData) (answer : Result Learnt BookRefusal)
-    → OnOk answer (LearnsAdvance b a c) → OnErr answer (c ≡ b) → HasDue b held store d → HasDue c held store d
+pub advance_due : (b c : BookData) (held : List RecordData) (store : Store) (d : PendingData) (a : AdvanceData) (answer : Result Learnt BookRefusal)
+    → OnOk answer (LearnsAdvance b a c) → OnErr answer (c ≡ b) → HasPending b held store d → HasPending c held store d
 advance_due b c held store d a answer learns same has = search rules
 
 -- in a later book those of the epochs above are alive besides
-pub later_due : (b c : BookData) (held : List RecordData) (store : Store) (d : DueData) → IsLaterBook b c
-    → ((r : RecordData) → IsAlive c.cuts c.complete r.epoch r.number → b.complete < r.epoch → r.number ≤ d.top → LooksAt d r.page) → HasDue b held store d
-    → HasDue c held store d
+pub later_due : (b c : BookData) (held : List RecordData) (store : Store) (d : PendingData) → IsLaterBook b c
+    → ((r : RecordData) → IsAlive c.cuts c.complete r.epoch r.number → b.complete < r.epoch → r.number ≤ d.top → LooksAt d r.page) → HasPending b held store d
+    → HasPending c held store d
 later_due b c held store d later opened has = record {
   listed = λ r h low. ⊎_elim
       (λ (u : b.complete < r.epoch). opened r h.1 u (let v : version_of store r.page ≤ d.top = has.top r.page in omega arith))
@@ -113,14 +113,14 @@ later_due b c held store d later opened has = record {
 }
 
 -- there are none where no epoch has opened
-pub none_opened : (b c : BookData) (d : DueData) → c.complete ≡ b.complete → (r : RecordData) → IsAlive c.cuts c.complete r.epoch r.number
+pub none_opened : (b c : BookData) (d : PendingData) → c.complete ≡ b.complete → (r : RecordData) → IsAlive c.cuts c.complete r.epoch r.number
     → b.complete < r.epoch → r.number ≤ d.top → LooksAt d r.page
 none_opened b c d same r alive u low = let known : r.epoch ≤ c.complete = alive.known in absurd (omega arith)
 
 -- what has opened, where the pages are taken over that were due before
-pub opened_due : (b c : BookData) (held : List RecordData) (store : Store) (d e : DueData) (epoch : ℕ) → IsLaterBook b c → epoch ≡ b.complete → IsMoreDue d e
-    → ((r : RecordData) → IsAlive c.cuts c.complete r.epoch r.number → epoch < r.epoch → r.number ≤ d.top → LooksAt e r.page) → HasDue b held store d
-    → HasDue c held store e
+pub opened_due : (b c : BookData) (held : List RecordData) (store : Store) (d e : PendingData) (epoch : ℕ) → IsLaterBook b c → epoch ≡ b.complete → IsMoreDue d e
+    → ((r : RecordData) → IsAlive c.cuts c.complete r.epoch r.number → epoch < r.epoch → r.number ≤ d.top → LooksAt e r.page) → HasPending b held store d
+    → HasPending c held store e
 opened_due b c held store d e epoch later at more looks has = record {
   listed = λ r h low. ⊎_elim
       (λ (u : b.complete < r.epoch).
@@ -150,7 +150,7 @@ above_least b epoch top least is finds low r alive lt =
 
 -- ---- a discard
 -- what the images of the due pages have is all that the images have
-pub of_pages : (b : BookData) (store : Store) (d : DueData) (point : ℕ) (old new : List RecordData) → HasDue b old store d → d.all ≡ false
+pub of_pages : (b : BookData) (store : Store) (d : PendingData) (point : ℕ) (old new : List RecordData) → HasPending b old store d → d.all ≡ false
     → RemovesInPages b store point d.pages old new
     → Removes (λ r. IsAlive b.cuts b.complete r.epoch r.number × (r.number ≤ point) × (r.number ≤ version_of store r.page)) old new
 of_pages b store d point old new has some gone r = (
@@ -181,7 +181,7 @@ under_more images n none low high lt up here each =
     here)
 
 -- the top may rise besides
-pub raised_top : (old new : DueData) (top : ℕ) → IsMoreDue old new → new.top ≤ top → IsMoreDue old (record { pages = new.pages; all = new.all; top = top })
+pub raised_top : (old new : PendingData) (top : ℕ) → IsMoreDue old new → new.top ≤ top → IsMoreDue old (record { pages = new.pages; all = new.all; top = top })
 raised_top old new top more up = record { keeps = more.keeps; top = (let t : old.top ≤ new.top = more.top in omega arith) }
 
 -- no page has an image
@@ -189,5 +189,5 @@ bare_version : (page : ℕ) → version_of (store_of [] 0) page ≡ 0
 unfolding version_of
 bare_version page = refl
 
-pub none_due : (b : BookData) (held : List RecordData) (store : Store) (d : DueData) → store ≡ store_of [] 0 → d ≡ all_due 0 → HasDue b held store d
+pub none_due : (b : BookData) (held : List RecordData) (store : Store) (d : PendingData) → store ≡ store_of [] 0 → d ≡ all_due 0 → HasPending b held store d
 none_due b held store d bare each = search (rules, bare_version)

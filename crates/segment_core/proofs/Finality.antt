@@ -1,9 +1,9 @@
 -- Pages that a fold made are final.
 use Rattle.std.proofs.Common.{ℕ, List, rules}
 use Rattle.redo_core.specs.declared.facts.Fact.{Fact}
-use Rattle.state_laws.specs.State.{State}
-use Rattle.state_laws.specs.Means.{Means}
-use Rattle.state_laws.specs.Promises.{IsFinalPage}
+use Rattle.segment_theorems.specs.State.{State}
+use Rattle.segment_theorems.specs.Means.{Means}
+use Rattle.segment_theorems.specs.Promises.{IsFinalPage}
 use Rattle.segment_core.specs.Folding.{IsFoldOf}
 use Rattle.segment_core.specs.declared.fold_plan.Folded.{Folded}
 

@@ -3,8 +3,8 @@ use Rattle.std.proofs.Common.{◌≡◌, ℕ, ◌<◌, ◌≤◌, ◌⊎◌, ◌
 use Rattle.std.specs.List.{Contains}
 use Rattle.redo_core.specs.Data.{RecordData}
 use Rattle.hot_log.specs.Found.{IsPageAfter}
-use Rattle.state_laws.specs.State.{State}
-use Rattle.state_laws.specs.HasMeaning.{HasAnchor}
+use Rattle.segment_theorems.specs.State.{State}
+use Rattle.segment_theorems.specs.HasMeaning.{HasAnchor}
 use Rattle.segment_core.specs.BlockChain.{BreaksAt}
 use Rattle.segment_core.specs.Folding.{BreaksBelowAnchor}
 use Rattle.segment_core.specs.Forgetting.{IsWhole, IsFirstBreak, TellsFirstBreak, IsSoundState}
@@ -14,8 +14,8 @@ use Rattle.segment_core.proofs.OneView.{one_anchor}
 use Rattle.segment_core.proofs.Pages.{IsPassed, none_passed, passed_to}
 use Rattle.segment_core.proofs.BlockChain.{TellsLink, no_break}
 use Rattle.segment_core.proofs.PlanFold.{anchor_complete}
-use Rattle.redo_laws.proofs.Log.{log_of_sound}
-use Rattle.state_laws.proofs.Same.{anchor_as}
+use Rattle.log_theorems.proofs.Log.{log_of_sound}
+use Rattle.segment_theorems.proofs.Same.{anchor_as}
 
 -- the chains of the pages that are passed are whole
 abbrev pub IsWholeTo : State → Option ℕ → Type 0

@@ -6,11 +6,11 @@ use Rattle.hot_log.specs.Found.{IsPageAfter}
 use Rattle.page_base.specs.Stored.{stored}
 use Rattle.page_base.specs.Raising.{SamePage, Raises}
 use Rattle.page_base.proofs.Merged.{raised_list, raised_floor}
-use Rattle.state_laws.specs.State.{State, Store, StoredImage, version_of, image_of}
-use Rattle.state_laws.specs.Shows.{Shows}
-use Rattle.state_laws.specs.HasMeaning.{HasAnchor}
-use Rattle.state_laws.specs.Promises.{KeepsMeaning, IsFinalPage}
-use Rattle.state_laws.proofs.Shed.{anchor_page_is_final}
+use Rattle.segment_theorems.specs.State.{State, Store, StoredImage, version_of, image_of}
+use Rattle.segment_theorems.specs.Shows.{Shows}
+use Rattle.segment_theorems.specs.HasMeaning.{HasAnchor}
+use Rattle.segment_theorems.specs.Promises.{KeepsMeaning, IsFinalPage}
+use Rattle.segment_theorems.proofs.Shed.{anchor_page_is_final}
 use Rattle.segment_core.specs.Forgetting.{with_store, FoldsImages, FoldsAll}
 use Rattle.segment_core.specs.declared.fold_plan.Folded.{Folded}
 use Rattle.segment_core.proofs.OneView.{one_anchor}

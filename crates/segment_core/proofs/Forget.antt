@@ -2,14 +2,14 @@
 use Rattle.std.proofs.Common.{◌≡◌, ℕ, ◌≤◌, ◌↔◌, inl, inr, ⊎_elim, sym, subst, rules}
 use Rattle.redo_core.specs.Data.{RecordData}
 use Rattle.redo_core.specs.Standing.{IsAlive}
-use Rattle.redo_laws.proofs.Deciding.{Settled, settled_le, settled_and, settled_by}
-use Rattle.redo_laws.proofs.Fronts.{settled_alive}
+use Rattle.log_theorems.proofs.Deciding.{Settled, settled_le, settled_and, settled_by}
+use Rattle.log_theorems.proofs.Fronts.{settled_alive}
 use Rattle.epoch_book.specs.Book.{BookData}
 use Rattle.hot_log.specs.Removing.{IsFolded}
-use Rattle.state_laws.specs.State.{State, Store, version_of}
-use Rattle.state_laws.specs.Promises.{KeepsMeaning}
-use Rattle.state_laws.specs.Shedding.{RemovesFolded}
-use Rattle.state_laws.proofs.Shed.{discard_keeps}
+use Rattle.segment_theorems.specs.State.{State, Store, version_of}
+use Rattle.segment_theorems.specs.Promises.{KeepsMeaning}
+use Rattle.segment_theorems.specs.Shedding.{RemovesFolded}
+use Rattle.segment_theorems.proofs.Shed.{discard_keeps}
 use Rattle.segment_core.specs.Forgetting.{IsFoldedBelow, DiscardsJust}
 
 -- a record of the page that its image has, at or below a point

@@ -8,14 +8,14 @@ use Rattle.redo_core.specs.Keys.{key_in, key_of}
 use Rattle.redo_core.specs.declared.keys.Key.{Key}
 use Rattle.redo_core.specs.Standing.{IsAlive}
 use Rattle.redo_core.proofs.Members.{here, which, none_in}
-use Rattle.redo_laws.proofs.Deciding.{settled_eq, some_or_none}
-use Rattle.redo_laws.proofs.Storing.{stored_images}
+use Rattle.log_theorems.proofs.Deciding.{settled_eq, some_or_none}
+use Rattle.log_theorems.proofs.Storing.{stored_images}
 use Rattle.epoch_book.specs.Book.{BookData}
 use Rattle.hot_log.specs.Held.{IsHeld, HasKey}
 use Rattle.hot_log.specs.Removing.{IsFolded, Removes}
 use Rattle.hot_log.proofs.Climb.{positive}
 use Rattle.page_base.specs.Stored.{IsStored}
-use Rattle.state_laws.specs.State.{Store, StoredImage, version_of}
+use Rattle.segment_theorems.specs.State.{Store, StoredImage, version_of}
 
 -- of the records just those that one of the things hits are gone
 abbrev pub GoneBy : {X : Type 0} → (X → RecordData → Type 0) → List X → List RecordData → List RecordData → Type 0

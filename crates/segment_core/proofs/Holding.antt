@@ -3,7 +3,7 @@ use Rattle.std.proofs.Common.{◌≡◌, inl, inr, refl, rules}
 use Rattle.redo_core.specs.Data.{RecordData}
 use Rattle.hot_log.specs.Putting.{Puts}
 use Rattle.hot_log.specs.declared.log.Put.TheVariants.{New}
-use Rattle.state_laws.specs.State.{State, SameBase, state_of}
+use Rattle.segment_theorems.specs.State.{State, SameBase, state_of}
 use Rattle.segment_core.specs.Uniting.{HoldsRecord}
 
 -- a state of which only the records are others

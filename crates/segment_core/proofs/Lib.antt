@@ -28,3 +28,15 @@ pub mod LastAnchor
 pub mod DuePages
 pub mod NothingMerged
 pub mod Ahead
+pub mod Copied
+pub mod Scanning
+pub mod StoredCuts
+pub mod BarePages
+pub mod NextPage
+pub mod PagesShown
+pub mod Ordered
+pub mod TellingAll
+pub mod TakingAll
+pub mod ToldFacts
+pub mod BookTaken
+pub mod ToldInLog

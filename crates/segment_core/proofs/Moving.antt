@@ -9,13 +9,13 @@ use Rattle.redo_core.specs.Linked.Linked.{start, next}
 use Rattle.redo_core.specs.Roster.{least}
 use Rattle.epoch_book.specs.Book.{BookData}
 use Rattle.hot_log.specs.Held.{IsHeld}
-use Rattle.hot_log.specs.Alive.{HasNoneEarlier, IsLinkedFrom, IsHeldAlive, IsStraight}
+use Rattle.hot_log.specs.Alive.{HasNoneEarlier, IsLinkedFrom, IsHeldAlive, IsContiguous}
 use Rattle.hot_log.proofs.Chain.{link_at_least}
 use Rattle.hot_log.proofs.Forks.{link_trans}
 use Rattle.hot_log.proofs.Growth.{Joins, Top, still_linked, newly_linked, top_of_gap, straight_over_gap, top_moves, straight_moves, top_from_base, straight_from_base}
 use Rattle.hot_log.specs.Putting.{Puts}
 use Rattle.hot_log.specs.declared.log.Put.TheVariants.{New}
-use Rattle.redo_laws.proofs.Fronts.{settled_alive}
+use Rattle.log_theorems.proofs.Fronts.{settled_alive}
 use Rattle.redo_core.specs.Shape.{max_number}
 use Rattle.segment_core.specs.Points.{IsTop, IsTopTo, MoveOn, HasPoints, HasLowAnchor, MayLink, Meets}
 use Rattle.segment_core.specs.declared.points.Points.{Points}
@@ -32,7 +32,7 @@ top_of b held from n is low linked most = record {
 
 -- each point by itself
 pub moved_on : (b : BookData) (held : List RecordData) (p q : Points) → IsTop b held p.complete q.complete → IsTopTo b held p.anchor (least b.points) q.anchor
-    → (IsTrue q.straight → IsStraight b held p.complete q.complete) → HasNoneEarlier b held p.complete p.since → q.since ≡ p.since → MoveOn b held p q
+    → (IsTrue q.straight → IsContiguous b held p.complete q.complete) → HasNoneEarlier b held p.complete p.since → q.since ≡ p.since → MoveOn b held p q
 moved_on b held p q complete anchor straight none same = record {
   complete = complete;
   anchor = anchor;
@@ -65,7 +65,7 @@ links_over b c old new base from n low onto start = start
 links_over b c old new base from n low onto (next r h a l p) =
     let it = onto r (h, a) (omega arith) in next r it.0 it.1 l (links_over b c old new base from r.back low onto p)
 
-straight_over : (b c : BookData) (old new : List RecordData) (base top : ℕ) → Agree b c old new base → IsStraight b old base top → IsStraight c new base top
+straight_over : (b c : BookData) (old new : List RecordData) (base top : ℕ) → Agree b c old new base → IsContiguous b old base top → IsContiguous c new base top
 straight_over b c old new base top same is =
     let low : base ≤ base = omega arith in
     record {
@@ -146,7 +146,7 @@ over_gap b old new base p r j gap late has =
 
 -- what is linked above a number of a straight chain is linked from there, where a record joins at the top
 pub from_there : (b : BookData) (old new : List RecordData) (base : ℕ) (p : Points) (r : RecordData) (m n : ℕ) → Joins b old new r → r.back ≡ p.complete
-    → HasPoints b old base p → IsStraight b old base p.complete → IsLinkedFrom b old base m → m ≤ n → IsLinkedFrom b new base n → IsLinkedFrom b new m n
+    → HasPoints b old base p → IsContiguous b old base p.complete → IsLinkedFrom b old base m → m ≤ n → IsLinkedFrom b new base n → IsLinkedFrom b new m n
 from_there b old new base p r m n j back has is linked le l = ⊎_elim
     (λ (u : IsLinkedFrom b old base n). still_linked b old new r m n j (is.onward m n linked u le (has.complete.most n u)))
     (λ (u : IsLinkedFrom b old base r.back × (base < r.number) × IsLinkedFrom b new r.number n).
@@ -188,7 +188,7 @@ pub has_met : (b : BookData) (held : List RecordData) (base : ℕ) (p q : Points
 has_met b held base p q r met has = record {
   complete = subst (IsTop b held base) (sym met.0) has.complete;
   anchor = subst (IsTopTo b held base (least b.points)) (sym met.1) has.anchor;
-  straight = λ t. subst (IsStraight b held base) (sym met.0) (has.straight (subst IsTrue met.2 t));
+  straight = λ t. subst (IsContiguous b held base) (sym met.0) (has.straight (subst IsTrue met.2 t));
   since = λ s h lt.
       let same : q.complete ≡ p.complete = met.0 in
       let le : p.since ≤ s.epoch = has.since s h (omega arith) in

@@ -6,7 +6,7 @@ use Rattle.redo_core.specs.Data.{RecordData}
 use Rattle.redo_core.specs.Linked.Linked.{start, next}
 use Rattle.redo_core.specs.Roster.{least}
 use Rattle.epoch_book.specs.Book.{BookData}
-use Rattle.hot_log.specs.Alive.{HasNoneEarlier, IsHeldAlive, IsLinkedFrom, IsStraight, IsStraightEnd}
+use Rattle.hot_log.specs.Alive.{HasNoneEarlier, IsHeldAlive, IsLinkedFrom, IsContiguous, IsStraightEnd}
 use Rattle.hot_log.proofs.Chain.{link_at_least}
 use Rattle.hot_log.proofs.Forks.{link_trans}
 use Rattle.hot_log.proofs.Growth.{Joins, still_linked, newly_linked}
@@ -18,7 +18,7 @@ pub record Topping (b : BookData) (old new : List RecordData) (base : ℕ) (p : 
   pub joins : Joins b old new r
   pub back : r.back ≡ p.complete
   pub has : HasPoints b old base p
-  pub straight : IsStraight b old base p.complete
+  pub straight : IsContiguous b old base p.complete
   pub between : (s : RecordData) → IsHeldAlive b new s → p.complete < s.number → r.number ≤ s.number
   pub end : IsStraightEnd b new r.number top
   pub late : HasNoneEarlier b new p.complete p.since
@@ -50,7 +50,7 @@ through b old new base p r top t n (next s h a lt l) = ⊎_elim
     (through b old new base p r top t s.back l)
 
 straight_on : (b : BookData) (old new : List RecordData) (base : ℕ) (p : Points) (r : RecordData) (top : ℕ) → Topping b old new base p r top
-    → IsStraight b new p.complete top
+    → IsContiguous b new p.complete top
 straight_on b old new base p r top t =
     let one = one_link b old new base p r top t in
     let over : p.complete < r.number = up b old new base p r top t in

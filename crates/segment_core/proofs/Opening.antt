@@ -10,7 +10,7 @@ use Rattle.epoch_book.specs.Book.{BookData, IsBook}
 use Rattle.epoch_book.proofs.Least.{shaped_cut}
 use Rattle.std.proofs.lemmas.List.Elements.{All-contains}
 use Rattle.hot_log.specs.Held.{IsHeld}
-use Rattle.hot_log.specs.Alive.{HasNoneEarlier, IsHeldAlive, IsLinkedFrom, IsStraight}
+use Rattle.hot_log.specs.Alive.{HasNoneEarlier, IsHeldAlive, IsLinkedFrom, IsContiguous}
 use Rattle.hot_log.proofs.Chain.{link_at_least, link_down}
 use Rattle.hot_log.proofs.Forks.{link_trans}
 use Rattle.hot_log.proofs.Views.{view_of}
@@ -29,7 +29,7 @@ pub record Opening (b c : BookData) (held : List RecordData) (base n : ℕ) (p :
   pub book : IsBook c
   pub later : IsLaterBook b c
   pub has : HasPoints b held base p
-  pub straight : IsStraight b held base p.complete
+  pub straight : IsContiguous b held base p.complete
   pub linked : IsLinkedFrom b held base n
   pub bound : n ≤ p.complete
   pub spared : (d : CutData) → Contains c.cuts d → b.complete < d.epoch → d.epoch ≤ c.complete → n ≤ d.lo
@@ -144,8 +144,8 @@ from_below b c held base n p o k m small le low l =
     (o.straight.onward k m was (linked_back b c held base n p o base m under l) le (omega arith)))
     (cases_lt n m)
 
-straight_on : (b c : BookData) (held : List RecordData) (base n : ℕ) (p : Points) → Opening b c held base n p → (top : ℕ) → IsStraight c held n top
-    → IsStraight c held base top
+straight_on : (b c : BookData) (held : List RecordData) (base n : ℕ) (p : Points) → Opening b c held base n p → (top : ℕ) → IsContiguous c held n top
+    → IsContiguous c held base top
 straight_on b c held base n p o top on = record {
   linked = λ r h lt le. ⊎_elim
       (λ (over : n < r.number). link_trans c.cuts held c.complete base n r.number (is_linked b c held base n p o) (on.linked r h over le))

@@ -3,13 +3,13 @@ use Rattle.std.proofs.Common.{◌≡◌, ℕ, ◌≤◌, ◌↔◌, List, Option
 use Rattle.redo_core.specs.Position.{Position}
 use Rattle.redo_core.specs.Sound.{IsSound}
 use Rattle.redo_core.specs.declared.facts.Fact.{Fact}
-use Rattle.redo_laws.proofs.Log.{log_of_sound}
-use Rattle.redo_laws.proofs.Views.{anchor_is}
-use Rattle.state_laws.specs.State.{State}
-use Rattle.state_laws.specs.Means.{MeansAt}
-use Rattle.state_laws.specs.Shows.{Shows}
-use Rattle.state_laws.specs.HasMeaning.{HasAnchor}
-use Rattle.state_laws.proofs.Reading.{pages_law}
+use Rattle.log_theorems.proofs.Log.{log_of_sound}
+use Rattle.log_theorems.proofs.Views.{anchor_is}
+use Rattle.segment_theorems.specs.State.{State}
+use Rattle.segment_theorems.specs.Means.{MeansAt}
+use Rattle.segment_theorems.specs.Shows.{Shows}
+use Rattle.segment_theorems.specs.HasMeaning.{HasAnchor}
+use Rattle.segment_theorems.proofs.Reading.{pages_law}
 use Rattle.segment_core.specs.BlockChain.{BreaksAt}
 use Rattle.segment_core.specs.Folding.{IsFoldOf, FoldsPage, BreaksBelowAnchor}
 use Rattle.segment_core.specs.declared.fold_plan.Folded.{Folded}

@@ -6,12 +6,12 @@ use Rattle.redo_core.specs.Sound.{IsSound}
 use Rattle.redo_core.specs.Position.{Position}
 use Rattle.redo_core.specs.PageAt.{IsPageAt}
 use Rattle.redo_core.specs.declared.facts.Fact.{Fact}
-use Rattle.redo_laws.proofs.Log.{log_of_sound}
-use Rattle.redo_laws.proofs.Views.{anchor_is}
-use Rattle.state_laws.specs.State.{State, image_of}
-use Rattle.state_laws.specs.Means.{MeansAt}
-use Rattle.state_laws.specs.Shows.{IsApplied, Shows}
-use Rattle.state_laws.proofs.Reading.{pages_law}
+use Rattle.log_theorems.proofs.Log.{log_of_sound}
+use Rattle.log_theorems.proofs.Views.{anchor_is}
+use Rattle.segment_theorems.specs.State.{State, image_of}
+use Rattle.segment_theorems.specs.Means.{MeansAt}
+use Rattle.segment_theorems.specs.Shows.{IsApplied, Shows}
+use Rattle.segment_theorems.proofs.Reading.{pages_law}
 use Rattle.epoch_book.specs.Book.{IsBook}
 use Rattle.hot_log.specs.Anew.{ListsAnew}
 use Rattle.hot_log.specs.Held.{IsHeld}

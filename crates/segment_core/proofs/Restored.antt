@@ -5,7 +5,7 @@ use Rattle.redo_core.specs.Book.{BookData}
 use Rattle.redo_core.specs.Data.{RecordData}
 use Rattle.redo_core.proofs.Members.{none_in, here, there, which}
 use Rattle.page_base.specs.Adopting.{first_given, Adopts, StoresJust}
-use Rattle.state_laws.specs.State.{State, Store, state_of, version_of, image_of}
+use Rattle.segment_theorems.specs.State.{State, Store, state_of, version_of, image_of}
 use Rattle.segment_core.specs.Adopting.{AdoptsBase}
 use Rattle.segment_core.specs.Restoring.{no_images, IsMadeOf, GainsEach}
 

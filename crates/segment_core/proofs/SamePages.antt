@@ -7,8 +7,8 @@ use Rattle.redo_core.proofs.Members.{none_in, lists_unique}
 use Rattle.epoch_book.specs.Book.{BookData}
 use Rattle.hot_log.specs.Alive.{IsHeldOf}
 use Rattle.hot_log.specs.Found.{IsLeastRecord}
-use Rattle.state_laws.specs.State.{State, state_of, Store, version_of, image_of}
-use Rattle.state_laws.specs.Shows.{IsApplied, Shows}
+use Rattle.segment_theorems.specs.State.{State, state_of, Store, version_of, image_of}
+use Rattle.segment_theorems.specs.Shows.{IsApplied, Shows}
 use Rattle.segment_core.specs.Comparing.{TellsSamePage}
 
 -- a state shows one page at a point

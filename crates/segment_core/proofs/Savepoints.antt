@@ -12,8 +12,8 @@ use Rattle.redo_core.proofs.Members.{here, there, which, none_in, filtered, pass
 use Rattle.redo_core.proofs.Pairs.{pair_apart}
 use Rattle.redo_core.proofs.Rising.{rising_filter}
 use Rattle.hot_log.specs.Held.{IsHeld, HasKey}
-use Rattle.state_laws.specs.State.{State, SameBase}
-use Rattle.state_laws.specs.Known.{IsKnown}
+use Rattle.segment_theorems.specs.State.{State, SameBase}
+use Rattle.segment_theorems.specs.Known.{IsKnown}
 use Rattle.segment_core.specs.Savepoint.{SavepointData, NotesKey, began_by, brought_back, has_key, without}
 use Rattle.segment_core.specs.Taking.{Stores}
 use Rattle.segment_core.proofs.Keys.{one_of_key}

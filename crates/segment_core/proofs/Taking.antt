@@ -25,11 +25,11 @@ use Rattle.hot_log.specs.declared.log.PutFault.{PutFault}
 use Rattle.hot_log.specs.declared.log.PutFault.TheVariants as fault
 use Rattle.redo_core.proofs.Rising.{rising_members as in_order}
 use Rattle.hot_log.proofs.Keys.{pair_not_same}
-use Rattle.state_laws.specs.State.{State, state_of, Store}
-use Rattle.state_laws.specs.Known.{IsKnown, Conflicts}
-use Rattle.state_laws.specs.Learning.{StoresCut, StoresAdvance}
-use Rattle.state_laws.specs.Promises.{TakesFact}
-use Rattle.state_laws.specs.Laws.{TakesRecord, TakesCut, TakesAdvance, TakesKnown, UnchangedExactly, NoConflict}
+use Rattle.segment_theorems.specs.State.{State, state_of, Store}
+use Rattle.segment_theorems.specs.Known.{IsKnown, Conflicts}
+use Rattle.segment_theorems.specs.Learning.{StoresCut, StoresAdvance}
+use Rattle.segment_theorems.specs.Promises.{TakesFact}
+use Rattle.segment_theorems.specs.Laws.{TakesRecord, TakesCut, TakesAdvance, TakesKnown, UnchangedExactly, NoConflict}
 use Rattle.segment_core.specs.Answering.{refusal_of, AnswersBook, put_refusal_of, AnswersPut}
 use Rattle.segment_core.specs.Taking.{TellsKnown, TellsChange, Stores, IsNew}
 use Rattle.segment_core.specs.Refusing.{Refuses, IsDeadOrSettled, FitsSoundLog}

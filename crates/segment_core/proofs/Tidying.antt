@@ -3,15 +3,15 @@ use Rattle.std.proofs.Common.{◌≡◌, ℕ, ◌<◌, ◌≤◌, ◌⊎◌, ◌
 use Rattle.std.specs.List.{Contains}
 use Rattle.redo_core.specs.Data.{RecordData}
 use Rattle.redo_core.specs.Standing.{IsAlive, IsDead, IsWaiting}
-use Rattle.redo_laws.proofs.Log.{log_of_sound}
-use Rattle.redo_laws.proofs.Fronts.{settled_alive}
+use Rattle.log_theorems.proofs.Log.{log_of_sound}
+use Rattle.log_theorems.proofs.Fronts.{settled_alive}
 use Rattle.epoch_book.specs.Book.{BookData}
-use Rattle.state_laws.specs.State.{State, Store, SameBase, version_of}
-use Rattle.state_laws.specs.HasMeaning.{HasAnchor, IsKeptBy}
-use Rattle.state_laws.specs.Promises.{KeepsMeaning}
-use Rattle.state_laws.specs.Shedding.{RemovesDead}
-use Rattle.state_laws.proofs.Same.{anchor_as, kept_as}
-use Rattle.state_laws.proofs.Shed.{removal_keeps}
+use Rattle.segment_theorems.specs.State.{State, Store, SameBase, version_of}
+use Rattle.segment_theorems.specs.HasMeaning.{HasAnchor, IsKeptBy}
+use Rattle.segment_theorems.specs.Promises.{KeepsMeaning}
+use Rattle.segment_theorems.specs.Shedding.{RemovesDead}
+use Rattle.segment_theorems.proofs.Same.{anchor_as, kept_as}
+use Rattle.segment_theorems.proofs.Shed.{removal_keeps}
 use Rattle.segment_core.specs.Forgetting.{with_store, IsFoldedBelow, DiscardsJust, FoldsImages, FoldsAll, Tidies, HoldsJustKept}
 
 -- just the dead records are gone

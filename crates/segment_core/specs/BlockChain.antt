@@ -3,8 +3,8 @@ use Rattle.std.specs.Prelude.{◌≡◌, ℕ, false, ◌<◌, ◌≤◌, ◌⊎�
 use Rattle.std.specs.List.{Contains}
 use Rattle.redo_core.specs.Data.{RecordData}
 use Rattle.redo_core.specs.Standing.{IsAlive}
-use Rattle.state_laws.specs.State.{State, min_of, version_of}
-use Rattle.state_laws.specs.HasMeaning.{IsLinkedIn, HasComplete}
+use Rattle.segment_theorems.specs.State.{State, min_of, version_of}
+use Rattle.segment_theorems.specs.HasMeaning.{IsLinkedIn, HasComplete}
 use Rattle.segment_core.specs.declared.answers.ReadFault.{ReadFault}
 use Rattle.segment_core.specs.declared.answers.ReadFault.TheVariants.{BrokenBlockChain}
 

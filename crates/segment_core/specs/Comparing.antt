@@ -1,7 +1,7 @@
 -- When a page of one segment is that of another.
 use Rattle.std.specs.Prelude.{◌≡◌, ℕ, ◌↔◌, Bool, IsTrue, List}
-use Rattle.state_laws.specs.State.{State}
-use Rattle.state_laws.specs.Shows.{Shows}
+use Rattle.segment_theorems.specs.State.{State}
+use Rattle.segment_theorems.specs.Shows.{Shows}
 
 -- the two states show one page at their points, whatever images and records they show it from
 abbrev pub TellsSamePage : State → ℕ → State → ℕ → ℕ → Bool → Type 0

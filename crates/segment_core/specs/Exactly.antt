@@ -2,8 +2,8 @@
 use Rattle.std.specs.Prelude.{◌≡◌, ◌⊎◌, Result, Err, OnOk, OnErr, IfOk, IfErr, IsErrAnd}
 use Rattle.redo_core.specs.declared.facts.Fact.{Fact}
 use Rattle.redo_core.specs.declared.refusal.Refused.{Refused}
-use Rattle.state_laws.specs.State.{State}
-use Rattle.state_laws.specs.Promises.{TakesFact}
+use Rattle.segment_theorems.specs.State.{State}
+use Rattle.segment_theorems.specs.Promises.{TakesFact}
 use Rattle.segment_core.specs.Answering.{FaultAlone}
 use Rattle.segment_core.specs.Taking.{TellsKnown, Stores, IsNew}
 use Rattle.segment_core.specs.Refusing.{Refuses}

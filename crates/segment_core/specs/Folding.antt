@@ -4,11 +4,11 @@ use Rattle.redo_core.specs.Position.{Position}
 use Rattle.redo_core.specs.PageAt.{IsPageAt}
 use Rattle.redo_core.specs.declared.facts.Fact.{Fact}
 use Rattle.redo_core.specs.declared.refusal.Refused.{Refused}
-use Rattle.state_laws.specs.State.{State, version_of}
-use Rattle.state_laws.specs.Shows.{Shows}
+use Rattle.segment_theorems.specs.State.{State, version_of}
+use Rattle.segment_theorems.specs.Shows.{Shows}
 use Rattle.page_base.specs.Raising.{Raises}
-use Rattle.state_laws.specs.Shedding.{CommitsImage}
-use Rattle.state_laws.specs.HasMeaning.{HasAnchor}
+use Rattle.segment_theorems.specs.Shedding.{CommitsImage}
+use Rattle.segment_theorems.specs.HasMeaning.{HasAnchor}
 use Rattle.segment_core.specs.BlockChain.{BreaksAt}
 use Rattle.segment_core.specs.declared.answers.ReadFault.{ReadFault}
 use Rattle.segment_core.specs.declared.answers.ReadFault.TheVariants.{BrokenBlockChain, Memory}

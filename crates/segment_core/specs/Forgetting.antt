@@ -9,12 +9,12 @@ use Rattle.redo_core.specs.Meaning.{IsKept}
 use Rattle.redo_core.specs.declared.facts.Fact.{Fact}
 use Rattle.epoch_book.specs.Book.{BookData}
 use Rattle.hot_log.specs.Removing.{IsFolded}
-use Rattle.state_laws.specs.State.{State, Store, StoredImage, state_of, version_of, image_of}
-use Rattle.state_laws.specs.Shows.{Shows}
+use Rattle.segment_theorems.specs.State.{State, Store, StoredImage, state_of, version_of, image_of}
+use Rattle.segment_theorems.specs.Shows.{Shows}
 use Rattle.page_base.specs.Raising.{SamePage}
-use Rattle.state_laws.specs.Means.{MeansAt, Means}
-use Rattle.state_laws.specs.HasMeaning.{HasAnchor, IsKeptBy}
-use Rattle.state_laws.specs.Promises.{KeepsMeaning}
+use Rattle.segment_theorems.specs.Means.{MeansAt, Means}
+use Rattle.segment_theorems.specs.HasMeaning.{HasAnchor, IsKeptBy}
+use Rattle.segment_theorems.specs.Promises.{KeepsMeaning}
 use Rattle.segment_core.specs.Folding.{BreaksBelowAnchor}
 use Rattle.segment_core.specs.declared.answers.ReadFault.{ReadFault}
 use Rattle.segment_core.specs.declared.answers.ReadFault.TheVariants.{BrokenBlockChain, Memory}
@@ -85,7 +85,7 @@ TellsFirstBreak s result =
     (page n : ℕ)
     → (result ≡ Err (BrokenBlockChain page n)) ↔ IsFirstBreak s page n
 
--- why a tidy is refused: the first broken block chain, or, with none broken, want of memory
+-- why a tidy is refused: the first broken block chain, or, with none broken, lack of memory
 abbrev pub RefusesTidy : State → ReadFault → Type 0
 RefusesTidy s (BrokenBlockChain page n) = IsFirstBreak s page n
 RefusesTidy s Memory = IsWhole s

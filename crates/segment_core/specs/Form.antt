@@ -3,7 +3,7 @@ use Rattle.std.specs.Prelude.{◌≤◌}
 use Rattle.epoch_book.specs.Book.{IsBook}
 use Rattle.hot_log.specs.Held.{IsHeld}
 use Rattle.page_base.specs.Stored.{IsStored}
-use Rattle.state_laws.specs.State.{State, min_of}
+use Rattle.segment_theorems.specs.State.{State, min_of}
 
 -- the book has its form; the records are held rising by key; the images rise by page; the base point is not above the minimum
 pub record IsSegment (s : State) : Type 0 where

@@ -4,9 +4,9 @@ use Rattle.std.specs.List.{Contains}
 use Rattle.redo_core.specs.Data.{RecordData}
 use Rattle.redo_core.specs.Standing.{IsAlive}
 use Rattle.page_base.specs.Raising.{Raises}
-use Rattle.state_laws.specs.State.{State, version_of}
-use Rattle.state_laws.specs.Shedding.{CommitsImage}
-use Rattle.state_laws.specs.HasMeaning.{HasAnchor}
+use Rattle.segment_theorems.specs.State.{State, version_of}
+use Rattle.segment_theorems.specs.Shedding.{CommitsImage}
+use Rattle.segment_theorems.specs.HasMeaning.{HasAnchor}
 use Rattle.segment_core.specs.declared.fold_plan.Folded.{Folded}
 use Rattle.segment_core.specs.Folding.{Commits}
 use Rattle.segment_core.specs.Forgetting.{DiscardsJust}

@@ -16,5 +16,8 @@ pub mod Union
 pub mod Comparing
 pub mod Laws
 pub mod Restoring
-pub mod Due
+pub mod PendingPages
 pub mod Gaps
+pub mod Exported
+pub mod InOrder
+pub mod StoredPages

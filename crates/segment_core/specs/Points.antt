@@ -8,7 +8,7 @@ use Rattle.epoch_book.specs.Book.{BookData, IsBook}
 use Rattle.hot_log.specs.Held.{IsHeld}
 use Rattle.hot_log.specs.Putting.{Puts}
 use Rattle.hot_log.specs.declared.log.Put.TheVariants.{New}
-use Rattle.hot_log.specs.Alive.{HasNoneEarlier, IsHeldAlive, IsLinkedFrom, IsStraight}
+use Rattle.hot_log.specs.Alive.{HasNoneEarlier, IsHeldAlive, IsLinkedFrom, IsContiguous}
 use Rattle.segment_core.specs.declared.points.Points.{Points}
 use Rattle.segment_core.specs.declared.points.Spared.{Spared}
 
@@ -32,7 +32,7 @@ points_at from = record { complete = from; anchor = from; straight = true; since
 pub record MoveOn (book : BookData) (held : List RecordData) (old new : Points) : Type 0 where
   pub complete : IsTop book held old.complete new.complete
   pub anchor : IsTopTo book held old.anchor (least book.points) new.anchor
-  pub straight : IsTrue new.straight → IsStraight book held old.complete new.complete
+  pub straight : IsTrue new.straight → IsContiguous book held old.complete new.complete
   pub since : HasNoneEarlier book held new.complete new.since
 
 -- The points of held records over a base point: the complete point is the greatest number linked from there, the anchor the
@@ -45,7 +45,7 @@ pub record HasLowAnchor (book : BookData) (held : List RecordData) (base : ℕ) 
   pub complete : IsTop book held base points.complete
   pub anchor : IsLinkedFrom book held base points.anchor
   pub bound : points.anchor ≤ least book.points
-  pub straight : IsTrue points.straight → IsStraight book held base points.complete
+  pub straight : IsTrue points.straight → IsContiguous book held base points.complete
   pub since : HasNoneEarlier book held points.complete points.since
 
 -- a record that is alive above the base point, and whose backlink is not above the complete point

@@ -4,8 +4,8 @@ use Rattle.redo_core.specs.Position.{Position}
 use Rattle.redo_core.specs.Answer.{IsReadAnswer}
 use Rattle.redo_core.specs.Answer.ReadAnswer.{Image as OfImage, Below as OfBelow, Above as OfAbove}
 use Rattle.redo_core.specs.declared.facts.Fact.{Fact}
-use Rattle.state_laws.specs.State.{State, min_of}
-use Rattle.state_laws.specs.HasMeaning.{HasComplete}
+use Rattle.segment_theorems.specs.State.{State, min_of}
+use Rattle.segment_theorems.specs.HasMeaning.{HasComplete}
 use Rattle.segment_core.specs.declared.answers.Front.{Front}
 use Rattle.segment_core.specs.declared.answers.ReadFault.{ReadFault}
 use Rattle.segment_core.specs.declared.answers.ReadFault.TheVariants.{Below, Above, BrokenBlockChain, Memory}

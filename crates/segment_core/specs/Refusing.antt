@@ -8,16 +8,16 @@ use Rattle.redo_core.specs.declared.facts.Fact.{Fact}
 use Rattle.redo_core.specs.declared.facts.Fact.TheVariants.{Record, Cut, Advance}
 use Rattle.epoch_book.specs.Refusing.{RefusesCut, RefusesAdvance}
 use Rattle.epoch_book.specs.declared.refusals.BookRefusal.TheVariants as book
-use Rattle.state_laws.specs.State.{State}
-use Rattle.state_laws.specs.Means.{Means}
-use Rattle.state_laws.specs.HasMeaning.{IsSettled}
+use Rattle.segment_theorems.specs.State.{State}
+use Rattle.segment_theorems.specs.Means.{Means}
+use Rattle.segment_theorems.specs.HasMeaning.{IsStable}
 use Rattle.segment_core.specs.declared.answers.Refusal.{Refusal}
 use Rattle.segment_core.specs.declared.answers.Refusal.TheVariants.{OtherRoster, OtherCut, Contradiction, OtherRecord}
 
 -- a record that is dead, or alive at or below the anchor, is not compared
 abbrev pub IsDeadOrSettled : State → RecordData → Type 0
 IsDeadOrSettled s r =
-    IsDead s.book.cuts s.book.complete r.epoch r.number ⊎ (IsAlive s.book.cuts s.book.complete r.epoch r.number × IsSettled s r.number)
+    IsDead s.book.cuts s.book.complete r.epoch r.number ⊎ (IsAlive s.book.cuts s.book.complete r.epoch r.number × IsStable s r.number)
 
 -- another record is held under its key
 abbrev pub HoldsOther : State → RecordData → Type 0

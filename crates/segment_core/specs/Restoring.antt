@@ -4,7 +4,7 @@ use Rattle.std.specs.List.{Contains}
 use Rattle.redo_core.specs.Data.{RecordData}
 use Rattle.redo_core.specs.Book.{BookData}
 use Rattle.page_base.specs.Adopting.{first_given}
-use Rattle.state_laws.specs.State.{State, Store, version_of, image_of}
+use Rattle.segment_theorems.specs.State.{State, Store, version_of, image_of}
 
 -- no image is stored, and each page is zeros at version 0
 abbrev pub no_images : Store

@@ -5,8 +5,8 @@ use Rattle.std.specs.List.{filter}
 use Rattle.redo_core.specs.Book.{BookData}
 use Rattle.redo_core.specs.declared.keys.Key.{Key}
 use Rattle.redo_core.specs.Data.{RecordData}
-use Rattle.state_laws.specs.State.{State, state_of}
-use Rattle.segment_core.specs.Due.{DueData, HasDue}
+use Rattle.segment_theorems.specs.State.{State, state_of}
+use Rattle.segment_core.specs.PendingPages.{PendingData, HasPending}
 use Rattle.segment_core.specs.Form.{IsSegment}
 use Rattle.segment_core.specs.Points.{HasPoints}
 use Rattle.segment_core.specs.declared.points.Points.{Points}
@@ -15,7 +15,7 @@ use Rattle.segment_core.specs.declared.points.Points.{Points}
 pub record SavepointData : Type 0 where
   pub book : BookData
   pub points : Points
-  pub due : DueData
+  pub due : PendingData
   pub came : List Key
 
 -- one key more is noted
@@ -40,16 +40,16 @@ pub record Began : Type 0 where
   pub lent : GName
   pub state : State
   pub points : Points
-  pub due : DueData
+  pub due : PendingData
 
 abbrev pub began_by : GName → SavepointData → State → Began
 began_by lent saved s = record { lent = lent; state = brought_back saved s; points = saved.points; due = saved.due }
 
 -- the state has the form of a segment's, and these are its points and its due pages
-pub record IsFormOf (s : State) (points : Points) (due : DueData) : Type 0 where
+pub record IsFormOf (s : State) (points : Points) (due : PendingData) : Type 0 where
   pub form : IsSegment s
   pub points_are : HasPoints s.book s.held s.base points
-  pub due_are : HasDue s.book s.held s.store due
+  pub due_are : HasPending s.book s.held s.store due
 
 abbrev pub CanRollBack : Began → Type 0
 CanRollBack b = IsFormOf b.state b.points b.due

@@ -1,7 +1,7 @@
 -- How a record of an epoch and number stands in a segment.
 use Rattle.std.specs.Prelude.{◌≡◌, ℕ, ◌↔◌}
 use Rattle.redo_core.specs.Standing.{IsAlive, IsDead, IsWaiting}
-use Rattle.state_laws.specs.State.{State}
+use Rattle.segment_theorems.specs.State.{State}
 use Rattle.epoch_book.specs.declared.standing.Standing.{Standing}
 use Rattle.epoch_book.specs.declared.standing.Standing.TheVariants.{Alive, Dead, Waiting}
 

@@ -5,10 +5,10 @@ use Rattle.redo_core.specs.Sound.{IsSound}
 use Rattle.redo_core.specs.Meaning.{Meaning, IsMeaning}
 use Rattle.redo_core.specs.declared.facts.Fact.{Fact}
 use Rattle.redo_core.specs.declared.facts.Fact.TheVariants.{Record, Cut, Advance}
-use Rattle.state_laws.specs.State.{State}
-use Rattle.state_laws.specs.Means.{Means}
-use Rattle.state_laws.specs.Known.{IsKnown}
-use Rattle.state_laws.specs.Learning.{StoresCut, StoresAdvance, PutsRecord}
+use Rattle.segment_theorems.specs.State.{State}
+use Rattle.segment_theorems.specs.Means.{Means}
+use Rattle.segment_theorems.specs.Known.{IsKnown}
+use Rattle.segment_theorems.specs.Learning.{StoresCut, StoresAdvance, PutsRecord}
 use Rattle.segment_core.specs.declared.answers.Taken.{Taken}
 use Rattle.segment_core.specs.declared.answers.Taken.TheVariants.{Unchanged}
 

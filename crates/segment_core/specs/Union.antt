@@ -1,7 +1,7 @@
 -- A segment that is brought into a union: what it began with, and how far it has come.
-use Rattle.state_laws.specs.State.{State}
+use Rattle.segment_theorems.specs.State.{State}
 use Rattle.segment_core.specs.Savepoint.{Began, began_by}
-use Rattle.segment_core.specs.declared.union.Union.{Union}
+use Rattle.segment_core.specs.declared.merge_transaction.MergeTransaction.{Union}
 
 -- what the union began with, which rolling back leads to
 abbrev pub began : Union → Began

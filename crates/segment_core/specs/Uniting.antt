@@ -3,7 +3,7 @@ use Rattle.std.specs.Prelude.{◌≡◌, ℕ, ◌⊎◌, List, max}
 use Rattle.std.specs.List.{Contains}
 use Rattle.redo_core.specs.Data.{RecordData}
 use Rattle.page_base.specs.Merging.{Merges}
-use Rattle.state_laws.specs.State.{State, StoredImage, SameBase}
+use Rattle.segment_theorems.specs.State.{State, StoredImage, SameBase}
 use Rattle.segment_core.specs.Refusing.{HoldsOther}
 
 -- the record is held, or another one is under its key; nothing else changes

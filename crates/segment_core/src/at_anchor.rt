@@ -1,6 +1,6 @@
 ghost use Rattle.std.specs.Prelude.{ℕ, IfOk, IfSome};
-ghost use Rattle.state_laws.specs.HasMeaning.{HasAnchor};
-ghost use Rattle.state_laws.specs.Shows.{Shows};
+ghost use Rattle.segment_theorems.specs.HasMeaning.{HasAnchor};
+ghost use Rattle.segment_theorems.specs.Shows.{Shows};
 
 use crate::segment::Segment;
 use redo_core::SharedPage;
@@ -8,7 +8,7 @@ use std::alloc::AllocError;
 
 impl Segment {
     /// The page at the anchor, as the held records up to there make it from its image: where none is applied, the image itself, shared.
-    /// Its block chain is not walked. Its only error is want of memory.
+    /// Its block chain is not walked. It fails only if memory runs out.
     pub fn page_at_anchor(&self, page: u16) -> Result<SharedPage, AllocError>
         ensures { (anchor : ℕ) → HasAnchor self.now anchor → IfOk result (λ image. Shows self.now page anchor image) }
     {

@@ -1,6 +1,6 @@
 ghost use Rattle.std.specs.Prelude.{◌≡◌, ℕ, ◌↔◌, IsTrue, IfOk};
-ghost use Rattle.state_laws.specs.State.{image_of};
-ghost use Rattle.state_laws.specs.Shows.{Shows};
+ghost use Rattle.segment_theorems.specs.State.{image_of};
+ghost use Rattle.segment_theorems.specs.Shows.{Shows};
 ghost use Rattle.segment_core.specs.Comparing.{TellsSamePage};
 
 use crate::segment::Segment;
@@ -10,7 +10,7 @@ use std::alloc::AllocError;
 
 impl Segment {
     /// Whether a page at a point is that of another segment at a point of its own. Where the base images show both, they are
-    /// compared where they stand. Its only error is want of memory.
+    /// compared where they stand. It fails only if memory runs out.
     pub fn is_same_page(
         &self,
         page: u16,

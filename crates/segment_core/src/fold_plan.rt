@@ -15,7 +15,7 @@ pub struct Folded {
 }
 
 impl Folded {
-    /// An equal fold with memory of its own. Its only error is want of memory.
+    /// An equal fold with memory of its own. It fails only if memory runs out.
     pub fn copy(&self) -> Result<Self, AllocError>
         ensures { IfOk result (λ folded. folded ≡ self.now) }
     {

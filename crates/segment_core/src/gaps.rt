@@ -2,7 +2,7 @@ ghost use Rattle.std.specs.Prelude.{ℕ, List};
 ghost use Rattle.redo_core.specs.Position.{Position};
 ghost use Rattle.redo_core.specs.Sound.{IsSound};
 ghost use Rattle.redo_core.specs.declared.facts.Fact.{Fact as AnyFact};
-ghost use Rattle.state_laws.specs.Means.{MeansAt};
+ghost use Rattle.segment_theorems.specs.Means.{MeansAt};
 ghost use Rattle.segment_core.specs.Gaps.{IsGapAt, IsGapOf};
 ghost use Rattle.segment_core.specs.Form.{IsSegment};
 

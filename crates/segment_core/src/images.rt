@@ -1,5 +1,5 @@
 ghost use Rattle.std.specs.Prelude.{◌≡◌, ◌≤◌, OnOk, OnErr, IfErr};
-ghost use Rattle.state_laws.specs.State.{min_of};
+ghost use Rattle.segment_theorems.specs.State.{min_of};
 ghost use Rattle.segment_core.specs.Adopting.{AdoptsBase};
 ghost use Rattle.segment_core.specs.Uniting.{Unites, RaisesBase};
 
@@ -13,7 +13,7 @@ impl Segment {
     /// Raises the base point to `base` where that is higher, and adopts base images: each page of a version below `base` takes
     /// the first image given for it, or zeros, at `base`.
     ///
-    /// `base` is a number of the log, at most the minimum read point. Its only error is want of memory: the segment is then as
+    /// `base` is a number of the log, at most the minimum read point. It fails only if memory runs out: the segment is then as
     /// it was, and the images come back.
     pub fn adopt(
         &mut self,
@@ -38,7 +38,7 @@ impl Segment {
     /// Raises the base point to `base`, and takes in images: each is raised to its version, and then each page below `floor` to it,
     /// as zeros.
     ///
-    /// `base` is at most the minimum read point. The only error is want of memory: the segment is then as it was.
+    /// `base` is at most the minimum read point. The only error is lack of memory: the segment is then as it was.
     pub fn unite(&mut self, base: u64, floor: u64, images: Vec<BaseImage>) -> Result<(), AllocError>
         requires { base ≤ min_of self.old }
         ensures unites { OnOk result (Unites self.old base floor images.items self.new) }

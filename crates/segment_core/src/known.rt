@@ -1,7 +1,7 @@
 ghost use Rattle.std.specs.Prelude.{◌↔◌, ℕ, IsTrue};
 ghost use Rattle.std.specs.List.{Contains};
 ghost use Rattle.redo_core.specs.declared.facts.Fact.TheVariants.{Advance as OfAdvance};
-ghost use Rattle.state_laws.specs.Known.{IsKnown};
+ghost use Rattle.segment_theorems.specs.Known.{IsKnown};
 
 use crate::segment::Segment;
 use redo_core::{Advance, Cut};

@@ -15,7 +15,7 @@ use redo_core::{MAX_NUMBER, Record};
 /// The complete point and the anchor of a segment, and whether the chain of its alive records is known to be straight from the
 /// base point to the complete point: without a fork and without a stray, as it is over a sound log.
 ///
-/// Over a straight chain the points move forward from where they stand; over any other they are taken anew. No alive record above the
+/// Over a straight chain the points move forward from where they are; over any other they are computed again. No alive record above the
 /// complete point is of an epoch before `since`: so no search above it visits the dead records of those epochs.
 #[derive(Clone, Copy)]
 pub(crate) struct Points {
@@ -48,7 +48,7 @@ impl Points {
         start.onward(view)
     }
 
-    /// The points from where they stand on.
+    /// The points from where they are.
     fn onward(self, view: &View) -> Points
         requires complete { self.complete ≤ max_number }
         requires anchor { self.anchor ≤ least view.now.book.now.points }
@@ -93,7 +93,7 @@ impl Points {
         }
     }
 
-    /// The points over a base point that is raised: where they stood, if that is the anchor of a straight chain, and else anew.
+    /// The points over a base point that is raised: where they were, if that is the anchor of a straight chain, and else computed again.
     pub(crate) fn over(self, view: &View, base: u64, raised: u64) -> Points
         requires points { seen_in view.now HasPoints base self }
         requires bound { raised ≤ least view.now.book.now.points }

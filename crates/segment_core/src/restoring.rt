@@ -5,7 +5,7 @@ ghost use Rattle.page_base.specs.Adopting.{Adopts, StoresJust};
 ghost use Rattle.page_base.specs.Stored.{IsStored};
 ghost use Rattle.segment_core.specs.Restoring.{IsMadeOf, Gains, GainsEach, no_images};
 
-use crate::due::Due;
+use crate::pending::PendingPages;
 use crate::points::Points;
 use crate::segment::Segment;
 use epoch_book::EpochBook;
@@ -18,7 +18,7 @@ impl Segment {
     /// A segment of a book that holds these records, and whose pages are those given, and zeros else, at the base point.
     ///
     /// `base` is a number of the log, at most the minimum read point, and at base 0 there are no pages; the records rise by key.
-    /// Its only error is want of memory.
+    /// It fails only if memory runs out.
     pub fn restore(
         alloc: Global,
         book: EpochBook,
@@ -39,7 +39,7 @@ impl Segment {
             held: &hot,
         };
         let points = Points::anew(&view, base);
-        let mut due = Due::new(alloc);
+        let mut due = PendingPages::new(alloc);
         due.add_images(&store);
         Ok(Segment {
             alloc,

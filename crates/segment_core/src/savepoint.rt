@@ -7,7 +7,7 @@ ghost use Rattle.redo_core.specs.declared.keys.Key.{Key};
 ghost use Rattle.hot_log.specs.Held.{IsHeld};
 ghost use Rattle.segment_core.specs.Savepoint.{SavepointData, IsFormOf, IsSavepointOf, NotesKey, brought_back};
 
-use crate::due::Due;
+use crate::pending::PendingPages;
 use crate::points::Points;
 use crate::segment::Segment;
 use epoch_book::EpochBook;
@@ -22,7 +22,7 @@ use std::mem;
 pub struct Savepoint {
     book: EpochBook,
     points: Points,
-    due: Due,
+    due: PendingPages,
     came: Vec<Key>,
 }
 
@@ -35,7 +35,7 @@ impl Model for Savepoint {
 }
 
 impl Savepoint {
-    /// Notes a key. Its only error is want of memory; what is noted is then as it was.
+    /// Notes a key. It fails only if memory runs out; what is noted is then as it was.
     pub(crate) fn note(&mut self, key: Key) -> Result<(), AllocError>
         ensures notes { OnOk result (NotesKey self.old key self.new) }
         ensures unchanged { OnErr result (self.new ≡ self.old) }
@@ -55,7 +55,7 @@ impl Savepoint {
 }
 
 impl Segment {
-    /// What a union of the segment as it is can be begun with. Its only error is want of memory.
+    /// What a union of the segment as it is can be begun with. It fails only if memory runs out.
     pub fn savepoint(&self) -> Result<Savepoint, AllocError>
         ensures { IfOk result (IsSavepointOf self.now) }
     {

@@ -5,12 +5,12 @@ ghost use Rattle.redo_core.specs.Position.{Position};
 ghost use Rattle.redo_core.specs.Sound.{IsSound};
 ghost use Rattle.redo_core.specs.declared.facts.Fact.{Fact as AnyFact};
 ghost use Rattle.redo_core.specs.declared.facts.Fact.TheVariants.{Record as OfRecord, Cut as OfCut, Advance as OfAdvance};
-ghost use Rattle.state_laws.specs.State.{State, SameBase, empty_state, image_of};
-ghost use Rattle.state_laws.specs.Means.{MeansAt, Means};
-ghost use Rattle.state_laws.specs.HasMeaning.{HasAnchor, IsSettled};
+ghost use Rattle.segment_theorems.specs.State.{State, SameBase, empty_state, image_of};
+ghost use Rattle.segment_theorems.specs.Means.{MeansAt, Means};
+ghost use Rattle.segment_theorems.specs.HasMeaning.{HasAnchor, IsStable};
 ghost use Rattle.redo_core.specs.Writing.{after_records};
-ghost use Rattle.state_laws.specs.Shows.{Shows};
-ghost use Rattle.state_laws.specs.Promises.{TakesFact};
+ghost use Rattle.segment_theorems.specs.Shows.{Shows};
+ghost use Rattle.segment_theorems.specs.Promises.{TakesFact};
 ghost use Rattle.segment_core.specs.Taking.{TellsChange, TellsKnown, Stores, IsNew};
 ghost use Rattle.redo_core.specs.Linked.{IsLinked};
 ghost use Rattle.segment_core.specs.Form.{IsSegment};
@@ -31,7 +31,7 @@ ghost use Rattle.segment_core.specs.declared.answers.Taken.TheVariants.{Changed 
 
 use crate::answers::{Front, ReadFault, Refusal, Taken};
 use crate::cutting::lo_opened_by;
-use crate::due::Due;
+use crate::pending::PendingPages;
 use crate::points::Points;
 use crate::putting::put_record;
 use epoch_book::{BookRefusal, EpochBook, Learnt, Standing};
@@ -56,28 +56,28 @@ pub struct Segment {
     pub(crate) base: u64,
     pub(crate) store: BaseStore,
     pub(crate) points: Points,
-    pub(crate) due: Due,
+    pub(crate) due: PendingPages,
 }
 
 impl Model for Segment {
-    ghost use Rattle.state_laws.specs.State.{State, state_of};
+    ghost use Rattle.segment_theorems.specs.State.{State, state_of};
     ghost use Rattle.epoch_book.specs.Book.{IsBook};
     ghost use Rattle.std.specs.Prelude.{◌≤◌};
     ghost use Rattle.hot_log.specs.Held.{IsHeld};
     ghost use Rattle.page_base.specs.Stored.{IsStored};
     ghost use Rattle.redo_core.specs.Roster.{least};
     ghost use Rattle.segment_core.specs.Points.{HasPoints};
-    ghost use Rattle.segment_core.specs.Due.{HasDue};
+    ghost use Rattle.segment_core.specs.PendingPages.{HasPending};
 
     ghost Value = { State };
 
     ghost view = { λ s. state_of s.book s.hot s.base s.store };
 
-    ghost invariant = { λ s. IsBook s.book × IsHeld s.hot × IsStored s.store × (s.base ≤ least s.book.points) × HasPoints s.book s.hot s.base s.points × HasDue s.book s.hot s.store s.due };
+    ghost invariant = { λ s. IsBook s.book × IsHeld s.hot × IsStored s.store × (s.base ≤ least s.book.points) × HasPoints s.book s.hot s.base s.points × HasPending s.book s.hot s.store s.due };
 }
 
 impl Segment {
-    /// A segment of a roster of readers, that no fact has reached. Its only error is want of memory.
+    /// A segment of a roster of readers, that no fact has reached. It fails only if memory runs out.
     pub fn new(alloc: Global, roster: Roster) -> Result<Self, AllocError>
         ensures empty { IfOk result (λ s. s ≡ empty_state roster) }
         ensures means { IfOk result (λ s. (log : List AnyFact) → Means roster log [] s) }
@@ -96,11 +96,11 @@ impl Segment {
             base: 0,
             store: BaseStore::new(alloc),
             points,
-            due: Due::new(alloc),
+            due: PendingPages::new(alloc),
         })
     }
 
-    /// An equal segment with memory of its own. Its only error is want of memory.
+    /// An equal segment with memory of its own. It fails only if memory runs out.
     pub fn copy(&self) -> Result<Self, AllocError>
         ensures { IfOk result (λ s. s ≡ self.now) }
     {
@@ -200,7 +200,7 @@ impl Segment {
     }
 
     /// Whether a record is dead, or alive at or below the anchor: such a record is not compared, and a take of it changes nothing.
-    pub fn is_settled(&self, redo: &Record) -> bool
+    pub fn is_stable(&self, redo: &Record) -> bool
         ensures { IsTrue result ↔ IsDeadOrSettled self.now redo.now }
     {
         match self.book.stands(redo.epoch(), redo.number()) {
@@ -324,7 +324,7 @@ impl Segment {
     pub(crate) fn take_record(&mut self, redo: Record) -> Result<Taken, Refused<Fact, Refusal>>
         ensures { TakesExactly self.old (OfRecord redo) result self.new }
     {
-        if self.is_settled(&redo) {
+        if self.is_stable(&redo) {
             return Ok(Taken::Unchanged);
         }
         put_answer(self.put(redo))

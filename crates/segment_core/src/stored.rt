@@ -10,8 +10,8 @@ ghost use Rattle.hot_log.specs.Missing.{IsMissing};
 ghost use Rattle.hot_log.specs.Paged.{PlaceBefore};
 ghost use Rattle.hot_log.specs.Kept.{ListsKeysOf};
 ghost use Rattle.page_base.specs.Stored.{IsStored};
-ghost use Rattle.state_laws.specs.HasMeaning.{IsKeptBy};
-ghost use Rattle.state_laws.specs.State.{version_of, image_of};
+ghost use Rattle.segment_theorems.specs.HasMeaning.{IsKeptBy};
+ghost use Rattle.segment_theorems.specs.State.{version_of, image_of};
 
 use crate::segment::Segment;
 use hot_log::View;
@@ -25,7 +25,7 @@ impl Segment {
         self.alloc
     }
 
-    /// The keys of the records held, rising. Its only error is want of memory.
+    /// The keys of the records held, rising. It fails only if memory runs out.
     pub fn stored(&self) -> Result<Vec<Key>, AllocError>
         ensures keys { IfOk result (λ v. v.items ≡ map key_of self.now.held) }
         ensures rising { IsRising RecordBefore self.now.held }
@@ -39,7 +39,7 @@ impl Segment {
         Ok(keys)
     }
 
-    /// The keys of the held records that wait, or are alive above a point, rising. Its only error is want of memory.
+    /// The keys of the held records that wait, or are alive above a point, rising. It fails only if memory runs out.
     pub fn kept_keys(&self, point: u64) -> Result<Vec<Key>, AllocError>
         ensures keys { IfOk result (λ v. ListsKeysOf (IsKeptBy self.now point) v.items) }
         ensures rising { IsRising RecordBefore self.now.held }
@@ -49,7 +49,7 @@ impl Segment {
     }
 
     /// The held records that wait, or are alive above a point, and whose keys are not among the ones given, which rise; rising by key.
-    /// Its only error is want of memory.
+    /// It fails only if memory runs out.
     pub fn kept_unlisted(&self, point: u64, keys: &[Key]) -> Result<Vec<&Record>, AllocError>
         requires { IsRising KeyBefore keys.now }
         ensures { IfOk result (λ v. Lists RecordBefore (λ r. IsKeptBy self.now point r × (Contains keys.now (key_of r) → ⊥)) (map (λ x. x.now) v.items)) }
@@ -118,7 +118,7 @@ impl Segment {
         self.store.floor()
     }
 
-    /// A copy of a page's base image. Its only error is want of memory.
+    /// A copy of a page's base image. It fails only if memory runs out.
     pub fn image(&self, page: u16) -> Result<Page, AllocError>
         ensures { IfOk result (λ image. image ≡ image_of self.now.store page) }
     {
@@ -139,14 +139,14 @@ impl Segment {
         self.hot.len()
     }
 
-    /// The records that another segment holds and this one does not, by page, and within a page by key. Its only error is want of memory.
+    /// The records that another segment holds and this one does not, by page, and within a page by key. It fails only if memory runs out.
     pub fn missing_by_page<'a>(&self, other: &'a Segment) -> Result<Vec<&'a Record>, AllocError>
         ensures { IfOk result (λ v. Lists PlaceBefore (IsMissing self.now.held other.now.held) (map (λ x. x.now) v.items)) }
     {
         self.hot.missing_by_page(self.alloc, &other.hot)
     }
 
-    /// The alive records of a page with a number above `from` and at most `to`, in order. Its only error is want of memory.
+    /// The alive records of a page with a number above `from` and at most `to`, in order. It fails only if memory runs out.
     pub fn records_of(&self, page: u16, from: u64, to: u64) -> Result<Vec<&Record>, AllocError>
         ensures { IfOk result (λ v. Lists BeforeByNumber (IsHeldOf self.now.book self.now.held page from to) (map (λ x. x.now) v.items)) }
     {

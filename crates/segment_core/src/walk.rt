@@ -5,8 +5,8 @@ ghost use Rattle.redo_core.specs.Sound.{IsSound};
 ghost use Rattle.redo_core.specs.declared.facts.Fact.{Fact as AnyFact};
 ghost use Rattle.hot_log.specs.Anew.{ListsAnew};
 ghost use Rattle.hot_log.specs.Found.{IsGreatestRecord, IsOnlyRecord};
-ghost use Rattle.state_laws.specs.Means.{MeansAt};
-ghost use Rattle.state_laws.specs.Shows.{IsApplied};
+ghost use Rattle.segment_theorems.specs.Means.{MeansAt};
+ghost use Rattle.segment_theorems.specs.Shows.{IsApplied};
 ghost use Rattle.segment_core.specs.Form.{IsSegment};
 ghost use Rattle.segment_core.specs.BlockChain.{BreaksAt, IsLinkedOf, IsLinkedUpTo, IsChained};
 
@@ -17,14 +17,14 @@ use std::alloc::AllocError;
 
 impl Segment {
     /// The records that are applied to the page's image up to a point, rising, from the last one on that begins the page anew where
-    /// one does. Its only error is want of memory.
+    /// one does. It fails only if memory runs out.
     pub(crate) fn records_at(&self, page: u16, point: u64) -> Result<Vec<&Record>, AllocError>
         ensures anew { IfOk result (λ v. ListsAnew (IsApplied self.now page point) (map (λ x. x.now) v.items)) }
         ensures form { IsSegment self.now }
     {
         let version = self.store.version(page);
         let (book, held) = (&self.book, &self.hot);
-        View { book, held }.records_anew(self.alloc, page, version, point)
+        View { book, held }.records_since_init(self.alloc, page, version, point)
     }
 
     /// The number of the record at which the walk down the page's block chain breaks, where these records are applied up to the point.

@@ -11,17 +11,17 @@ use Rattle.redo_core.specs.Meaning.{Meaning, ImageData, ImageBefore}
 use Rattle.redo_core.proofs.Members.{rising_unique, lists_unique}
 use Rattle.redo_core.proofs.Pairs.{pair_apart, advance_apart}
 use Rattle.redo_core.proofs.CompleteEpochs.{one_complete_epoch}
-use Rattle.redo_laws.specs.OrderOfMeanings.{Covers, CoversAt}
-use Rattle.redo_laws.proofs.Meanings.{list_eq, record_of_meaning}
-use Rattle.state_laws.specs.State.{State}
-use Rattle.state_laws.specs.Shows.{Shows}
-use Rattle.state_laws.specs.HasMeaning.{HasAnchor, HasMeaning}
-use Rattle.state_laws.specs.Laws.{SameMeaning}
+use Rattle.log_theorems.specs.OrderOfMeanings.{Covers, CoversAt}
+use Rattle.log_theorems.proofs.Meanings.{list_eq, record_of_meaning}
+use Rattle.segment_theorems.specs.State.{State}
+use Rattle.segment_theorems.specs.Shows.{Shows}
+use Rattle.segment_theorems.specs.HasMeaning.{HasAnchor, HasMeaning}
+use Rattle.segment_theorems.specs.Laws.{SameMeaning}
 use Rattle.segment_core.specs.Form.{IsSegment}
 use Rattle.segment_join.specs.Sameness.{ShowOne, TellsPages, TellsSame, SameByParts}
-use Rattle.segment_told.proofs.StoredCuts.{same_cuts}
-use Rattle.segment_told.proofs.Scanning.{of_member}
-use Rattle.segment_told.proofs.BarePages.{shows_some}
+use Rattle.segment_core.proofs.StoredCuts.{same_cuts}
+use Rattle.segment_core.proofs.Scanning.{of_member}
+use Rattle.segment_core.proofs.BarePages.{shows_some}
 use Rattle.segment_core.proofs.OneView.{one_anchor}
 use Rattle.segment_core.proofs.SamePages.{shows_one}
 

@@ -4,7 +4,7 @@ use Rattle.redo_core.specs.Data.{RecordData}
 use Rattle.redo_core.specs.Writes.{WriteData}
 use Rattle.redo_core.specs.declared.patches.Patch.{Patch}
 use Rattle.redo_core.specs.declared.patches.Patch.TheVariants.{Bytes, Fill}
-use Rattle.redo_laws.proofs.Deciding.{Settled, settled_eq, settled_and, settled_by}
+use Rattle.log_theorems.proofs.Deciding.{Settled, settled_eq, settled_and, settled_by}
 
 settled_bool : (a b : Bool) → Settled (a ≡ b)
 settled_bool a b = search rules

@@ -11,15 +11,15 @@ use Rattle.redo_core.specs.Position.{Position}
 use Rattle.redo_core.specs.Meaning.{Meaning, IsMeaningAt, IsKept}
 use Rattle.redo_core.specs.declared.facts.Fact.{Fact}
 use Rattle.redo_core.proofs.FactParts.{part_records}
-use Rattle.redo_laws.specs.OrderOfMeanings.{CoversAt}
+use Rattle.log_theorems.specs.OrderOfMeanings.{CoversAt}
 use Rattle.redo_core.proofs.Numbers.{greatest_unique}
 use Rattle.redo_core.proofs.CompleteEpochs.{has_cuts}
-use Rattle.redo_laws.proofs.Log.{IsLog, log_of_sound}
-use Rattle.redo_laws.proofs.Views.{alive_up}
-use Rattle.redo_laws.proofs.Deciding.{settled_lt}
-use Rattle.redo_laws.proofs.Fronts.{same_sym}
-use Rattle.redo_laws.proofs.Meanings.{meaning_unique}
-use Rattle.redo_laws.proofs.Alike.{Matters, Alike, alive_by, matters_by, cuts_to_by, meaning_alike, has_below}
+use Rattle.log_theorems.proofs.Log.{IsLog, log_of_sound}
+use Rattle.log_theorems.proofs.Views.{alive_up}
+use Rattle.log_theorems.proofs.Deciding.{settled_lt}
+use Rattle.log_theorems.proofs.Fronts.{same_sym}
+use Rattle.log_theorems.proofs.Meanings.{meaning_unique}
+use Rattle.log_theorems.proofs.Alike.{Matters, Alike, alive_by, matters_by, cuts_to_by, meaning_alike, has_below}
 use Rattle.segment_join.specs.Laws.{Antisymmetry}
 use Rattle.segment_join.proofs.Agreeing.{at_most_both}
 

@@ -8,14 +8,14 @@ use Rattle.redo_core.specs.Book.{BookData}
 use Rattle.redo_core.specs.declared.facts.Fact.{Fact}
 use Rattle.redo_core.specs.declared.facts.Fact.TheVariants.{Record}
 use Rattle.redo_core.proofs.Members.{none_in, here, there}
-use Rattle.state_laws.specs.State.{State}
-use Rattle.state_laws.specs.Known.{IsKnown}
-use Rattle.state_laws.specs.Learning.{PutsRecord}
-use Rattle.segment_told.specs.Told.{book_facts, facts_told}
-use Rattle.segment_told.specs.InOrder.{TakesOne, TakesEach}
-use Rattle.segment_told.proofs.TakingAll.{IsLate, leaves_all}
-use Rattle.segment_told.proofs.ToldFacts.{listed_record}
-use Rattle.segment_told.proofs.TellingAll.{in_two}
+use Rattle.segment_theorems.specs.State.{State}
+use Rattle.segment_theorems.specs.Known.{IsKnown}
+use Rattle.segment_theorems.specs.Learning.{PutsRecord}
+use Rattle.segment_core.specs.Exported.{book_facts, exported_facts}
+use Rattle.segment_core.specs.InOrder.{TakesOne, TakesEach}
+use Rattle.segment_core.proofs.TakingAll.{IsLate, leaves_all}
+use Rattle.segment_core.proofs.ToldFacts.{listed_record}
+use Rattle.segment_core.proofs.TellingAll.{in_two}
 
 -- the records that a state holds more than another one are of a list, and none is dead in its view
 pub record Brings (s : State) (rs : List RecordData) (t : State) : Type 0 where
@@ -75,11 +75,11 @@ takes_apart s u (f ∷ fs) gs takes = let rest = takes_apart takes.0 u fs gs tak
 -- a book tells no record
 no_record : (b : BookData) (r : RecordData) → Contains (book_facts b) (Record r) → ⊥
 no_record b r h =
-    none_in r ((listed_record b [] (facts_told b []) refl r).0
+    none_in r ((listed_record b [] (exported_facts b []) refl r).0
     (subst (λ fs. Contains fs (Record r)) (in_two b []) (Contains-append_left (book_facts b) [] (Record r) h)))
 
 -- what a book and records tell brings in only records of the list that are not dead then
-pub brings_told : (s : State) (b : BookData) (rs : List RecordData) (t : State) → IsLate s → TakesEach s (facts_told b rs) t → (r : RecordData)
+pub brings_told : (s : State) (b : BookData) (rs : List RecordData) (t : State) → IsLate s → TakesEach s (exported_facts b rs) t → (r : RecordData)
     → Contains t.held r → Contains s.held r ⊎ (Contains rs r × (IsDead t.book.cuts t.book.complete r.epoch r.number → ⊥))
 brings_told s b rs t late takes r h =
     let parts = takes_apart s t (book_facts b) (map Record rs) (subst (λ fs. TakesEach s fs t) (sym (in_two b rs)) takes) in

@@ -6,14 +6,14 @@ use Rattle.redo_core.specs.Roster.{point_of}
 use Rattle.redo_core.specs.CompleteEpoch.{IsCompleteEpoch}
 use Rattle.redo_core.specs.Standing.{IsDead}
 use Rattle.redo_core.specs.Meaning.{Meaning}
-use Rattle.redo_laws.specs.OrderOfMeanings.{Covers, CoversAt, OrderByParts}
+use Rattle.log_theorems.specs.OrderOfMeanings.{Covers, CoversAt, OrderByParts}
 use Rattle.redo_core.proofs.CompleteEpochs.{one_complete_epoch}
-use Rattle.state_laws.specs.State.{State}
-use Rattle.state_laws.specs.HasMeaning.{HasAnchor, IsKeptBy, HasMeaning}
-use Rattle.state_laws.specs.Laws.{SameMeaning}
+use Rattle.segment_theorems.specs.State.{State}
+use Rattle.segment_theorems.specs.HasMeaning.{HasAnchor, IsKeptBy, HasMeaning}
+use Rattle.segment_theorems.specs.Laws.{SameMeaning}
 use Rattle.segment_core.specs.Form.{IsSegment}
 use Rattle.segment_join.specs.Covering.{CoversState, CoversByParts}
-use Rattle.segment_told.proofs.StoredCuts.{same_cuts}
+use Rattle.segment_core.proofs.StoredCuts.{same_cuts}
 use Rattle.segment_core.proofs.OneView.{one_anchor}
 
 pub to_meanings : (anchor : ℕ) (upper : State) (base : ℕ) (lower : State) (y x : Meaning)

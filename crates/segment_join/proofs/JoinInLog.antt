@@ -4,22 +4,22 @@ use Rattle.redo_core.specs.Sound.{IsSound}
 use Rattle.redo_core.specs.Book.{roster_of}
 use Rattle.redo_core.specs.declared.facts.Fact.{Fact}
 use Rattle.redo_core.proofs.FactParts.{record_in, cut_in, advance_in}
-use Rattle.redo_laws.proofs.Log.{log_of_sound}
-use Rattle.state_laws.specs.State.{State}
-use Rattle.state_laws.specs.Means.{MeansAt, Means}
-use Rattle.state_laws.proofs.Joining.{join_law}
-use Rattle.state_laws.proofs.Booked.{points_as, epoch_of}
+use Rattle.log_theorems.proofs.Log.{log_of_sound}
+use Rattle.segment_theorems.specs.State.{State}
+use Rattle.segment_theorems.specs.Means.{MeansAt, Means}
+use Rattle.segment_theorems.proofs.Joining.{join_law}
+use Rattle.segment_theorems.proofs.Booked.{points_as, epoch_of}
 use Rattle.segment_core.specs.declared.answers.Refusal.{Refusal}
 use Rattle.segment_core.specs.declared.answers.Refusal.TheVariants.{OtherRoster}
-use Rattle.segment_told.specs.Told.{AreTold}
-use Rattle.segment_told.specs.InOrder.{RefusesOne}
+use Rattle.segment_core.specs.Exported.{AreExported}
+use Rattle.segment_core.specs.InOrder.{RefusesOne}
 use Rattle.segment_join.specs.Joining.{MeansUnion, AreOfOneLog, RefusesJoin, JoinsInto}
-use Rattle.segment_told.proofs.ToldInLog.{TellsPart, none_of_part}
+use Rattle.segment_core.proofs.ToldInLog.{TellsPart, none_of_part}
 use Rattle.segment_join.proofs.JoinedStates.{HaveOneRecordAKey, joins_whole}
 
 module _ (roster : ℕ) (log : List Fact) (sound : IsSound roster log) where
   -- ---- what a state of the log tells
-  module _ (other : State) (facts G : List Fact) (means : Means roster log G other) (told : AreTold other facts) where
+  module _ (other : State) (facts G : List Fact) (means : Means roster log G other) (told : AreExported other facts) where
     m : MeansAt roster log G means.0 other
     m = means.1
 
@@ -40,7 +40,7 @@ module _ (roster : ℕ) (log : List Fact) (sound : IsSound roster log) where
   not_refused s other F G a b why r =
       ⊎_elim
       (λ (x : (roster_of s.book ≢ roster_of other.book) × (why ≡ OtherRoster (roster_of s.book) (roster_of other.book))). x.0 (a.1.readers ∙ sym b.1.readers))
-      (λ (x : (roster_of s.book ≡ roster_of other.book) × (facts : List Fact) × AreTold other facts × RefusesOne s facts why).
+      (λ (x : (roster_of s.book ≡ roster_of other.book) × (facts : List Fact) × AreExported other facts × RefusesOne s facts why).
       none_of_part roster log sound s F G b.0 other.book x.2.kept a (part_of other x.1 G b x.2) why (subst (λ fs. RefusesOne s fs why) x.2.facts_are x.3))
       r
 

@@ -6,26 +6,26 @@ use Rattle.redo_core.specs.Standing.{IsDead}
 use Rattle.redo_core.specs.Book.{roster_of}
 use Rattle.redo_core.specs.declared.facts.Fact.{Fact}
 use Rattle.redo_core.specs.declared.facts.Fact.TheVariants.{Record}
-use Rattle.redo_laws.proofs.Deciding.{settled_eq, some_or_none}
-use Rattle.redo_laws.proofs.Storing.{stored_images}
+use Rattle.log_theorems.proofs.Deciding.{settled_eq, some_or_none}
+use Rattle.log_theorems.proofs.Storing.{stored_images}
 use Rattle.page_base.specs.Raising.{SamePage}
 use Rattle.page_base.specs.Merging.{IsTaken, IsFloored, Merges}
-use Rattle.state_laws.specs.State.{State, StoredImage, min_of, version_of, image_of}
-use Rattle.state_laws.specs.Means.{Matters, IsInImage}
-use Rattle.state_laws.specs.HasMeaning.{IsKeptBy}
-use Rattle.state_laws.specs.Joining.{Joins}
+use Rattle.segment_theorems.specs.State.{State, StoredImage, min_of, version_of, image_of}
+use Rattle.segment_theorems.specs.Means.{Matters, IsInImage}
+use Rattle.segment_theorems.specs.HasMeaning.{IsKeptBy}
+use Rattle.segment_theorems.specs.Joining.{Joins}
 use Rattle.segment_core.specs.Form.{IsSegment}
 use Rattle.segment_core.specs.Refusing.{HoldsOther}
 use Rattle.segment_core.specs.Uniting.{Unites}
-use Rattle.segment_told.specs.Told.{AreTold}
-use Rattle.segment_told.specs.InOrder.{TakesEach}
+use Rattle.segment_core.specs.Exported.{AreExported}
+use Rattle.segment_core.specs.InOrder.{TakesEach}
 use Rattle.segment_join.specs.Joining.{IsBroughtIn, JoinsInto}
 use Rattle.segment_join.specs.Holding.{InOtherImage, IsNeedless, IsSpared, HoldsRest}
 use Rattle.segment_join.specs.Newer.{AreNewer}
 use Rattle.segment_core.proofs.Keys.{one_of_key}
-use Rattle.segment_told.proofs.TakingAll.{LeavesAll}
-use Rattle.segment_told.proofs.ToldFacts.{told_cut, told_advance, told_record}
-use Rattle.segment_told.proofs.BookTaken.{late_of, HasBook, all, book_joined, least_fits}
+use Rattle.segment_core.proofs.TakingAll.{LeavesAll}
+use Rattle.segment_core.proofs.ToldFacts.{told_cut, told_advance, told_record}
+use Rattle.segment_core.proofs.BookTaken.{late_of, HasBook, all, book_joined, least_fits}
 use Rattle.segment_join.proofs.Bringing.{brings_told}
 
 -- a state has taken what the other tells
@@ -33,7 +33,7 @@ pub record IsTold (old other taken : State) (facts : List Fact) : Type 0 where
   pub own : IsSegment old
   pub shown : IsSegment other
   pub one_roster : roster_of old.book ≡ roster_of other.book
-  pub told : AreTold other facts
+  pub told : AreExported other facts
   pub takes : TakesEach old facts taken
 
 -- and holds the rest, and the new state is what the two know together

@@ -6,16 +6,16 @@ use Rattle.redo_core.specs.Keys.{key_of}
 use Rattle.redo_core.specs.declared.keys.Key.{Key}
 use Rattle.redo_core.specs.Order.{IsRising, RecordBefore}
 use Rattle.redo_core.proofs.Members.{all_members}
-use Rattle.redo_laws.proofs.Deciding.{Settled, settled_lt, settled_and, settled_or}
-use Rattle.redo_laws.proofs.Fronts.{settled_alive}
-use Rattle.redo_laws.proofs.Meanings.{in_map, from_map}
+use Rattle.log_theorems.proofs.Deciding.{Settled, settled_lt, settled_and, settled_or}
+use Rattle.log_theorems.proofs.Fronts.{settled_alive}
+use Rattle.log_theorems.proofs.Meanings.{in_map, from_map}
 use Rattle.hot_log.specs.Held.{HasKey, IsRecordAt}
 use Rattle.hot_log.specs.Kept.{KeepsKey, ListsKeysOf}
-use Rattle.state_laws.specs.State.{State}
-use Rattle.state_laws.specs.HasMeaning.{IsKeptBy}
+use Rattle.segment_theorems.specs.State.{State}
+use Rattle.segment_theorems.specs.HasMeaning.{IsKeptBy}
 use Rattle.segment_core.proofs.Keys.{one_of_key}
 use Rattle.segment_join.specs.Covering.{HasRecord, HasAllKept, HasAt, IsHeldAt}
-use Rattle.segment_told.proofs.Scanning.{of_member}
+use Rattle.segment_core.proofs.Scanning.{of_member}
 
 -- a record that waits or is alive above the anchor is there exactly where it is held
 pub wanted_is_held : (s : State) (anchor : ℕ) (r : RecordData) → KeepsKey s.book anchor (key_of r) → HasRecord s anchor r → Contains s.held r

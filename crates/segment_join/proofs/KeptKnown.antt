@@ -8,14 +8,14 @@ use Rattle.redo_core.specs.declared.facts.Fact.TheVariants.{Record}
 use Rattle.redo_core.proofs.Members.{none_in, which}
 use Rattle.hot_log.specs.Kept.{KeepsKey}
 use Rattle.hot_log.proofs.Chain.{linked_more}
-use Rattle.state_laws.specs.State.{State, SameBase}
-use Rattle.state_laws.specs.Known.{IsKnown}
-use Rattle.state_laws.specs.HasMeaning.{HasAnchor, IsKeptBy, IsSettled}
-use Rattle.state_laws.specs.Learning.{PutsRecord}
+use Rattle.segment_theorems.specs.State.{State, SameBase}
+use Rattle.segment_theorems.specs.Known.{IsKnown}
+use Rattle.segment_theorems.specs.HasMeaning.{HasAnchor, IsKeptBy, IsStable}
+use Rattle.segment_theorems.specs.Learning.{PutsRecord}
 use Rattle.segment_core.proofs.OneView.{one_anchor}
-use Rattle.segment_told.specs.Told.{book_facts}
-use Rattle.segment_told.specs.InOrder.{TakesOne, TakesEach}
-use Rattle.segment_told.proofs.TellingAll.{in_two}
+use Rattle.segment_core.specs.Exported.{book_facts}
+use Rattle.segment_core.specs.InOrder.{TakesOne, TakesEach}
+use Rattle.segment_core.proofs.TellingAll.{in_two}
 use Rattle.segment_join.specs.Knowing.{TakesAll, KnowsKept}
 use Rattle.segment_join.proofs.Bringing.{takes_apart}
 
@@ -28,7 +28,7 @@ pub record HoldsMore (s t : State) : Type 0 where
 more_none : (s : State) → HoldsMore s s
 more_none s = record { book = refl; rest = record { base = refl; store = refl }; before = λ r h. h }
 
-settled_more : (s t : State) (n : ℕ) → HoldsMore s t → IsSettled s n → IsSettled t n
+settled_more : (s t : State) (n : ℕ) → HoldsMore s t → IsStable s n → IsStable t n
 settled_more s t n more low = search (rules, linked_more)
 
 known_more : (s t : State) (r : RecordData) → HoldsMore s t → IsKnown s (Record r) → IsKnown t (Record r)
@@ -37,7 +37,7 @@ known_more s t r more known =
     (λ (dead : IsDead s.book.cuts s.book.complete r.epoch r.number). inl (subst (λ b. IsDead b.cuts b.complete r.epoch r.number) (sym more.book) dead))
     (λ h. inr (⊎_elim
     (λ (has : Contains s.held r). inl (more.before r has))
-    (λ (low : IsAlive s.book.cuts s.book.complete r.epoch r.number × IsSettled s r.number).
+    (λ (low : IsAlive s.book.cuts s.book.complete r.epoch r.number × IsStable s r.number).
     inr (subst (λ b. IsAlive b.cuts b.complete r.epoch r.number) (sym more.book) low.0, settled_more s t r.number more low.1))
     h))
     known

@@ -8,24 +8,24 @@ use Rattle.redo_core.specs.declared.facts.Fact.{Fact}
 use Rattle.redo_core.specs.declared.facts.Fact.TheVariants.{Record, Cut, Advance}
 use Rattle.redo_core.proofs.Members.{none_in, here, there, which, each, all_of, lists_unique}
 use Rattle.redo_core.proofs.Pairs.{pair_apart, pair_trans, pair_order}
-use Rattle.redo_laws.proofs.Deciding.{Settled, settled_lt, settled_and, settled_or, some_or_none, in_order}
-use Rattle.redo_laws.proofs.Fronts.{settled_alive}
+use Rattle.log_theorems.proofs.Deciding.{Settled, settled_lt, settled_and, settled_or, some_or_none, in_order}
+use Rattle.log_theorems.proofs.Fronts.{settled_alive}
 use Rattle.hot_log.specs.Held.{IsHeld}
-use Rattle.state_laws.specs.State.{State}
-use Rattle.state_laws.specs.HasMeaning.{HasAnchor, IsKeptBy}
-use Rattle.state_laws.specs.Known.{IsKnown}
-use Rattle.state_laws.specs.Learning.{PutsRecord}
+use Rattle.segment_theorems.specs.State.{State}
+use Rattle.segment_theorems.specs.HasMeaning.{HasAnchor, IsKeptBy}
+use Rattle.segment_theorems.specs.Known.{IsKnown}
+use Rattle.segment_theorems.specs.Learning.{PutsRecord}
 use Rattle.segment_core.specs.Taking.{Stores}
 use Rattle.segment_core.specs.Refusing.{Refuses, IsDeadOrSettled}
 use Rattle.segment_core.specs.declared.answers.Refusal.{Refusal}
 use Rattle.segment_core.specs.declared.answers.Refusal.TheVariants.{OtherRecord}
 use Rattle.segment_core.proofs.Keys.{one_of_key}
-use Rattle.segment_told.specs.Told.{book_facts, facts_told}
-use Rattle.segment_told.specs.InOrder.{TakesOne, TakesEach, RefusesOne}
+use Rattle.segment_core.specs.Exported.{book_facts, exported_facts}
+use Rattle.segment_core.specs.InOrder.{TakesOne, TakesEach, RefusesOne}
 use Rattle.segment_join.specs.Knowing.{TakesAll, RefusesAll}
 use Rattle.segment_join.proofs.Alike.{settled_record}
 use Rattle.segment_join.proofs.Telling.{takes_all, refuses_all}
-use Rattle.segment_told.proofs.TellingAll.{in_two}
+use Rattle.segment_core.proofs.TellingAll.{in_two}
 
 -- ---- the list without what is held
 pub settled_held : (held : List RecordData) (r : RecordData) → Settled (Contains held r)
@@ -226,12 +226,12 @@ module _ (old other : State) (anchor : ℕ) (rest : List RecordData) (own : IsHe
   still = record { has = λ r h. h; one = λ r x hr hx e n. one_of_key old.held r x own.rising hr hx e n }
 
   -- what is told behind the facts of the book is the list without what is held
-  told_is : facts_told other.book rest ≡ book_facts other.book ++ map Record (left_out old.held full)
+  told_is : exported_facts other.book rest ≡ book_facts other.book ++ map Record (left_out old.held full)
   told_is =
-      ap (facts_told other.book) (is_left_out (IsKeptBy other anchor) old.held full rest kept lists) ∙ sym (in_two other.book (left_out old.held full))
+      ap (exported_facts other.book) (is_left_out (IsKeptBy other anchor) old.held full rest kept lists) ∙ sym (in_two other.book (left_out old.held full))
 
   -- what the one holds already need not be told
-  pub takes_left_out : (new : State) → TakesEach old (facts_told other.book rest) new → TakesAll old other new
+  pub takes_left_out : (new : State) → TakesEach old (exported_facts other.book rest) new → TakesAll old other new
   takes_left_out new takes =
       takes_all other anchor full above kept old new
       (subst (λ facts. TakesEach old facts new) (in_two other.book full)
@@ -239,7 +239,7 @@ module _ (old other : State) (anchor : ℕ) (rest : List RecordData) (own : IsHe
       (subst (λ facts. TakesEach old facts new) told_is takes)))
 
   -- and a refusal of what is told is one of all
-  pub refuses_left_out : (why : Refusal) → RefusesOne old (facts_told other.book rest) why → RefusesAll old other why
+  pub refuses_left_out : (why : Refusal) → RefusesOne old (exported_facts other.book rest) why → RefusesAll old other why
   refuses_left_out why refused =
       refuses_all other anchor full above kept old why
       (subst (λ facts. RefusesOne old facts why) (in_two other.book full)

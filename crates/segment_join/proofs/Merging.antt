@@ -3,11 +3,11 @@ use Rattle.std.proofs.Common.{◌↔◌, ℕ, ◌++◌, List, rules}
 use Rattle.redo_core.specs.Sound.{IsSound}
 use Rattle.redo_core.specs.Meaning.{Meaning, IsMeaning}
 use Rattle.redo_core.specs.declared.facts.Fact.{Fact}
-use Rattle.redo_laws.specs.OrderOfMeanings.{Congruence, OrderByParts, LeastUpperBound, Associativity, Commutativity, Idempotence}
-use Rattle.redo_laws.specs.Overlap.{Overlap}
-use Rattle.state_laws.specs.State.{State}
-use Rattle.state_laws.specs.Means.{Means}
-use Rattle.state_laws.specs.Laws.{SameMeaning}
+use Rattle.log_theorems.specs.OrderOfMeanings.{Congruence, OrderByParts, LeastUpperBound, Associativity, Commutativity, Idempotence}
+use Rattle.log_theorems.specs.Overlap.{Overlap}
+use Rattle.segment_theorems.specs.State.{State}
+use Rattle.segment_theorems.specs.Means.{Means}
+use Rattle.segment_theorems.specs.Laws.{SameMeaning}
 use Rattle.segment_join.specs.Laws.{MeanTheSame, JoinsAreLeast, JoinsCommute, JoinsAssociate, JoinWithItself, JoinsAgree, WriteFourReadThree}
 
 -- states that mean sets of facts of one meaning mean the same

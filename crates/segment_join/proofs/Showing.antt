@@ -2,13 +2,13 @@
 use Rattle.std.proofs.Common.{◌≡◌, ℕ, ◌⊎◌, ⊎_elim, List, ◌++◌, get_or, Bool, refl, sym, ◌∙◌, subst, rules}
 use Rattle.std.specs.List.{Contains, All}
 use Rattle.redo_core.specs.Data.{RecordData}
-use Rattle.redo_laws.proofs.Deciding.{settled_eq, some_or_none}
-use Rattle.state_laws.specs.State.{State, StoredImage}
-use Rattle.state_laws.specs.Shows.{Shows}
+use Rattle.log_theorems.proofs.Deciding.{settled_eq, some_or_none}
+use Rattle.segment_theorems.specs.State.{State, StoredImage}
+use Rattle.segment_theorems.specs.Shows.{Shows}
 use Rattle.segment_core.specs.Form.{IsSegment}
 use Rattle.segment_core.specs.Comparing.{TellsSamePage}
 use Rattle.segment_join.specs.Sameness.{ShowOne, TellsPages, IsUnwritten}
-use Rattle.segment_told.proofs.BarePages.{shows_some, IsBare, bare_is_zeros, bare_or_not}
+use Rattle.segment_core.proofs.BarePages.{shows_some, IsBare, bare_is_zeros, bare_or_not}
 
 -- a property of pages that holds of those with an image or a held record
 pub record HoldsOfStored (s : State) (P : ℕ → Type 0) : Type 0 where

@@ -9,9 +9,9 @@ use Rattle.redo_core.specs.declared.keys.Key.{Key}
 use Rattle.redo_core.specs.Order.{IsRising, RecordBefore}
 use Rattle.redo_core.proofs.Members.{none_in, here, which}
 use Rattle.redo_core.specs.Standing.{IsDead}
-use Rattle.state_laws.specs.Means.{IsInImage}
+use Rattle.segment_theorems.specs.Means.{IsInImage}
 use Rattle.hot_log.specs.Held.{HasKey, IsRecordAt}
-use Rattle.state_laws.specs.State.{State, SameBase}
+use Rattle.segment_theorems.specs.State.{State, SameBase}
 use Rattle.segment_core.specs.Uniting.{HoldsRecord}
 use Rattle.segment_core.specs.Refusing.{HoldsOther}
 use Rattle.segment_join.specs.Holding.{InOtherImage, IsNeedless, IsSpared, HoldsRest}

@@ -10,10 +10,10 @@ use Rattle.redo_core.specs.AtMost.{IsAtMost}
 use Rattle.redo_core.specs.declared.facts.Fact.{Fact}
 use Rattle.redo_core.specs.declared.facts.Fact.TheVariants.{Advance}
 use Rattle.hot_log.specs.Held.{HasKey}
-use Rattle.state_laws.specs.Means.{Means}
-use Rattle.state_laws.specs.State.{State}
-use Rattle.state_laws.specs.Known.{IsKnown}
-use Rattle.state_laws.specs.HasMeaning.{IsKeptBy}
+use Rattle.segment_theorems.specs.Means.{Means}
+use Rattle.segment_theorems.specs.State.{State}
+use Rattle.segment_theorems.specs.Known.{IsKnown}
+use Rattle.segment_theorems.specs.HasMeaning.{IsKeptBy}
 
 -- a record that is kept, or needed no more: it is dead, or at or below the anchor and not waiting
 abbrev pub HasRecord : State → ℕ → RecordData → Type 0

@@ -3,8 +3,8 @@ use Rattle.std.specs.Prelude.{◌≡◌, ◌≤◌, ◌⊎◌}
 use Rattle.std.specs.List.{Contains}
 use Rattle.redo_core.specs.Data.{RecordData}
 use Rattle.redo_core.specs.Standing.{IsDead}
-use Rattle.state_laws.specs.State.{State, SameBase, version_of}
-use Rattle.state_laws.specs.Means.{IsInImage}
+use Rattle.segment_theorems.specs.State.{State, SameBase, version_of}
+use Rattle.segment_theorems.specs.Means.{IsInImage}
 use Rattle.segment_core.specs.Refusing.{HoldsOther}
 
 -- a record does not wait in a state's view, and its page's image in the other state has it, at or below the other's base point

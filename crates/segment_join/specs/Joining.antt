@@ -7,16 +7,16 @@ use Rattle.redo_core.specs.Standing.{IsDead}
 use Rattle.redo_core.specs.declared.facts.Fact.{Fact}
 use Rattle.redo_core.specs.Book.{roster_of}
 use Rattle.page_base.specs.Raising.{SamePage}
-use Rattle.state_laws.specs.State.{State, version_of}
-use Rattle.state_laws.specs.Means.{Means, Matters, IsInImage}
-use Rattle.state_laws.specs.HasMeaning.{HasAnchor, IsKeptBy}
-use Rattle.state_laws.specs.Joining.{JoinsBooks}
+use Rattle.segment_theorems.specs.State.{State, version_of}
+use Rattle.segment_theorems.specs.Means.{Means, Matters, IsInImage}
+use Rattle.segment_theorems.specs.HasMeaning.{HasAnchor, IsKeptBy}
+use Rattle.segment_theorems.specs.Joining.{JoinsBooks}
 use Rattle.segment_core.specs.Refusing.{HoldsOther}
 use Rattle.segment_core.specs.declared.answers.Refusal.{Refusal}
 use Rattle.segment_core.specs.declared.answers.Refusal.TheVariants.{OtherRoster}
-use Rattle.segment_told.specs.Told.{AreTold}
+use Rattle.segment_core.specs.Exported.{AreExported}
 use Rattle.segment_join.specs.Holding.{InOtherImage}
-use Rattle.segment_told.specs.InOrder.{TakesEach, RefusesOne}
+use Rattle.segment_core.specs.InOrder.{TakesEach, RefusesOne}
 
 -- Inside one sound log: whatever parts of it the two mean, the new state means their union.
 abbrev pub MeansUnion : State → State → State → Type 0
@@ -51,7 +51,7 @@ pub record JoinsInto (old other new : State) : Type 0 where
 pub record TakesTold (old other : State) : Type 0 where
   pub one_roster : roster_of old.book ≡ roster_of other.book
   pub facts : List Fact
-  pub told : AreTold other facts
+  pub told : AreExported other facts
   pub taken : State
   pub takes : TakesEach old facts taken
 
@@ -59,4 +59,4 @@ pub record TakesTold (old other : State) : Type 0 where
 abbrev pub RefusesJoin : State → State → Refusal → Type 0
 RefusesJoin old other why =
     ((roster_of old.book ≢ roster_of other.book) × (why ≡ OtherRoster (roster_of old.book) (roster_of other.book)))
-    ⊎ ((roster_of old.book ≡ roster_of other.book) × (facts : List Fact) × AreTold other facts × RefusesOne old facts why)
+    ⊎ ((roster_of old.book ≡ roster_of other.book) × (facts : List Fact) × AreExported other facts × RefusesOne old facts why)

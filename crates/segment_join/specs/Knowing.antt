@@ -6,23 +6,23 @@ use Rattle.redo_core.specs.declared.keys.Key.{Key}
 use Rattle.redo_core.specs.declared.facts.Fact.{Fact}
 use Rattle.redo_core.specs.declared.facts.Fact.TheVariants.{Record}
 use Rattle.hot_log.specs.Held.{HasKey}
-use Rattle.state_laws.specs.State.{State, SameBase}
-use Rattle.state_laws.specs.Known.{IsKnown}
-use Rattle.state_laws.specs.HasMeaning.{HasAnchor, IsKeptBy}
+use Rattle.segment_theorems.specs.State.{State, SameBase}
+use Rattle.segment_theorems.specs.Known.{IsKnown}
+use Rattle.segment_theorems.specs.HasMeaning.{HasAnchor, IsKeptBy}
 use Rattle.segment_core.specs.declared.answers.Refusal.{Refusal}
-use Rattle.segment_told.specs.Told.{AreTold}
-use Rattle.segment_told.specs.InOrder.{TakesEach, RefusesOne}
+use Rattle.segment_core.specs.Exported.{AreExported}
+use Rattle.segment_core.specs.InOrder.{TakesEach, RefusesOne}
 use Rattle.segment_join.specs.Holding.{IsNeedless, IsSpared, HoldsRest}
 
 -- each fact that the other tells is taken, in order
 pub record TakesAll (old other new : State) : Type 0 where
   pub facts : List Fact
-  pub told : AreTold other facts
+  pub told : AreExported other facts
   pub takes : TakesEach old facts new
 
 -- one of the facts that the other tells is refused
 abbrev pub RefusesAll : State → State → Refusal → Type 0
-RefusesAll old other why = (facts : List Fact) × AreTold other facts × RefusesOne old facts why
+RefusesAll old other why = (facts : List Fact) × AreExported other facts × RefusesOne old facts why
 
 -- each record that the other's meaning keeps is known
 abbrev pub KnowsKept : State → State → Type 0

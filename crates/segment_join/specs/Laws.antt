@@ -5,11 +5,11 @@ use Rattle.redo_core.specs.Sets.{IsPart}
 use Rattle.redo_core.specs.Sound.{IsSound}
 use Rattle.redo_core.specs.Meaning.{Meaning, IsMeaning}
 use Rattle.redo_core.specs.declared.facts.Fact.{Fact}
-use Rattle.redo_laws.specs.OrderOfMeanings.{Covers}
-use Rattle.redo_laws.specs.Overlap.{IsAtOrAbove, chosen_count, union_of}
-use Rattle.state_laws.specs.State.{State}
-use Rattle.state_laws.specs.Means.{Means}
-use Rattle.state_laws.specs.HasMeaning.{HasMeaning}
+use Rattle.log_theorems.specs.OrderOfMeanings.{Covers}
+use Rattle.log_theorems.specs.Overlap.{IsAtOrAbove, chosen_count, union_of}
+use Rattle.segment_theorems.specs.State.{State}
+use Rattle.segment_theorems.specs.Means.{Means}
+use Rattle.segment_theorems.specs.HasMeaning.{HasMeaning}
 use Rattle.segment_join.specs.Joining.{MeansUnion}
 
 -- Meanings of parts of one log that cover each other are one.

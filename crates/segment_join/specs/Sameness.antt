@@ -5,10 +5,10 @@ use Rattle.redo_core.specs.Data.{RecordData}
 use Rattle.redo_core.specs.Sound.{IsSound}
 use Rattle.redo_core.specs.Meaning.{Meaning, IsMeaning}
 use Rattle.redo_core.specs.declared.facts.Fact.{Fact}
-use Rattle.state_laws.specs.State.{State}
-use Rattle.state_laws.specs.Means.{Means}
-use Rattle.state_laws.specs.Shows.{Shows}
-use Rattle.state_laws.specs.HasMeaning.{HasMeaning}
+use Rattle.segment_theorems.specs.State.{State}
+use Rattle.segment_theorems.specs.Means.{Means}
+use Rattle.segment_theorems.specs.Shows.{Shows}
+use Rattle.segment_theorems.specs.HasMeaning.{HasMeaning}
 
 -- By the meanings that the two tell by themselves, over any facts.
 abbrev pub TellsSame : State → State → Bool → Type 0

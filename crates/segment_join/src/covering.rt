@@ -6,25 +6,24 @@ ghost use Rattle.redo_core.specs.AtMost.{IsAtMost};
 ghost use Rattle.redo_core.specs.Sound.{IsSound};
 ghost use Rattle.redo_core.specs.declared.facts.Fact.{Fact as AnyFact};
 ghost use Rattle.redo_core.specs.declared.facts.Fact.TheVariants.{Advance as OfAdvance};
-ghost use Rattle.redo_laws.specs.OrderOfMeanings.{Covers};
-ghost use Rattle.state_laws.specs.Means.{Means};
-ghost use Rattle.state_laws.specs.HasMeaning.{HasAnchor, HasMeaning};
-ghost use Rattle.state_laws.specs.Known.{IsKnown};
+ghost use Rattle.log_theorems.specs.OrderOfMeanings.{Covers};
+ghost use Rattle.segment_theorems.specs.Means.{Means};
+ghost use Rattle.segment_theorems.specs.HasMeaning.{HasAnchor, HasMeaning};
+ghost use Rattle.segment_theorems.specs.Known.{IsKnown};
 ghost use Rattle.hot_log.specs.Missing.{IsMissing};
 ghost use Rattle.segment_join.specs.Covering.{HasRecord, HasKept, HasAllKept, HasAt, IsHeldAt, CoversBook, CoversState, CoversByParts};
 
 use crate::missing::keeps;
+use log_theorems::order_by_parts;
 use redo_core::{Advance, Cut, Key, Record};
-use redo_laws::order_by_parts;
-use segment_core::Segment;
-use segment_told::are_few;
-use state_laws::same_meaning;
+use segment_core::{Segment, prefers_lookup};
+use segment_theorems::same_meaning;
 use std::alloc::AllocError;
 
 /// Whether one segment's meaning is at or above another's: each truncation, reader's point and waiting advance of the lower one is
 /// known, its anchor is reached, and each record that it keeps is kept, dead or settled. The two rosters may differ.
 ///
-/// Its only error is want of memory.
+/// It fails only if memory runs out.
 pub fn covers(upper: &Segment, lower: &Segment) -> Result<bool, AllocError>
     // By the two meanings, over any facts.
     ensures meanings { IfOk result (λ answer. (y x : Meaning) → HasMeaning upper.now y → HasMeaning lower.now x → IsTrue answer ↔ Covers y x) }
@@ -58,7 +57,7 @@ fn has_all(upper: &Segment, anchor: u64, lower: &Segment, base: u64) -> Result<b
     ensures { IfOk result (λ answer. IsTrue answer ↔ HasAllKept upper.now anchor lower.now base) }
 {
     let keys = lower.kept_keys(base)?;
-    if are_few(keys.len(), lower) {
+    if prefers_lookup(keys.len(), lower) {
         return Ok(has_keys(upper, anchor, lower, &keys));
     }
     has_missing(upper, anchor, lower, base)

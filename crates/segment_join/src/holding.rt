@@ -2,7 +2,7 @@ ghost use Rattle.std.specs.Prelude.{◌≡◌, ◌↔◌, ◌⊎◌, ◌≤◌, 
 ghost use Rattle.std.specs.List.{Contains};
 ghost use Rattle.redo_core.specs.Data.{RecordData};
 ghost use Rattle.redo_core.specs.Keys.{key_of};
-ghost use Rattle.state_laws.specs.State.{version_of};
+ghost use Rattle.segment_theorems.specs.State.{version_of};
 ghost use Rattle.segment_core.specs.Union.{began, reached};
 ghost use Rattle.segment_join.specs.Holding.{IsNeedless, HoldsRest};
 ghost use Rattle.segment_join.specs.Knowing.{HoldsAt, KnowsKept};
@@ -10,13 +10,13 @@ ghost use Rattle.segment_join.specs.Newer.{AreNewer};
 
 use crate::missing::keeps;
 use redo_core::Record;
-use segment_core::{BaseImage, Segment, Standing, Union};
+use segment_core::{BaseImage, MergeTransaction, Segment, Standing};
 use std::alloc::AllocError;
 
 /// Holds in a segment what another one holds, but for what is dead in the segment's view or folded in one of the two. What the
 /// segment did not hold of it is given, and what the other one keeps of that was taken.
 pub(crate) fn hold_rest(
-    union: &mut Union<'_>,
+    union: &mut MergeTransaction<'_>,
     other: &Segment,
     missing: &[&Record],
 ) -> Result<(), AllocError>
@@ -35,7 +35,11 @@ pub(crate) fn hold_rest(
 }
 
 /// Holds the other segment's record, where the segment holds none under its key.
-fn hold_one(union: &mut Union<'_>, other: &Segment, redo: &Record) -> Result<(), AllocError>
+fn hold_one(
+    union: &mut MergeTransaction<'_>,
+    other: &Segment,
+    redo: &Record,
+) -> Result<(), AllocError>
     requires held { Contains other.now.held redo.now }
     requires taken { KnowsKept (reached union.old) other.now }
     ensures holds { OnOk result (HoldsAt (reached union.old) other.now (key_of redo.now) (reached union.new)) }

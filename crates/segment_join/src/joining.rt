@@ -12,8 +12,7 @@ ghost use Rattle.segment_join.specs.Knowing.{TakesAll, RefusesAll, IsJoined};
 use crate::holding::{hold_rest, newer_images};
 use crate::missing::kept_among;
 use redo_core::Record;
-use segment_core::{Refusal, Savepoint, Segment, Union};
-use segment_told::{lent_book, take_told};
+use segment_core::{MergeTransaction, Refusal, Savepoint, Segment, book_ref, import_facts};
 
 /// Brings what another segment means into a segment, whatever each has folded and thrown away.
 ///
@@ -61,7 +60,7 @@ fn join_saved(segment: &mut Segment, saved: &mut Savepoint, other: &Segment) -> 
 {
     segment.opens_form();
     let images = newer_images(segment, other)?;
-    let mut union = Union::begin(segment, saved);
+    let mut union = MergeTransaction::begin(segment, saved);
     if let Err(why) = know_and_hold(&mut union, other) {
         return Err(why);
     }
@@ -70,7 +69,7 @@ fn join_saved(segment: &mut Segment, saved: &mut Savepoint, other: &Segment) -> 
 }
 
 /// Takes what another segment tells, and holds the rest of what it holds.
-fn know_and_hold(union: &mut Union<'_>, other: &Segment) -> Result<(), Refusal>
+fn know_and_hold(union: &mut MergeTransaction<'_>, other: &Segment) -> Result<(), Refusal>
     ensures joined { OnOk result (IsJoined (reached union.old) other.now (reached union.new)) }
     ensures refused { IfErr result (λ e. (e ≡ MemoryOf) ⊎ RefusesAll (reached union.old) other.now e) }
     ensures began { began union.new ≡ began union.old }
@@ -85,7 +84,11 @@ fn know_and_hold(union: &mut Union<'_>, other: &Segment) -> Result<(), Refusal>
 }
 
 /// Takes each fact that another segment tells. What the segment holds already tells it nothing: it is not looked at.
-fn take_all(union: &mut Union<'_>, other: &Segment, missing: &[&Record]) -> Result<(), Refusal>
+fn take_all(
+    union: &mut MergeTransaction<'_>,
+    other: &Segment,
+    missing: &[&Record],
+) -> Result<(), Refusal>
     requires { Lists PlaceBefore (IsMissing (reached union.old).held other.now.held) (map (λ x. x.now) missing.now) }
     ensures takes { OnOk result (TakesAll (reached union.old) other.now (reached union.new)) }
     ensures refused { IfErr result (λ e. (e ≡ MemoryOf) ⊎ RefusesAll (reached union.old) other.now e) }
@@ -96,5 +99,5 @@ fn take_all(union: &mut Union<'_>, other: &Segment, missing: &[&Record]) -> Resu
     let kept = kept_among(other, missing)?;
     // It is called for what it ensures: the kept records are those above the anchor.
     let _anchor = other.anchor();
-    take_told(union, &lent_book(other), &kept)
+    import_facts(union, &book_ref(other), &kept)
 }

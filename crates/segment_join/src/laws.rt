@@ -14,11 +14,11 @@
 //! `joins_associate`, `join_with_itself`, `joins_agree`).
 ghost use Rattle.segment_join.specs.Laws.{Antisymmetry, JoinsAreLeast, JoinsCommute, JoinsAssociate, JoinWithItself, JoinsAgree, WriteFourReadThree};
 
-pub use redo_laws::{
+pub use log_theorems::{
     answers, associativity, commutativity, congruence, idempotence, least_upper_bound,
     order_by_parts, overlap,
 };
-pub use state_laws::{join_means_union, same_meaning};
+pub use segment_theorems::{join_means_union, same_meaning};
 
 /// Two meanings of one log that cover each other are one.
 pub fn antisymmetry()

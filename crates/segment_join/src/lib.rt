@@ -19,4 +19,4 @@ mod sameness;
 pub use covering::covers;
 pub use joining::join;
 pub use sameness::same;
-pub use segment_told::{are_few, kept_of, take_told};
+pub use segment_core::{import_facts, kept_of, prefers_lookup};

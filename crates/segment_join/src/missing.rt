@@ -3,7 +3,7 @@ ghost use Rattle.std.specs.List.{Contains};
 ghost use Rattle.redo_core.specs.Data.{RecordData};
 ghost use Rattle.redo_core.specs.Order.{IsRising, Lists, RecordBefore};
 ghost use Rattle.hot_log.specs.Paged.{PlaceBefore};
-ghost use Rattle.state_laws.specs.HasMeaning.{HasAnchor, IsKeptBy};
+ghost use Rattle.segment_theorems.specs.HasMeaning.{HasAnchor, IsKeptBy};
 
 use redo_core::Record;
 use segment_core::Segment;

@@ -2,13 +2,13 @@ ghost use Rattle.std.specs.Prelude.{◌≡◌, ℕ, ◌++◌, false, IsTrue, IfO
 ghost use Rattle.std.specs.List.{All, Contains};
 ghost use Rattle.redo_core.specs.Data.{RecordData};
 ghost use Rattle.hot_log.specs.Found.{IsPageAfter};
-ghost use Rattle.state_laws.specs.HasMeaning.{HasAnchor};
+ghost use Rattle.segment_theorems.specs.HasMeaning.{HasAnchor};
 ghost use Rattle.segment_core.specs.declared.answers.ReadFault.TheVariants.{Memory as MemoryOf};
 ghost use Rattle.segment_join.specs.Sameness.{TellsSame, SameByParts, TellsPages, IsUnwritten};
 
 use crate::covering::covers;
 use segment_core::{BaseImage, ReadFault, Segment};
-use state_laws::same_meaning;
+use segment_theorems::same_meaning;
 use std::alloc::AllocError;
 
 /// Whether two segments mean the same, whatever each has folded and thrown away. The two rosters may differ.

@@ -5,10 +5,9 @@ ghost use Rattle.std.specs.Prelude.{◌≡◌, ◌∷◌, [], length, IfOk};
 ghost use Rattle.front_board.specs.Seat.{IsNode};
 ghost use Rattle.node_cell.specs.Node.{IsPassOf};
 
-use drill_log::Drill;
 use front_board::Board;
 use intake_queue::Intake;
-use named_log::LogFact;
+use named_log::{Drill, LogFact};
 use node_cell::{Closed, Node, Receipt, settle};
 use node_threads::{Answer, Feed, Gate, Inlet, Job, Plan, serve};
 use std::alloc::{AllocError, Global};

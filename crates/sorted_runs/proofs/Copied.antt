@@ -18,9 +18,6 @@ zip_more P (z ∷ xs) (suc i) x (w ∷ ys) y lt at p h =
     let more : suc i + 1 ≡ suc (i + 1) = omega arith in
     subst (λ (n : ℕ). AllZip P (take n (z ∷ xs)) (w ∷ (ys ++ y ∷ []))) (sym more) (h.0, zip_more P xs i x ys y (omega arith) at p h.1)
 
-pub zip_whole : {X Y : Type 0} (P : X → Y → Type 0) (xs : List X) (n : ℕ) (ys : List Y) → n ≡ length xs → AllZip P (take n xs) ys → AllZip P xs ys
-zip_whole P xs n ys e h = grind (arith, common_steps)
-
 module _ {X Y : Type 0} (P : X → Y → Type 0) where
   zip_join : (xs : List X) (ys : List Y) (xs' : List X) (ys' : List Y) → AllZip P xs ys → AllZip P xs' ys' → AllZip P (xs ++ xs') (ys ++ ys')
   zip_join [] [] xs' ys' h k = k

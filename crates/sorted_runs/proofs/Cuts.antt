@@ -18,9 +18,6 @@ module _ {X : Type 0} where
   front_of : (a b : List X) (n : ℕ) → n ≡ length a → take n (a ++ b) ≡ a
   front_of a b n e = grind (arith, common_steps)
 
-  back_of : (a b : List X) (n : ℕ) → n ≡ length a → drop n (a ++ b) ≡ b
-  back_of a b n e = grind (arith, common_steps)
-
   all_so : (P : X → Type 0) → ((x : X) → P x) → (xs : List X) → AllByRecursion P xs
   all_so P h [] = tt
   all_so P h (x ∷ xs) = (h x, all_so P h xs)

@@ -12,8 +12,3 @@ left P [] zero h = tt
 left P (x ∷ xs) zero h = (h 0 x (omega arith) (omega arith), left P xs zero (λ j d le in_range. h (suc j) d (omega arith) (omega arith)))
 left P [] (suc i) h = tt
 left P (x ∷ xs) (suc i) h = left P xs i (λ j d le in_range. h (suc j) d (omega arith) (omega arith))
-
--- the last run, where the key is not below its first key
-module _ {K : Type 0} {R : K → K → Ordering} (k : K) (fs : List K) where
-  pub run_at_end : (r : ℕ) (x : K) → r ≡ length fs - 1 → 0 < length fs → ((d : K) → get_or fs r d ≡ x) → is_lt (R k x) ≡ false → IsRunFor R fs k r
-  run_at_end r x e some at not_below = grind (arith, common_steps)

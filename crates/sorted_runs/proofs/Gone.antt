@@ -21,9 +21,6 @@ module _ {X : Type 0} where
   drop_in : (xs ys : List X) (q : ℕ) → q ≤ length xs → drop q (take q xs ++ ys) ≡ ys
   drop_in xs ys q in_range = grind (arith, common_steps)
 
-  long_drop : (xs : List X) (q : ℕ) → q ≤ length xs → length (drop q xs) + q ≡ length xs
-  long_drop xs q le = grind (arith, common_steps)
-
   -- what is taken out up to a place, and then from an earlier place on up to it
   cut_twice : (xs : List X) (p q r : ℕ) → p ≤ q → q ≤ length xs → remove_range (remove_range xs q r) p q ≡ remove_range xs p r
   cut_twice xs p q r le in_range = ap (λ l. l ++ drop q (remove_range xs q r)) (take_in xs (drop r xs) p q le in_range) ∙ ap (λ l. take p xs ++ l) (drop_in xs (drop r xs) q in_range)
@@ -137,9 +134,6 @@ module _ {K V : Type 0} where
   shaped_range fs vs a b le h = record { headed = headed_range fs vs a b le h.headed; bounded = bounded_range vs a b FULL le h.bounded }
 
 module _ {X : Type 0} where
-  none_dropped : (n : ℕ) → drop {A = X} n [] ≡ []
-  none_dropped n = search rules
-
   drop_on : (xs : List X) (a n m : ℕ) → m ≡ a + n → drop n (drop a xs) ≡ drop m xs
   drop_on xs a n m e = grind (arith, common_steps)
 
@@ -164,9 +158,6 @@ module _ {K V : Type 0} where
 module _ {X : Type 0} where
   take_up_to : (xs : List X) (r s : ℕ) → r ≤ s → take r (take s xs) ≡ take r xs
   take_up_to xs r s le = grind (arith, common_steps)
-
-  short_take : (xs : List X) (n : ℕ) → length (take n xs) ≤ length xs
-  short_take xs n = grind (arith, common_steps)
 
   module _ (xs ys : List X) (s : ℕ) (kept : take s xs ≡ take s ys) where
     kept_up_to : (r : ℕ) → r ≤ s → take r xs ≡ take r ys

@@ -24,9 +24,6 @@ pub is_less : (p : Ordering) → is_lt p ≡ true → p ≡ Less
 is_less p h = search rules
 
 module _ {K : Type 0} {R : K → K → Ordering} (o : IsTotalOrder R) (k : K) (fs : List K) where
-  pub any_run : 0 < length fs → IsRunWithin R fs k 0 (length fs)
-  any_run some = grind (arith, common_steps)
-
   pub one_run : (r end : ℕ) → end ≤ r + 1 → IsRunWithin R fs k r end → IsRunFor R fs k r
   one_run r end last h = search rules
 
@@ -47,6 +44,3 @@ module _ {K : Type 0} {R : K → K → Ordering} (o : IsTotalOrder R) (k : K) (f
         left (λ f. R k f ≡ Less) fs (suc middle) (λ j d above last. o.trans k x (get_or fs j d) (is_less (R k x) below) (subst (λ (y : K). R y (get_or fs j d) ≡ Less) (at_any d) (Less-from_sorted R fs middle j d rising (omega arith) last))),
       );
     }
-
-    pub upper_half : is_lt (R k x) ≡ false → IsRunWithin R fs k middle end
-    upper_half not = grind (arith, common_steps)

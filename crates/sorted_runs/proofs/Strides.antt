@@ -21,9 +21,6 @@ no_more P xs n le = grind (arith, common_steps)
 not_less : (p : Ordering) → is_lt p ≡ false → p ≡ Less → ⊥
 not_less p h e = let f = ap is_lt e in cc
 
-pub is_greater : (p : Ordering) → IsTrue (is_gt p) → p ≡ Greater
-is_greater p h = search rules
-
 module _ {K V : Type 0} {R : K → K → Ordering} (o : IsTotalOrder R) (k : K) where
   -- all before an entry that is not above the key
   below_it : (es : List (K × V)) (n : ℕ) (x : K × V) → n < length es → x ≡ get_or es n x → (R k x.0 ≡ Less → ⊥) → Rises R es → Passes R k (take n es)

@@ -145,7 +145,7 @@ impl<K: Ord + Copy, V> SortedRuns<K, V> {
 }
 
 impl<K: Ord + Copy + Drop, V: Drop> SortedRuns<K, V> {
-    /// Gives a key a value, and tells the value that it had. Its only error is want of memory, or of numbers to count the entries with:
+    /// Gives a key a value, and tells the value that it had. It fails only if memory runs out, or of numbers to count the entries with:
     /// the entries are then as they were, without the key, and it comes back with the value.
     pub fn insert(&mut self, key: K, value: V) -> Result<Option<V>, AllocFailed<(K, V)>>
         ensures had { IfOk result (λ had. had ≡ lookup (is_at (K.cmp key)) self.old) }
@@ -245,7 +245,7 @@ impl<K: Ord + Copy + Drop, V: Copy + Drop> SortedRuns<K, V> {
 }
 
 impl<K: Ord + Copy + Drop, V: Clone + Drop> SortedRuns<K, V> {
-    /// The same keys and clones of their values, in memory of their own. Its only error is want of memory.
+    /// The same keys and clones of their values, in memory of their own. It fails only if memory runs out.
     pub fn copy(&self) -> Result<Self, AllocError>
         ensures cases { IfOk result (λ m. AllZip (IsEntryCopy V.is_clone) self.now m) }
     {

@@ -3,7 +3,7 @@ ghost use Rattle.std.specs.List.{insert};
 
 use std::alloc::AllocFailed;
 
-/// Puts an element into a list, before the one at a place or behind the last. Its only error is want of memory: the list is then as it
+/// Puts an element into a list, before the one at a place or behind the last. It fails only if memory runs out: the list is then as it
 /// was, and the element comes back.
 pub fn put_in<T>(list: &mut Vec<T>, at: usize, element: T) -> Result<(), AllocFailed<T>>
     requires { at ≤ length list.old.items }

@@ -1,6 +1,6 @@
 use Rattle.std.proofs.lemmas.Grind.{common_steps}
 use Rattle.std.proofs.Common.{rules, arith}
-use Rattle.state_laws.specs.Promises.{KeepsMeaningWith}
+use Rattle.segment_theorems.specs.Promises.{KeepsMeaningWith}
 use Rattle.fleet_core.proofs.Following.{follows_fold, follows_no_plan}
 use Rattle.fleet_core.proofs.fleets.fold_page.Goals as goal
 

@@ -1,7 +1,7 @@
 use Rattle.std.proofs.Common.{List, [], ◌∷◌, ◌++◌, map, take_all, Bor, ap, ◌∙◌}
 use Rattle.std.proofs.lemmas.List.{map-append}
 use Rattle.redo_core.specs.Data.{RecordData}
-use Rattle.segment_told.proofs.Copied.{one_more}
+use Rattle.segment_core.proofs.Copied.{one_more}
 use Rattle.gossip_core.proofs.absorbing.each_of.Goals as goal
 
 pub loop-redo-preserved : goal.loop-redo-preserved

@@ -1,7 +1,7 @@
 use Rattle.std.proofs.Common.{◌≡◌, ℕ, List, [], ◌∷◌, ◌++◌, ap, ◌∙◌}
 use Rattle.page_base.specs.Stored.{stored}
-use Rattle.state_laws.specs.State.{StoredImage}
-use Rattle.segment_told.proofs.Copied.{made_more, made_all}
+use Rattle.segment_theorems.specs.State.{StoredImage}
+use Rattle.segment_core.proofs.Copied.{made_more, made_all}
 use Rattle.gossip_core.specs.Absorbing.{based_image}
 use Rattle.gossip_core.proofs.absorbing.images_at.Goals as goal
 

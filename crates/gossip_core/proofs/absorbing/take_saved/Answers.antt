@@ -1,11 +1,11 @@
 use Rattle.std.proofs.Common.{◌≡◌, ◌⊎◌, List, map, sym, ap, ◌∙◌, subst, arith}
-use Rattle.state_laws.specs.State.{State, StoredImage}
+use Rattle.segment_theorems.specs.State.{State, StoredImage}
 use Rattle.segment_core.specs.Savepoint.{CanRollBack}
 use Rattle.segment_core.specs.Union.{reached}
 use Rattle.segment_core.specs.Uniting.{Unites}
 use Rattle.segment_core.specs.declared.answers.Refusal.TheVariants.{Memory}
-use Rattle.segment_told.specs.Told.{facts_told}
-use Rattle.segment_told.specs.InOrder.{TakesEach, RefusesOne}
+use Rattle.segment_core.specs.Exported.{exported_facts}
+use Rattle.segment_core.specs.InOrder.{TakesEach, RefusesOne}
 use Rattle.gossip_core.specs.Absorbing.{based_image, AbsorbsInto}
 use Rattle.gossip_core.proofs.Absorbed.{HasDelta, base_fits, absorbs}
 use Rattle.gossip_core.proofs.absorbing.take_saved.Goals as goal
@@ -23,7 +23,7 @@ unite-requires-clause-base c =
       form = c.opens_form.ensures.form;
       shape = c.base-base.ensures.shape;
       one_roster = c.requires.roster;
-      takes = subst (λ (old : State). TakesEach old (facts_told d.book d.records) taken) c.begin-union.ensures.reached c.in_default.ensures.takes;
+      takes = subst (λ (old : State). TakesEach old (exported_facts d.book d.records) taken) c.begin-union.ensures.reached c.in_default.ensures.takes;
     } in
     let fits = base_fits s d taken has in
     omega (arith, c.base-base.ensures.base, fits)
@@ -31,7 +31,7 @@ unite-requires-clause-base c =
 pub returns-in-Err-clause-refused : goal.returns-in-Err-clause-refused
 returns-in-Err-clause-refused c =
     let d = c.args.delta.now in
-    subst (λ (s : State). (c.in-Err.why ≡ Memory) ⊎ RefusesOne s (facts_told d.book d.records) c.in-Err.why) c.begin-union.ensures.reached c.in-Err.ensures.refused
+    subst (λ (s : State). (c.in-Err.why ≡ Memory) ⊎ RefusesOne s (exported_facts d.book d.records) c.in-Err.why) c.begin-union.ensures.reached c.in-Err.ensures.refused
 
 pub returns-clause-absorbs : goal.returns-clause-absorbs
 returns-clause-absorbs c =
@@ -40,7 +40,7 @@ returns-clause-absorbs c =
       form = c.opens_form.ensures.form;
       shape = c.base-base.ensures.shape;
       one_roster = c.requires.roster;
-      takes = subst (λ (old : State). TakesEach old (facts_told d.book d.records) taken) c.begin-union.ensures.reached c.in_default.ensures.takes;
+      takes = subst (λ (old : State). TakesEach old (exported_facts d.book d.records) taken) c.begin-union.ensures.reached c.in_default.ensures.takes;
     } in
     let base = c.base-base.ensures.base in
     let images : c.in_ok-images.images.items ≡ map (based_image d.base) d.pages =

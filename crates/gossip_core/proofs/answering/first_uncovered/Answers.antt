@@ -2,7 +2,7 @@ use Rattle.std.proofs.Common.{◌≡◌, get_or, true, false, sym, ◌∙◌, ru
 use Rattle.redo_core.proofs.Scans.{whole}
 use Rattle.redo_core.specs.Keys.{KeyBefore}
 use Rattle.redo_core.specs.declared.keys.Key.{Key}
-use Rattle.segment_told.proofs.Scanning.{next_passes}
+use Rattle.segment_core.proofs.Scanning.{next_passes}
 use Rattle.gossip_core.specs.Answering.{IsCovered}
 use Rattle.std.proofs.lemmas.List.{get_or_default}
 use Rattle.gossip_core.proofs.Accounting.{first_fails}

@@ -2,8 +2,8 @@ use Rattle.std.proofs.Common.{ℕ, List, subst}
 use Rattle.redo_core.specs.Position.{Position}
 use Rattle.redo_core.specs.Sound.{IsSound}
 use Rattle.redo_core.specs.declared.facts.Fact.{Fact}
-use Rattle.state_laws.specs.Means.{MeansAt}
-use Rattle.state_laws.specs.HasMeaning.{HasAnchor}
+use Rattle.segment_theorems.specs.Means.{MeansAt}
+use Rattle.segment_theorems.specs.HasMeaning.{HasAnchor}
 use Rattle.gossip_core.specs.Answering.{IsUncovered}
 use Rattle.gossip_core.proofs.AnsweringFacts.{tells_answer}
 use Rattle.segment_core.proofs.OneView.{one_anchor}

@@ -16,6 +16,6 @@ returns c =
     subst (λ n. Lists RecordBefore (IsSent s n summary.keys) records) point
     (subst (λ keys. Lists RecordBefore (IsSent s c.min-point.result keys) records) c.keys.ensures.keys c.in_ok-records.ensures) in
     let sizes : SizesDeltas s 0 records size = λ base images count each.
-    subst (λ b. size ≡ length (delta_bytes (delta_of b base images records))) c.lent_book.ensures.book
+    subst (λ b. size ≡ length (delta_bytes (delta_of b base images records))) c.book_ref.ensures.book
     (rw c.deref.ensures.value at (c.delta_size.ensures base images count each)) in
     records_size s summary anchor records size c.anchor.ensures.own lists sizes

@@ -14,6 +14,6 @@ returns c =
     let lists : Lists RecordBefore (IsSent s anchor summary.keys) records =
     subst (λ keys. Lists RecordBefore (IsSent s anchor keys) records) c.keys.ensures.keys c.in_ok-records.ensures in
     let sizes : SizesDeltas s c.in_ok-pages.pages records size = λ base images count each.
-    subst (λ b. size ≡ length (delta_bytes (delta_of b base images records))) c.lent_book.ensures.book
+    subst (λ b. size ≡ length (delta_bytes (delta_of b base images records))) c.book_ref.ensures.book
     (rw c.deref.ensures.value at (c.delta_size.ensures base images count each)) in
     pages_size s summary anchor c.in_ok-pages.pages records size c.anchor-anchor.ensures.own c.in_ok-pages.ensures lists sizes

@@ -1,6 +1,6 @@
 use Rattle.std.proofs.Common.{List, [], ◌∷◌, ◌++◌, Bor, ap, ◌∙◌}
 use Rattle.redo_core.specs.Data.{RecordData}
-use Rattle.segment_told.proofs.Copied.{made_more, made_all}
+use Rattle.segment_core.proofs.Copied.{made_more, made_all}
 use Rattle.gossip_core.proofs.unlisted.copies.Goals as goal
 
 pub loop-redo-preserved : goal.loop-redo-preserved

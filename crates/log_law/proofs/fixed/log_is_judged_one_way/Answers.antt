@@ -3,7 +3,7 @@ use Rattle.redo_core.specs.Sound.{IsSound}
 use Rattle.redo_core.specs.declared.facts.Fact.{Fact}
 use Rattle.redo_core.specs.declared.laws.Law.{Law}
 use Rattle.redo_core.specs.declared.laws.LawFault.{LawFault}
-use Rattle.redo_laws.proofs.FirstFaults.{one_fault, no_fault}
+use Rattle.log_theorems.proofs.FirstFaults.{one_fault, no_fault}
 use Rattle.log_law.specs.Report.{Reports}
 use Rattle.log_law.proofs.fixed.log_is_judged_one_way.Goals as goal
 

@@ -1,5 +1,5 @@
 use Rattle.std.proofs.Common.{inl, refl, Ok, Err}
-use Rattle.state_laws.specs.Promises.{KeepsMeaningWith}
+use Rattle.segment_theorems.specs.Promises.{KeepsMeaningWith}
 use Rattle.segment_core.specs.Folding.{Commits}
 use Rattle.replica.proofs.Folds.{fold_keeps}
 use Rattle.replica.proofs.at_segment.fold.Goals as goal

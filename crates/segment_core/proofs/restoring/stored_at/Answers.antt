@@ -1,6 +1,6 @@
 use Rattle.std.proofs.Common.{subst}
 use Rattle.page_base.specs.Adopting.{Adopts, StoresJust}
-use Rattle.state_laws.specs.State.{Store}
+use Rattle.segment_theorems.specs.State.{Store}
 use Rattle.segment_core.proofs.restoring.stored_at.Goals as goal
 
 pub returns-in-Ok-clause-adopts : goal.returns-in-Ok-clause-adopts

@@ -1,6 +1,6 @@
 use Rattle.std.proofs.Common.{List, subst, arith}
 use Rattle.segment_core.specs.Forgetting.{RemovesInImages}
-use Rattle.state_laws.specs.State.{StoredImage}
+use Rattle.segment_theorems.specs.State.{StoredImage}
 use Rattle.segment_core.proofs.Gone.{of_images}
 use Rattle.segment_core.proofs.shedding.remove_all_folded.Goals as goal
 

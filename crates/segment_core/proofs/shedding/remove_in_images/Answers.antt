@@ -1,6 +1,6 @@
 use Rattle.std.proofs.Common.{ℕ, subst, rules}
 use Rattle.hot_log.specs.Removing.{IsFolded, Removes}
-use Rattle.state_laws.specs.State.{StoredImage}
+use Rattle.segment_theorems.specs.State.{StoredImage}
 use Rattle.segment_core.proofs.Gone.{gone_by_more, gone_by_all}
 use Rattle.segment_core.proofs.shedding.remove_in_images.Goals as goal
 

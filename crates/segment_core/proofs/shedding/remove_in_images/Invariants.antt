@@ -2,7 +2,7 @@ use Rattle.std.proofs.Common.{take}
 use Rattle.hot_log.specs.Held.{IsHeld}
 use Rattle.hot_log.specs.Removing.{IsFolded}
 use Rattle.segment_core.proofs.Gone.{GoneBy}
-use Rattle.state_laws.specs.State.{StoredImage}
+use Rattle.segment_theorems.specs.State.{StoredImage}
 use Rattle.segment_core.proofs.shedding.remove_in_images.Given as goal
 
 -- what the images so far have is gone

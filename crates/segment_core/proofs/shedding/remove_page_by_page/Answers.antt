@@ -1,7 +1,7 @@
 use Rattle.std.proofs.Common.{◌≤◌, subst, rules}
 use Rattle.redo_core.specs.Standing.{IsAlive}
 use Rattle.hot_log.specs.Removing.{IsFolded}
-use Rattle.state_laws.specs.State.{version_of}
+use Rattle.segment_theorems.specs.State.{version_of}
 use Rattle.segment_core.proofs.Pages.{RemovesPassed, removes_none, removes_more, removes_all}
 use Rattle.segment_core.proofs.Forget.{folded_of}
 use Rattle.segment_core.proofs.shedding.remove_page_by_page.Goals as goal

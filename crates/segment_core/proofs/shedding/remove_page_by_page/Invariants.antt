@@ -1,7 +1,7 @@
 use Rattle.std.proofs.Common.{◌≤◌}
 use Rattle.redo_core.specs.Standing.{IsAlive}
 use Rattle.hot_log.specs.Held.{IsHeld}
-use Rattle.state_laws.specs.State.{version_of}
+use Rattle.segment_theorems.specs.State.{version_of}
 use Rattle.segment_core.proofs.Pages.{RemovesPassed, pages_left}
 use Rattle.segment_core.proofs.shedding.remove_page_by_page.Given as goal
 

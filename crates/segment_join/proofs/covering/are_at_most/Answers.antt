@@ -1,7 +1,7 @@
 use Rattle.std.proofs.Common.{◌≤◌, refl, arith}
 use Rattle.std.proofs.lemmas.Bool.{false≢true}
 use Rattle.std.proofs.lemmas.List.Elements.{AllZip-get_or, length_all_zip}
-use Rattle.segment_told.proofs.Scanning.{zip_at_most}
+use Rattle.segment_core.proofs.Scanning.{zip_at_most}
 use Rattle.segment_join.proofs.covering.are_at_most.Goals as goal
 
 pub returns : goal.returns

@@ -2,8 +2,8 @@ use Rattle.std.proofs.Common.{◌≤◌, sym, subst, ◌∙◌}
 use Rattle.std.proofs.lemmas.Bool.{false≢true}
 use Rattle.std.specs.List.{AllZip, Contains}
 use Rattle.redo_core.specs.declared.facts.Fact.TheVariants.{Advance}
-use Rattle.state_laws.specs.Known.{IsKnown}
-use Rattle.segment_told.proofs.Scanning.{of_member}
+use Rattle.segment_theorems.specs.Known.{IsKnown}
+use Rattle.segment_core.proofs.Scanning.{of_member}
 use Rattle.redo_core.proofs.Members.{all_members}
 use Rattle.segment_join.proofs.covering.covers_book.Goals as goal
 

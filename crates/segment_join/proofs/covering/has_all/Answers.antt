@@ -5,8 +5,8 @@ use Rattle.segment_join.proofs.Keeping.{at_all_keys}
 use Rattle.segment_join.proofs.covering.has_all.Goals as goal
 use Rattle.redo_core.specs.declared.keys.Key.{Key}
 
-pub returns-then-are_few : goal.returns-then-are_few
-returns-then-are_few c =
+pub returns-then-prefers_lookup : goal.returns-then-prefers_lookup
+returns-then-prefers_lookup c =
     let s = c.args.upper.now in let t = c.args.lower.now in let keys = c.in_ok-keys.keys.items in
     let all = at_all_keys s c.args.anchor t c.args.base keys c.in_ok-keys.ensures.rising c.in_ok-keys.ensures.keys in
     let tells : IsTrue c.has_keys.result ↔ All (HasAt s c.args.anchor t) keys =

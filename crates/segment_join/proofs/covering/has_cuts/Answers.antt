@@ -1,5 +1,5 @@
 use Rattle.std.proofs.Common.{rules}
-use Rattle.segment_told.proofs.Scanning.{one_fails, all_pass, next_passes}
+use Rattle.segment_core.proofs.Scanning.{one_fails, all_pass, next_passes}
 use Rattle.segment_join.proofs.covering.has_cuts.Goals as goal
 
 pub loop-cut-preserved : goal.loop-cut-preserved

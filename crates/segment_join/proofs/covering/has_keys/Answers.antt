@@ -1,7 +1,7 @@
 use Rattle.std.proofs.Common.{◌≡◌, get_or, rules}
 use Rattle.std.proofs.lemmas.List.{get_or_default}
 use Rattle.segment_join.specs.Covering.{HasAt}
-use Rattle.segment_told.proofs.Scanning.{one_fails, all_pass, next_passes}
+use Rattle.segment_core.proofs.Scanning.{one_fails, all_pass, next_passes}
 use Rattle.segment_join.proofs.covering.has_keys.Goals as goal
 use Rattle.redo_core.specs.Keys.{key_in}
 use Rattle.redo_core.specs.declared.keys.Key.{Key}

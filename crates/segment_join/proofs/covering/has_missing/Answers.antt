@@ -6,7 +6,7 @@ use Rattle.redo_core.proofs.Members.{all_members}
 use Rattle.hot_log.specs.Missing.{IsMissing}
 use Rattle.hot_log.specs.Paged.{PlaceBefore}
 use Rattle.segment_join.specs.Covering.{HasKept}
-use Rattle.segment_told.proofs.Scanning.{of_member}
+use Rattle.segment_core.proofs.Scanning.{of_member}
 use Rattle.segment_join.proofs.Keeping.{own_record}
 use Rattle.segment_join.proofs.LeavingOut.{settled_held}
 use Rattle.segment_join.proofs.covering.has_missing.Goals as goal

@@ -4,7 +4,7 @@ use Rattle.std.proofs.lemmas.List.{length-map}
 use Rattle.redo_core.specs.Data.{RecordData}
 use Rattle.redo_core.proofs.Members.{item}
 use Rattle.segment_join.specs.Covering.{HasKept}
-use Rattle.segment_told.proofs.Scanning.{one_fails, all_pass, next_passes}
+use Rattle.segment_core.proofs.Scanning.{one_fails, all_pass, next_passes}
 use Rattle.segment_join.proofs.covering.has_records.Goals as goal
 
 pub has_kept-requires : goal.has_kept-requires

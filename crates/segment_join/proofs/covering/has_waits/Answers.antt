@@ -1,5 +1,5 @@
 use Rattle.std.proofs.Common.{rules}
-use Rattle.segment_told.proofs.Scanning.{all_pass, next_passes}
+use Rattle.segment_core.proofs.Scanning.{all_pass, next_passes}
 use Rattle.segment_join.proofs.covering.has_waits.Goals as goal
 
 pub loop-wait-preserved : goal.loop-wait-preserved

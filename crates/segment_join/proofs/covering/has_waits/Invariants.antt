@@ -1,7 +1,7 @@
 use Rattle.std.proofs.Common.{take}
 use Rattle.std.specs.List.{All}
 use Rattle.redo_core.specs.declared.facts.Fact.TheVariants.{Advance}
-use Rattle.state_laws.specs.Known.{IsKnown}
+use Rattle.segment_theorems.specs.Known.{IsKnown}
 use Rattle.segment_join.proofs.covering.has_waits.Given as goal
 
 -- those so far are known

@@ -1,7 +1,7 @@
 use Rattle.std.proofs.Common.{inl, inr, ⊎_elim, refl, sym, subst, ◌∙◌, arith}
 use Rattle.std.proofs.lemmas.Bool.{false≢true}
 use Rattle.redo_core.specs.Standing.{IsAlive, IsDead, IsWaiting}
-use Rattle.state_laws.specs.Means.{IsInImage}
+use Rattle.segment_theorems.specs.Means.{IsInImage}
 use Rattle.segment_join.specs.Holding.{InOtherImage}
 use Rattle.segment_join.proofs.Sparing.{waits_needed}
 use Rattle.segment_join.proofs.holding.is_needless.Goals as goal

@@ -1,6 +1,6 @@
 use Rattle.std.proofs.Common.{◌≡◌, ◌+◌, ◌<◌, List, [], ◌∷◌, ◌++◌, ◌↔◌, ap, ◌∙◌, sym, subst, arith}
 use Rattle.std.specs.List.{Contains}
-use Rattle.state_laws.specs.State.{StoredImage, version_of}
+use Rattle.segment_theorems.specs.State.{StoredImage, version_of}
 use Rattle.segment_join.proofs.Sparing.{Picks, picks_none, picks_more, picks_left, picks_all}
 use Rattle.segment_join.proofs.holding.newer_images.Goals as goal
 use Rattle.segment_join.proofs.holding.newer_images.Goals.{then-version+in_ok-copy+in_ok-push, else-version}

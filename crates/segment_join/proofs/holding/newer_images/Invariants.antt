@@ -1,5 +1,5 @@
 use Rattle.std.proofs.Common.{◌<◌}
-use Rattle.state_laws.specs.State.{version_of}
+use Rattle.segment_theorems.specs.State.{version_of}
 use Rattle.segment_join.proofs.Sparing.{Picks}
 use Rattle.segment_join.proofs.holding.newer_images.Given as goal
 

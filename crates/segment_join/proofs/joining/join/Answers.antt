@@ -1,12 +1,12 @@
 use Rattle.std.proofs.Common.{◌≡◌, ◌⊎◌, inr, ⊎_elim, arith, rules}
 use Rattle.std.proofs.lemmas.Result.{on_ok_weaker, IfErr-weaker}
 use Rattle.redo_core.specs.Book.{roster_of}
-use Rattle.state_laws.specs.State.{State}
+use Rattle.segment_theorems.specs.State.{State}
 use Rattle.segment_core.specs.declared.answers.Refusal.{Refusal}
 use Rattle.segment_core.specs.declared.answers.Refusal.TheVariants.{Memory}
 use Rattle.segment_join.specs.Joining.{AreOfOneLog, RefusesJoin}
 use Rattle.segment_join.specs.Knowing.{RefusesAll}
-use Rattle.segment_told.proofs.Ordered.{memory_or}
+use Rattle.segment_core.proofs.Ordered.{memory_or}
 use Rattle.segment_join.proofs.JoinInLog.{sound_join, means_union}
 use Rattle.segment_join.proofs.joining.join.Goals as goal
 
@@ -14,7 +14,7 @@ use Rattle.segment_join.proofs.joining.join.Goals as goal
 refused_told : (own other : State) (why : Refusal) → roster_of own.book ≡ roster_of other.book → RefusesAll own other why → RefusesJoin own other why
 refused_told own other why same refused = inr (same, refused.0, refused.1, refused.2)
 
--- inside one sound log that is want of memory
+-- inside one sound log that is lack of memory
 only_memory : (own other : State) (why : Refusal) → (why ≡ Memory) ⊎ RefusesJoin own other why → AreOfOneLog own other → why ≡ Memory
 only_memory own other why refused one =
     ⊎_elim (λ (h : why ≡ Memory). h) (λ (h : RefusesJoin own other why). absurd (sound_join own other why h one)) refused

@@ -1,6 +1,6 @@
 use Rattle.std.proofs.Common.{◌≡◌, ◌⊎◌, sym, subst, arith}
 use Rattle.redo_core.specs.Book.{roster_of}
-use Rattle.state_laws.specs.State.{State}
+use Rattle.segment_theorems.specs.State.{State}
 use Rattle.segment_core.specs.Form.{IsSegment}
 use Rattle.segment_core.specs.Savepoint.{CanRollBack}
 use Rattle.segment_core.specs.Union.{reached}

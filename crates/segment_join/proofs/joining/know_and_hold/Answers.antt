@@ -5,11 +5,11 @@ use Rattle.redo_core.specs.Data.{RecordData}
 use Rattle.redo_core.specs.Order.{Lists}
 use Rattle.hot_log.specs.Missing.{IsMissing}
 use Rattle.hot_log.specs.Paged.{PlaceBefore}
-use Rattle.state_laws.specs.State.{State}
-use Rattle.segment_told.proofs.BookTaken.{late_of}
+use Rattle.segment_theorems.specs.State.{State}
+use Rattle.segment_core.proofs.BookTaken.{late_of}
 use Rattle.segment_join.proofs.LeavingOut.{settled_held}
 use Rattle.segment_join.proofs.KeptKnown.{knows_taken}
-use Rattle.segment_told.proofs.TakingAll.{leaves_all}
+use Rattle.segment_core.proofs.TakingAll.{leaves_all}
 use Rattle.segment_core.specs.Form.{IsSegment}
 use Rattle.segment_core.specs.Union.{reached}
 use Rattle.segment_join.proofs.joining.know_and_hold.Goals as goal

@@ -5,7 +5,7 @@ use Rattle.redo_core.specs.Data.{RecordData}
 use Rattle.redo_core.specs.Keys.{key_of}
 use Rattle.redo_core.specs.Order.{Lists, RecordBefore}
 use Rattle.segment_join.proofs.Sorting.{sorted_lists}
-use Rattle.state_laws.specs.HasMeaning.{IsKeptBy}
+use Rattle.segment_theorems.specs.HasMeaning.{IsKeptBy}
 use Rattle.segment_core.proofs.Keys.{one_of_key}
 use Rattle.segment_core.proofs.OneView.{one_anchor}
 use Rattle.segment_join.proofs.missing.kept_among.Goals as goal

@@ -9,7 +9,7 @@ use Rattle.redo_core.proofs.Members.{item}
 use Rattle.redo_core.proofs.Rising.{across, item_drop}
 use Rattle.redo_core.proofs.Listing.{lists_more, lists_left, lists_whole}
 use Rattle.hot_log.specs.Paged.{PlaceBefore}
-use Rattle.state_laws.specs.HasMeaning.{IsKeptBy}
+use Rattle.segment_theorems.specs.HasMeaning.{IsKeptBy}
 use Rattle.segment_join.proofs.missing.kept_by_page.Goals as goal
 use Rattle.segment_join.proofs.missing.kept_by_page.Goals.{then-keeps+in_ok-push, else-keeps}
 

@@ -2,7 +2,7 @@ use Rattle.std.proofs.Common.{take, map}
 use Rattle.std.specs.List.{Contains}
 use Rattle.redo_core.specs.Order.{Lists}
 use Rattle.hot_log.specs.Paged.{PlaceBefore}
-use Rattle.state_laws.specs.HasMeaning.{IsKeptBy}
+use Rattle.segment_theorems.specs.HasMeaning.{IsKeptBy}
 use Rattle.segment_join.proofs.missing.kept_by_page.Given as goal
 
 -- those so far that are kept

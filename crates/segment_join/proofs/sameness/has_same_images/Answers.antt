@@ -1,7 +1,7 @@
 use Rattle.std.proofs.Common.{◌↔◌, ℕ, IsTrue, subst, rules}
-use Rattle.state_laws.specs.State.{StoredImage}
+use Rattle.segment_theorems.specs.State.{StoredImage}
 use Rattle.segment_join.specs.Sameness.{ShowOne, IsUnwritten}
-use Rattle.segment_told.proofs.Scanning.{one_fails, all_pass, next_passes}
+use Rattle.segment_core.proofs.Scanning.{one_fails, all_pass, next_passes}
 use Rattle.segment_join.proofs.sameness.has_same_images.Goals as goal
 
 pub loop-image-preserved : goal.loop-image-preserved

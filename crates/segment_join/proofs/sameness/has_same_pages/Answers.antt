@@ -3,7 +3,7 @@ use Rattle.std.proofs.lemmas.Bool.{false≢true}
 use Rattle.std.specs.List.{All, Contains}
 use Rattle.std.proofs.lemmas.List.Elements.{Contains-append_left, Contains-append_right}
 use Rattle.redo_core.specs.Data.{RecordData}
-use Rattle.state_laws.specs.State.{StoredImage}
+use Rattle.segment_theorems.specs.State.{StoredImage}
 use Rattle.segment_join.specs.Sameness.{ShowOne}
 use Rattle.std.proofs.lemmas.Result.{IfOk-weaker}
 use Rattle.segment_join.proofs.Showing.{all_pages, stored_of_both}

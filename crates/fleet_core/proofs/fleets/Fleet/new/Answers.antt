@@ -1,7 +1,7 @@
 use Rattle.std.proofs.Common.{List, [], ◌∷◌, ◌++◌, ap, ◌∙◌, rules}
 use Rattle.std.proofs.lemmas.List.{replicate-append-replicate}
-use Rattle.state_laws.specs.State.{State, empty_state}
-use Rattle.state_laws.proofs.Bare.{empty_means}
+use Rattle.segment_theorems.specs.State.{State, empty_state}
+use Rattle.segment_theorems.proofs.Bare.{empty_means}
 use Rattle.fleet_core.proofs.Nodes.{none_mean}
 use Rattle.fleet_core.proofs.fleets.Fleet.new.Goals as goal
 

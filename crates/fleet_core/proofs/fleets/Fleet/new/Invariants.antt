@@ -1,5 +1,5 @@
 use Rattle.std.proofs.Common.{◌≡◌, replicate}
-use Rattle.state_laws.specs.State.{empty_state}
+use Rattle.segment_theorems.specs.State.{empty_state}
 use Rattle.fleet_core.proofs.fleets.Fleet.new.Given as goal
 
 -- as many empty segments as were counted

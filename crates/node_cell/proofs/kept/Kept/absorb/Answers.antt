@@ -1,6 +1,6 @@
 use Rattle.std.proofs.lemmas.Grind.{common_steps}
 use Rattle.std.proofs.Common.{◌++◌, subst, sym, ap, ◌∙◌, arith}
-use Rattle.state_laws.specs.Means.{MeansAt}
+use Rattle.segment_theorems.specs.Means.{MeansAt}
 use Rattle.gossip_core.specs.Absorbing.{MeansBoth}
 use Rattle.node_cell.specs.Kept.{MeansTrail}
 use Rattle.node_cell.specs.Gossiping.{RefusesMail}

@@ -1,6 +1,6 @@
 use Rattle.std.proofs.Common.{sym, ap, subst, ◌∙◌}
 use Rattle.segment_core.specs.Forgetting.{DiscardsJust}
-use Rattle.state_laws.specs.Means.{Means}
+use Rattle.segment_theorems.specs.Means.{Means}
 use Rattle.node_cell.specs.Kept.{MeansTrail}
 use Rattle.node_cell.proofs.Keeping.{keeps_still}
 use Rattle.node_cell.proofs.kept.Kept.discard.Goals as goal

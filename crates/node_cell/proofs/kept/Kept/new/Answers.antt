@@ -1,5 +1,5 @@
 use Rattle.std.proofs.Common.{subst, sym, [], rules}
-use Rattle.state_laws.specs.Means.{Means}
+use Rattle.segment_theorems.specs.Means.{Means}
 use Rattle.node_cell.proofs.Keeping.{none_kept}
 use Rattle.node_cell.proofs.kept.Kept.new.Goals as goal
 

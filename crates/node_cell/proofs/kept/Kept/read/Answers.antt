@@ -1,7 +1,7 @@
 use Rattle.std.proofs.lemmas.Grind.{common_steps}
 use Rattle.std.proofs.Common.{sym, refl, ap, subst, Result, Ok, ◌∙◌, arith}
 use Rattle.segment_core.specs.declared.answers.ReadFault.{ReadFault}
-use Rattle.state_laws.specs.Means.{MeansAt}
+use Rattle.segment_theorems.specs.Means.{MeansAt}
 use Rattle.node_cell.specs.View.{ViewData}
 use Rattle.node_cell.specs.Reading.{IsViewResult, TellsRead}
 use Rattle.node_cell.proofs.Keeping.{log_page, tells}

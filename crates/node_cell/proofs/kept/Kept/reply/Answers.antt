@@ -1,5 +1,5 @@
 use Rattle.std.proofs.Common.{subst, sym, ap, ◌∙◌, rules}
-use Rattle.state_laws.specs.Means.{MeansAt}
+use Rattle.segment_theorems.specs.Means.{MeansAt}
 use Rattle.node_cell.proofs.kept.Kept.reply.Goals as goal
 
 pub new-requires : goal.new-requires

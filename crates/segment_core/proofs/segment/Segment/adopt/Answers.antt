@@ -2,7 +2,7 @@ use Rattle.std.proofs.lemmas.Grind.{common_steps}
 use Rattle.std.proofs.Common.{sym, ◌∙◌, ap, subst, max, arith}
 use Rattle.redo_core.specs.Store.{Store}
 use Rattle.page_base.specs.Adopting.{Adopts, StoresJust}
-use Rattle.state_laws.specs.State.{State}
+use Rattle.segment_theorems.specs.State.{State}
 use Rattle.segment_core.proofs.segment.Segment.adopt.Goals as goal
 
 pub returns-in-Ok-clause-adopts : goal.returns-in-Ok-clause-adopts

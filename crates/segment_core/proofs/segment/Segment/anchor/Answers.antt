@@ -1,5 +1,5 @@
 use Rattle.std.proofs.Common.{rules}
-use Rattle.state_laws.specs.HasMeaning.{HasAnchor}
+use Rattle.segment_theorems.specs.HasMeaning.{HasAnchor}
 use Rattle.segment_core.proofs.Chain.{true_anchor}
 use Rattle.segment_core.proofs.segment.Segment.anchor.Goals as goal
 

@@ -2,7 +2,7 @@ use Rattle.std.proofs.Common.{◌≡◌, true, false, ◌<◌, ◌≤◌, ◌⊎
 use Rattle.std.proofs.lemmas.Bool.{false≢true}
 use Rattle.hot_log.specs.Held.{IsHeld}
 use Rattle.hot_log.specs.Found.{IsOnlyRecord}
-use Rattle.state_laws.specs.State.{State, version_of}
+use Rattle.segment_theorems.specs.State.{State, version_of}
 use Rattle.segment_core.proofs.BlockChain.{IsLinkedAt, IsBelow, TellsLink, walk_begins, walk_goes, walk_breaks, whole_from, breaks_below, block_lower, answers_here, answers_none, sound_link}
 use Rattle.segment_core.proofs.segment.Segment.broken_link.Goals as goal
 

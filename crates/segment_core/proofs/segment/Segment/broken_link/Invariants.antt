@@ -1,5 +1,5 @@
 use Rattle.std.proofs.Common.{◌≡◌, ℕ, ◌↔◌}
-use Rattle.state_laws.specs.State.{version_of}
+use Rattle.segment_theorems.specs.State.{version_of}
 use Rattle.segment_core.specs.BlockChain.{IsLinkedOf, BreaksFrom, BreaksAt}
 use Rattle.segment_core.proofs.segment.Segment.broken_link.Given as goal
 

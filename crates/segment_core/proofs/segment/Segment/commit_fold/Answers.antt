@@ -1,8 +1,8 @@
 use Rattle.std.proofs.lemmas.Grind.{common_steps}
 use Rattle.std.proofs.Common.{OnOk, sym, subst, rules, arith}
-use Rattle.state_laws.specs.State.{State, state_of}
-use Rattle.state_laws.specs.HasMeaning.{HasAnchor}
-use Rattle.state_laws.specs.Promises.{KeepsMeaningWith}
+use Rattle.segment_theorems.specs.State.{State, state_of}
+use Rattle.segment_theorems.specs.HasMeaning.{HasAnchor}
+use Rattle.segment_theorems.specs.Promises.{KeepsMeaningWith}
 use Rattle.segment_core.proofs.Committing.{not_ahead, raise_keeps, raise_back}
 use Rattle.segment_core.proofs.DuePages.{raise_due}
 use Rattle.segment_core.proofs.segment.Segment.commit_fold.Goals as goal

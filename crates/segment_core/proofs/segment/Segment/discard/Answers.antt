@@ -1,9 +1,9 @@
 use Rattle.std.proofs.lemmas.Grind.{common_steps}
 use Rattle.std.proofs.Common.{◌≤◌, subst, arith}
 use Rattle.redo_core.specs.Standing.{IsAlive}
-use Rattle.state_laws.specs.State.{State, state_of, version_of}
-use Rattle.state_laws.specs.HasMeaning.{HasAnchor}
-use Rattle.state_laws.specs.Promises.{KeepsMeaning}
+use Rattle.segment_theorems.specs.State.{State, state_of, version_of}
+use Rattle.segment_theorems.specs.HasMeaning.{HasAnchor}
+use Rattle.segment_theorems.specs.Promises.{KeepsMeaning}
 use Rattle.segment_core.specs.Forgetting.{DiscardsJust}
 use Rattle.segment_core.proofs.Chain.{own_anchor}
 use Rattle.segment_core.proofs.Following.{removal_keeps_points}

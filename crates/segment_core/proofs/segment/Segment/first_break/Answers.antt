@@ -1,6 +1,6 @@
 use Rattle.std.proofs.Common.{ℕ, Some, None, refl, subst}
 use Rattle.hot_log.specs.Found.{IsPageAfter}
-use Rattle.state_laws.specs.State.{State}
+use Rattle.segment_theorems.specs.State.{State}
 use Rattle.segment_core.specs.Forgetting.{IsWhole}
 use Rattle.segment_core.proofs.FirstBreak.{IsWholeTo, whole_none, whole_more, whole_all, first_found, first_none}
 use Rattle.segment_core.proofs.segment.Segment.first_break.Goals as goal

@@ -1,4 +1,4 @@
-use Rattle.state_laws.specs.HasMeaning.{HasAnchor}
+use Rattle.segment_theorems.specs.HasMeaning.{HasAnchor}
 use Rattle.segment_core.proofs.Pages.{pages_left}
 use Rattle.segment_core.proofs.FirstBreak.{IsWholeTo}
 use Rattle.segment_core.proofs.segment.Segment.first_break.Given as goal

@@ -2,8 +2,8 @@ use Rattle.std.proofs.lemmas.Grind.{common_steps}
 use Rattle.std.proofs.Common.{◌≡◌, ◌∙◌, Some, None, sym, ap, subst, arith}
 use Rattle.hot_log.specs.Found.{IsPageAfter}
 use Rattle.page_base.specs.Stored.{IsStored}
-use Rattle.state_laws.specs.State.{State}
-use Rattle.state_laws.specs.Shows.{Shows}
+use Rattle.segment_theorems.specs.State.{State}
+use Rattle.segment_theorems.specs.Shows.{Shows}
 use Rattle.segment_core.specs.declared.fold_plan.Folded.{Folded}
 use Rattle.segment_core.proofs.FoldPages.{FoldsTo, folds_none, folds_more, folds_all, raises_folded}
 use Rattle.segment_core.proofs.segment.Segment.folded_store.Goals as goal

@@ -1,5 +1,5 @@
 use Rattle.page_base.specs.Stored.{IsStored}
-use Rattle.state_laws.specs.HasMeaning.{HasAnchor}
+use Rattle.segment_theorems.specs.HasMeaning.{HasAnchor}
 use Rattle.segment_core.proofs.Pages.{pages_left}
 use Rattle.segment_core.proofs.FoldPages.{FoldsTo}
 use Rattle.segment_core.proofs.segment.Segment.folded_store.Given as goal

@@ -1,4 +1,4 @@
-use Rattle.state_laws.specs.State.{image_of}
+use Rattle.segment_theorems.specs.State.{image_of}
 use Rattle.segment_core.proofs.SamePages.{tells_same}
 use Rattle.segment_core.proofs.segment.Segment.is_same_page.Goals as goal
 

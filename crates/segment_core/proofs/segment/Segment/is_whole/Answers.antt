@@ -1,5 +1,5 @@
 use Rattle.std.proofs.Common.{◌≡◌, map, subst, arith}
-use Rattle.state_laws.specs.State.{State, version_of}
+use Rattle.segment_theorems.specs.State.{State, version_of}
 use Rattle.segment_core.specs.BlockChain.{IsChained}
 use Rattle.segment_core.proofs.BlockChain.{block_lower}
 use Rattle.segment_core.proofs.Chained.{none_breaks_anew}

@@ -1,7 +1,7 @@
 use Rattle.std.proofs.Common.{subst}
 use Rattle.hot_log.specs.Kept.{ListsKeysOf}
-use Rattle.state_laws.specs.State.{State}
-use Rattle.state_laws.specs.HasMeaning.{IsKeptBy}
+use Rattle.segment_theorems.specs.State.{State}
+use Rattle.segment_theorems.specs.HasMeaning.{IsKeptBy}
 use Rattle.hot_log.proofs.Pages.{if_ok}
 use Rattle.segment_core.proofs.segment.Segment.kept_keys.Goals as goal
 

@@ -1,7 +1,7 @@
 use Rattle.std.proofs.Common.{map, subst, IfOk}
 use Rattle.redo_core.specs.Order.{Lists, RecordBefore}
 use Rattle.hot_log.specs.Kept.{IsKeptUnlisted}
-use Rattle.state_laws.specs.State.{State}
+use Rattle.segment_theorems.specs.State.{State}
 use Rattle.segment_core.proofs.segment.Segment.kept_unlisted.Goals as goal
 
 pub returns : goal.returns

@@ -1,6 +1,6 @@
 use Rattle.std.proofs.Common.{Some, subst, rules}
 use Rattle.hot_log.specs.Found.{IsGreatestRecord}
-use Rattle.state_laws.specs.State.{State}
+use Rattle.segment_theorems.specs.State.{State}
 use Rattle.segment_core.specs.BlockChain.{IsLinkedOf}
 use Rattle.segment_core.proofs.BlockChain.{last_sure, last_linked, last_unlinked}
 use Rattle.segment_core.proofs.segment.Segment.last_linked_of.Goals as goal

@@ -1,8 +1,8 @@
 use Rattle.std.proofs.Common.{◌≡◌, List, [], sym, subst, rules}
 use Rattle.redo_core.specs.declared.facts.Fact.{Fact as AnyFact}
-use Rattle.state_laws.specs.State.{State, state_of, empty_state}
-use Rattle.state_laws.specs.Means.{Means}
-use Rattle.state_laws.proofs.Bare.{empty_means}
+use Rattle.segment_theorems.specs.State.{State, state_of, empty_state}
+use Rattle.segment_theorems.specs.Means.{Means}
+use Rattle.segment_theorems.proofs.Bare.{empty_means}
 use Rattle.segment_core.proofs.DuePages.{none_due}
 use Rattle.segment_core.proofs.segment.Segment.new.Goals as goal
 

@@ -1,5 +1,5 @@
 use Rattle.std.proofs.Common.{◌≡◌, ℕ, List, sym, subst}
-use Rattle.state_laws.specs.Shows.{Shows}
+use Rattle.segment_theorems.specs.Shows.{Shows}
 use Rattle.segment_core.proofs.OneView.{one_anchor}
 use Rattle.segment_core.proofs.segment.Segment.page_at_anchor.Goals as goal
 

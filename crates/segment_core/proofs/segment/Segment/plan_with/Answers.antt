@@ -5,8 +5,8 @@ use Rattle.redo_core.specs.Writing.{after_records}
 use Rattle.epoch_book.specs.Book.{IsBook}
 use Rattle.hot_log.specs.Anew.{ListsAnew}
 use Rattle.hot_log.specs.Held.{IsHeld}
-use Rattle.state_laws.specs.State.{State, image_of}
-use Rattle.state_laws.specs.Shows.{IsApplied}
+use Rattle.segment_theorems.specs.State.{State, image_of}
+use Rattle.segment_theorems.specs.Shows.{IsApplied}
 use Rattle.segment_core.proofs.Anew.{anew_shows}
 use Rattle.segment_core.proofs.segment.Segment.plan_with.Goals as goal
 

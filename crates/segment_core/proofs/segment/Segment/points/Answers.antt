@@ -1,6 +1,6 @@
 use Rattle.std.proofs.Common.{◌≡◌, ◌∙◌, subst}
-use Rattle.state_laws.specs.State.{State}
-use Rattle.state_laws.proofs.Booked.{points_as}
+use Rattle.segment_theorems.specs.State.{State}
+use Rattle.segment_theorems.proofs.Booked.{points_as}
 use Rattle.segment_core.specs.Form.{IsSegment}
 use Rattle.segment_core.proofs.Chain.{form_of}
 use Rattle.segment_core.proofs.segment.Segment.points.Goals as goal

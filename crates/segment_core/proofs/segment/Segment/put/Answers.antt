@@ -1,6 +1,6 @@
 use Rattle.std.proofs.Common.{◌≡◌, IfOk, IfErr, subst}
 use Rattle.hot_log.specs.Putting.{Puts, RefusesPut}
-use Rattle.state_laws.specs.State.{State}
+use Rattle.segment_theorems.specs.State.{State}
 use Rattle.segment_core.proofs.DuePages.{put_due}
 use Rattle.segment_core.proofs.segment.Segment.put.Goals as goal
 

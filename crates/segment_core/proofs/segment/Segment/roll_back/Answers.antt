@@ -4,7 +4,7 @@ use Rattle.std.specs.List.{Contains}
 use Rattle.redo_core.specs.Data.{RecordData}
 use Rattle.redo_core.specs.Keys.{key_of}
 use Rattle.redo_core.specs.declared.keys.Key.{Key}
-use Rattle.state_laws.specs.State.{State, state_of}
+use Rattle.segment_theorems.specs.State.{State, state_of}
 use Rattle.segment_core.specs.Savepoint.{IsFormOf, brought_back, without}
 use Rattle.segment_core.proofs.Savepoints.{left_without}
 use Rattle.segment_core.proofs.segment.Segment.roll_back.Goals as goal

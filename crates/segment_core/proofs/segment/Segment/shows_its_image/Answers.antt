@@ -2,8 +2,8 @@ use Rattle.std.proofs.Common.{subst}
 use Rattle.std.specs.Option.{option_copied}
 use Rattle.hot_log.specs.Alive.{IsHeldOf}
 use Rattle.hot_log.specs.Found.{IsLeastRecord}
-use Rattle.state_laws.specs.State.{State, image_of}
-use Rattle.state_laws.specs.Shows.{Shows}
+use Rattle.segment_theorems.specs.State.{State, image_of}
+use Rattle.segment_theorems.specs.Shows.{Shows}
 use Rattle.segment_core.proofs.SamePages.{shows_image}
 use Rattle.segment_core.proofs.segment.Segment.shows_its_image.Goals as goal
 

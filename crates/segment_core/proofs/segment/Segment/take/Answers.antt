@@ -1,4 +1,4 @@
-use Rattle.state_laws.proofs.Knowing.{unchanged_exactly, no_conflict}
+use Rattle.segment_theorems.proofs.Knowing.{unchanged_exactly, no_conflict}
 use Rattle.segment_core.proofs.Taking.{take_tells, take_sound}
 use Rattle.segment_core.proofs.segment.Segment.take.Goals as goal
 

@@ -1,8 +1,8 @@
 use Rattle.std.proofs.lemmas.Grind.{common_steps}
-use Rattle.state_laws.specs.State.{state_of}
+use Rattle.segment_theorems.specs.State.{state_of}
 use Rattle.std.proofs.Common.{subst, rules, arith}
 use Rattle.redo_core.specs.declared.facts.Fact.TheVariants.{Advance}
-use Rattle.state_laws.proofs.Learnt.{takes_advance}
+use Rattle.segment_theorems.proofs.Learnt.{takes_advance}
 use Rattle.segment_core.specs.Exactly.{TakesExactly}
 use Rattle.segment_core.proofs.Taking.{advance_exact, advance_bound}
 use Rattle.segment_core.proofs.Following.{advance_lags}

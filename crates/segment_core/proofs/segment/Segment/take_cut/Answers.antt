@@ -1,9 +1,9 @@
 use Rattle.std.proofs.lemmas.Grind.{common_steps}
-use Rattle.state_laws.specs.State.{state_of}
+use Rattle.segment_theorems.specs.State.{state_of}
 use Rattle.std.proofs.Common.{◌≡◌, ◌∙◌, sym, subst, arith}
 use Rattle.redo_core.specs.declared.facts.Fact.TheVariants.{Cut}
-use Rattle.state_laws.proofs.Learnt.{takes_cut}
-use Rattle.state_laws.proofs.Knowing.{takes_known}
+use Rattle.segment_theorems.proofs.Learnt.{takes_cut}
+use Rattle.segment_theorems.proofs.Knowing.{takes_known}
 use Rattle.segment_core.specs.Exactly.{TakesExactly}
 use Rattle.segment_core.proofs.Taking.{cut_exact, cut_bound}
 use Rattle.segment_core.proofs.Following.{cut_keeps_points, cut_had_points, cut_is_later}

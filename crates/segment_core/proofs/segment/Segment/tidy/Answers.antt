@@ -1,7 +1,7 @@
 use Rattle.std.proofs.Common.{◌≡◌, ℕ, Ok, Err, sym, subst, rules}
 use Rattle.redo_core.specs.Standing.{IsDead}
-use Rattle.state_laws.specs.State.{State, state_of}
-use Rattle.state_laws.specs.Promises.{KeepsMeaning}
+use Rattle.segment_theorems.specs.State.{State, state_of}
+use Rattle.segment_theorems.specs.Promises.{KeepsMeaning}
 use Rattle.segment_core.specs.Forgetting.{with_store, DiscardsJust, FoldsAll, Tidies, IsFirstBreak}
 use Rattle.segment_core.specs.declared.answers.ReadFault.TheVariants.{BrokenBlockChain, Memory}
 use Rattle.segment_core.proofs.Following.{removal_keeps_points}
@@ -67,7 +67,7 @@ pub returns-clause-tidies : goal.returns-clause-tidies
 unfolding after
 returns-clause-tidies c = tidies c
 
--- ---- a broken block chain, or want of memory
+-- ---- a broken block chain, or lack of memory
 broken : (c : goal.In-Some) → IsFirstBreak c.args.self.now c.in-Some.page c.in-Some.number
 broken c = (c.first_break.ensures.first c.in-Some.page c.in-Some.number).0 c.in-Some.is
 

@@ -4,7 +4,7 @@ use Rattle.std.proofs.lemmas.List.{nil_from_length}
 use Rattle.redo_core.specs.Store.{Store, StoredImage}
 use Rattle.page_base.specs.Merging.{Merges}
 use Rattle.page_base.specs.Stored.{IsStored}
-use Rattle.state_laws.specs.State.{State}
+use Rattle.segment_theorems.specs.State.{State}
 use Rattle.segment_core.proofs.NothingMerged.{nothing_merged}
 use Rattle.segment_core.proofs.segment.Segment.unite.Goals as goal
 

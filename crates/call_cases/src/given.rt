@@ -1,0 +1,125 @@
+//! What the words of rows spell: facts, bytes, and pages and images whose every byte is one.
+
+use crate::answer::Answer;
+use crate::keeping::add;
+use bytes::BytesMut;
+use case_io::Row;
+use page_base::BaseImage;
+use redo_core::{Advance, Cut, Fact, Key, Page, Patch, Record, SharedPage, Write};
+use script_text::read_fact;
+use std::alloc::{AllocError, Global};
+
+/// Keeps the fact that a line spells, and tells its number.
+pub fn keep_fact(alloc: Global, facts: &mut Vec<Fact>, line: &str) -> Result<Answer, AllocError> {
+    match read_fact(alloc, line.as_bytes())? {
+        Some(fact) => add("Fact", facts, fact),
+        None => Ok(Answer::Unknown),
+    }
+}
+
+/// A byte, so many times, from an offset on.
+pub fn patch(alloc: Global, offset: u16, byte: u8, times: u8) -> Result<Patch, AllocError> {
+    let bytes = vec![in alloc; byte; usize::from(times)]?;
+    Ok(Patch::Bytes(Write::new(offset, bytes)))
+}
+
+/// A record of one write: epoch, number, segment backlink, page, block backlink, offset, byte, and how many times the byte stands.
+fn record(row: &Row, init: bool) -> Result<Option<Fact>, AllocError> {
+    let patch = patch(row.alloc, row.short(5), row.byte(6), row.byte(7))?;
+    let (epoch, number, back) = (row.short(0), row.number(1), row.number(2));
+    let (page, block_back) = (row.short(3), row.number(4));
+    let made = Record::with_one(
+        row.alloc, epoch, number, back, page, block_back, init, patch,
+    )?;
+    Ok(made.map(Fact::Record))
+}
+
+/// The key that the row names first.
+pub fn key(row: &Row) -> Key {
+    Key {
+        epoch: row.short(0),
+        number: row.number(1),
+    }
+}
+
+pub fn cut(row: &Row) -> Option<Cut> {
+    Cut::new(row.short(0), row.number(1), row.number(2)).ok()
+}
+
+pub fn advance(row: &Row) -> Option<Advance> {
+    Advance::of_reader(row.byte(0), row.short(1), row.number(2)).ok()
+}
+
+/// The fact that a name and the row's numbers spell, or None where they spell none.
+pub fn fact(row: &Row, name: &str) -> Result<Option<Fact>, AllocError> {
+    match name {
+        "record" => record(row, false),
+        "record_init" => record(row, true),
+        "cut" => Ok(cut(row).map(Fact::Cut)),
+        "advance" => Ok(advance(row).map(Fact::Advance)),
+        _ => Ok(None),
+    }
+}
+
+pub fn page_of(alloc: Global, byte: u8) -> Result<Page, AllocError> {
+    vec![in alloc; byte; 4096].map(Page::new)
+}
+
+fn shared_page_of(alloc: Global, byte: u8) -> Result<SharedPage, AllocError> {
+    Ok(SharedPage::new(alloc, page_of(alloc, byte)?)?)
+}
+
+/// Notes an image of a row: its page, its version and its byte.
+pub fn give(given: &mut Vec<(u16, u64, u8)>, row: &Row) -> Result<Answer, AllocError> {
+    given.push((row.short(0), row.number(1), row.byte(2)))?;
+    Ok(Answer::Word("Done"))
+}
+
+pub fn pages(
+    alloc: Global,
+    given: &[(u16, u64, u8)],
+) -> Result<Vec<(u16, SharedPage)>, AllocError> {
+    let mut pages = Vec::new(alloc);
+    for image in given {
+        pages.push((image.0, shared_page_of(alloc, image.2)?))?;
+    }
+    Ok(pages)
+}
+
+pub fn images(alloc: Global, given: &[(u16, u64, u8)]) -> Result<Vec<BaseImage>, AllocError> {
+    let mut images = Vec::new(alloc);
+    for image in given {
+        images.push(BaseImage::new(image.0, image.1, shared_page_of(alloc, image.2)?))?;
+    }
+    Ok(images)
+}
+
+fn put_times(out: &mut BytesMut, bytes: &[u8], times: u16) -> Result<(), AllocError> {
+    for _ in 0..times {
+        out.extend_from_slice(bytes)?;
+    }
+    Ok(())
+}
+
+/// Appends what a word spells: hexadecimal digits, as many times as the number behind a star says. False where it spells nothing.
+fn put_word(alloc: Global, out: &mut BytesMut, word: &str) -> Result<bool, AllocError> {
+    let (digits, times) = word.split_once('*').unwrap_or((word, "1"));
+    match hex::decode(alloc, digits) {
+        Ok(bytes) => {
+            put_times(out, &bytes, times.parse::<u16>().unwrap_or(0))?;
+            Ok(true)
+        }
+        Err(_) => Ok(false),
+    }
+}
+
+/// The bytes that words spell, one behind the other, or None where one spells nothing.
+pub fn bytes(alloc: Global, words: &str) -> Result<Option<BytesMut>, AllocError> {
+    let mut bytes = BytesMut::new(alloc);
+    for word in words.split(' ') {
+        if !put_word(alloc, &mut bytes, word)? {
+            return Ok(None);
+        }
+    }
+    Ok(Some(bytes))
+}

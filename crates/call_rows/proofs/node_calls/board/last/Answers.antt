@@ -1,6 +1,0 @@
-use Rattle.std.proofs.Common.{arith}
-use Rattle.drill_log.proofs.Fronts.{front_of_epoch_1}
-use Rattle.call_rows.proofs.node_calls.board.last.Goals as goal
-
-pub new-requires : goal.new-requires
-new-requires c = front_of_epoch_1 2 (omega arith) (omega arith)

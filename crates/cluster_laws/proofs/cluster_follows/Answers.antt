@@ -1,5 +1,0 @@
-use Rattle.cluster_laws.proofs.Followed.{cluster_follows}
-use Rattle.cluster_laws.proofs.cluster_follows.Goals as goal
-
-pub returns : goal.returns
-returns c = cluster_follows c.states_answer.ensures

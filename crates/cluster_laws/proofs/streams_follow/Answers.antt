@@ -1,5 +1,0 @@
-use Rattle.cluster_laws.proofs.Interleaved.{streams_follow}
-use Rattle.cluster_laws.proofs.streams_follow.Goals as goal
-
-pub returns : goal.returns
-returns c = streams_follow c.answers_run.ensures c.frames_run.ensures c.states_answer.ensures

@@ -1,0 +1,34 @@
+-- A cluster whose nodes are behind streams.
+use Rattle.std.specs.Prelude.{ℕ, List, Bool, true, false}
+use Rattle.redo_core.specs.Sound.{IsSound}
+use Rattle.redo_core.specs.declared.facts.Fact.{Fact}
+use Rattle.replica.specs.Parts.{ReplicaData, empty_replica}
+use Rattle.replica.specs.Meaning.{Turn}
+use Rattle.line_stream.specs.Lines.{AnswersLines}
+use Rattle.frame_stream.specs.Frames.{AnswersFrames}
+use Rattle.node_stream.specs.Answering.{Spoken, by_lines, by_frames, IsAnswer, IsFrameAnswer}
+use Rattle.node_stream.specs.Running.{MakeTurns}
+use Rattle.cluster_theorems.specs.Turns.{Interleaves}
+use Rattle.cluster_theorems.specs.Carrying.{AreCarried}
+use Rattle.cluster_theorems.specs.Following.{FollowsFacts}
+
+-- frames, or lines
+abbrev pub spoken : Bool → Spoken
+spoken true = by_frames
+spoken false = by_lines
+
+-- the texts answer the requests, in frames or in lines
+abbrev pub AnswersStream : Bool → ℕ → ReplicaData → List (List ℕ) → List (List ℕ) → ReplicaData → Type 0
+AnswersStream true limit old frames texts new = AnswersFrames IsFrameAnswer limit old frames texts new
+AnswersStream false limit old lines texts new = AnswersLines IsAnswer limit old lines texts new
+
+-- Each node's lines or frames make turns, whose replies its texts tell. However these are interleaved, where each is carried by those
+-- before it the nodes follow the facts.
+abbrev pub StreamsFollow : Type 0
+StreamsFollow =
+    (roster limit : ℕ) (log : List Fact) (pages : ℕ → ℕ) (framed : ℕ → Bool) (requests texts : ℕ → List (List ℕ)) (nodes : ℕ → ReplicaData)
+    → IsSound roster log
+    → ((node : ℕ) → AnswersStream (framed node) limit (empty_replica roster (pages node)) (requests node) (texts node) (nodes node))
+    → (made : ℕ → List Turn)
+    × ((node : ℕ) → MakeTurns (spoken (framed node)) limit (requests node) (texts node) (made node))
+    × ((turns : List (ℕ × Turn)) → Interleaves made turns → AreCarried roster log turns → FollowsFacts roster log turns nodes)

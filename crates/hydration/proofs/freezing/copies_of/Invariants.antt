@@ -1,6 +1,0 @@
-use Rattle.std.proofs.Common.{◌≡◌, map, take}
-use Rattle.hydration.proofs.freezing.copies_of.Given as goal
-
--- the copies so far
-abbrev pub invariant-loop-redo : goal.invariant-loop-redo
-invariant-loop-redo l = l.copied.items ≡ map (λ x. x.now) (take l.redo-index l.records)

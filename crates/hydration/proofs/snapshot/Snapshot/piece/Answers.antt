@@ -1,6 +1,0 @@
-use Rattle.std.proofs.Common.{rules}
-use Rattle.hydration.proofs.Shaped.{piece_shaped}
-use Rattle.hydration.proofs.snapshot.Snapshot.piece.Goals as goal
-
-pub new-requires : goal.new-requires
-new-requires c = search (rules, piece_shaped)

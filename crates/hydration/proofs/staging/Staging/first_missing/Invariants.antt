@@ -1,7 +1,0 @@
-use Rattle.std.proofs.Common.{ℕ, ◌<◌}
-use Rattle.hydration.specs.Stagings.{IsMissingPiece}
-use Rattle.hydration.proofs.staging.Staging.first_missing.Given as goal
-
--- no piece below the index is missing
-abbrev pub invariant-loop-index : goal.invariant-loop-index
-invariant-loop-index l = (below : ℕ) → below < l.index → IsMissingPiece l.self below → ⊥

@@ -1,7 +1,0 @@
-use Rattle.std.proofs.Common.{ℕ, ◌<◌}
-use Rattle.hydration.specs.Placing.{IsMisplaced}
-use Rattle.hydration.proofs.staging.Staging.first_not_following.Given as goal
-
--- each piece below the index can stand where it is
-abbrev pub invariant-loop-index : goal.invariant-loop-index
-invariant-loop-index l = (below : ℕ) → below < l.index → IsMisplaced l.self below → ⊥

@@ -1,7 +1,0 @@
-use Rattle.hydration.specs.Hydrating.{pages_of}
-use Rattle.hydration.proofs.Brought.{AreBelow}
-use Rattle.hydration.proofs.staging.Staging.pages.Given as goal
-
--- the pages that the pieces so far bring
-abbrev pub invariant-loop-index : goal.invariant-loop-index
-invariant-loop-index l = AreBelow pages_of l.self l.index l.pages.items

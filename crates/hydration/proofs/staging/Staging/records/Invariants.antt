@@ -1,8 +1,0 @@
-use Rattle.redo_core.specs.Order.{IsRising, RecordBefore}
-use Rattle.hydration.specs.Hydrating.{records_of}
-use Rattle.hydration.proofs.Brought.{AreBelow}
-use Rattle.hydration.proofs.staging.Staging.records.Given as goal
-
--- the records that the pieces so far bring
-abbrev pub invariant-loop-index : goal.invariant-loop-index
-invariant-loop-index l = record { members : AreBelow records_of l.self l.index l.records.items; rising : IsRising RecordBefore l.records.items }

@@ -1,5 +1,0 @@
-use Rattle.intake_queue.proofs.Hearing.{taker_hears}
-use Rattle.intake_queue.proofs.intake.Intake.tell_taker.Goals as goal
-
-pub absorb-requires-clause-rule : goal.absorb-requires-clause-rule
-absorb-requires-clause-rule g c = taker_hears _ _ _ _ c.taker.invariant.1

@@ -1,7 +1,0 @@
-use Rattle.std.proofs.Common.{take}
-use Rattle.std.specs.List.{All}
-use Rattle.plain_model.proofs.Scanned.{IsOther}
-use Rattle.plain_model.proofs.epochs.has_cut.Given as goal
-
-abbrev pub invariant-loop-fact : goal.invariant-loop-fact
-invariant-loop-fact l = All (IsOther l.epoch) (take l.fact-index l.facts)

@@ -1,5 +1,0 @@
-use Rattle.redo_laws.proofs.SameSets.{same_meanings, turned}
-use Rattle.redo_laws.proofs.commutativity.Goals as goal
-
-pub returns : goal.returns
-returns c = λ roster x y m. same_meanings roster _ _ m (turned x y)

@@ -1,6 +1,0 @@
-use Rattle.redo_laws.proofs.Log.{log_of_sound}
-use Rattle.redo_laws.proofs.Views.{finality_law}
-use Rattle.redo_laws.proofs.finality.Goals as goal
-
-pub returns : goal.returns
-returns c = λ roster log part larger f g sound. finality_law log part larger f g (log_of_sound roster log sound)

@@ -1,6 +1,0 @@
-use Rattle.redo_laws.proofs.Log.{log_of_sound}
-use Rattle.redo_laws.proofs.Union.{least_law}
-use Rattle.redo_laws.proofs.least_upper_bound.Goals as goal
-
-pub returns : goal.returns
-returns c = λ roster log F G x y u sound. least_law log F G x y u (log_of_sound roster log sound)

@@ -1,8 +1,0 @@
-use Rattle.redo_laws.proofs.FirstFaults.{one_fault, no_fault}
-use Rattle.redo_laws.proofs.one_fault.Goals as goal
-
-pub returns-clause-one : goal.returns-clause-one
-returns-clause-one c = one_fault
-
-pub returns-clause-none : goal.returns-clause-none
-returns-clause-none c = no_fault

@@ -1,6 +1,0 @@
-use Rattle.redo_laws.proofs.Log.{log_of_sound}
-use Rattle.redo_laws.proofs.Union.{order_law}
-use Rattle.redo_laws.proofs.order_by_parts.Goals as goal
-
-pub returns : goal.returns
-returns c = λ roster log F G x y sound. order_law log F G x y (log_of_sound roster log sound)

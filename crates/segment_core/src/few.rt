@@ -1,0 +1,11 @@
+ghost use Rattle.std.specs.Prelude.{◌≤◌, ◌*◌, ◌↔◌, length, IsTrue};
+
+use crate::segment::Segment;
+
+/// Whether so many records are few of those that a segment holds, at most one of eight: it is then cheaper to look each of them up than
+/// to go over all.
+pub fn prefers_lookup(count: usize, segment: &Segment) -> bool
+    ensures { IsTrue result ↔ (8 * count ≤ length segment.now.held) }
+{
+    count <= segment.held_len() / 8
+}

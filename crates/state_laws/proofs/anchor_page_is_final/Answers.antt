@@ -1,5 +1,0 @@
-use Rattle.state_laws.proofs.Shed.{anchor_page_is_final}
-use Rattle.state_laws.proofs.anchor_page_is_final.Goals as goal
-
-pub returns : goal.returns
-returns c = λ roster log facts. anchor_page_is_final log facts

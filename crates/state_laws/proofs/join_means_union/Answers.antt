@@ -1,6 +1,0 @@
-use Rattle.redo_laws.proofs.Log.{log_of_sound}
-use Rattle.state_laws.proofs.Joining.{join_law}
-use Rattle.state_laws.proofs.join_means_union.Goals as goal
-
-pub returns : goal.returns
-returns c = λ roster log F G s t new sound. join_law log F G s t new (log_of_sound roster log sound)

@@ -1,5 +1,0 @@
-use Rattle.state_laws.proofs.Same.{kept_as}
-use Rattle.state_laws.proofs.same_kept.Goals as goal
-
-pub returns : goal.returns
-returns c = λ roster log facts p s r sound m. kept_as log facts p s m r

@@ -1,6 +1,0 @@
-use Rattle.redo_laws.proofs.Log.{log_of_sound}
-use Rattle.state_laws.proofs.Reading.{links_law}
-use Rattle.state_laws.proofs.same_links.Goals as goal
-
-pub returns : goal.returns
-returns c = λ roster log facts p s n sound. links_law log facts p s n (log_of_sound roster log sound)

@@ -1,6 +1,0 @@
-use Rattle.redo_laws.proofs.Log.{log_of_sound}
-use Rattle.state_laws.proofs.Own.{position_law}
-use Rattle.state_laws.proofs.same_position.Goals as goal
-
-pub returns : goal.returns
-returns c = λ roster log facts p q s sound. position_law log facts p q s (log_of_sound roster log sound)

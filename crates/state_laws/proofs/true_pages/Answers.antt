@@ -1,6 +1,0 @@
-use Rattle.redo_laws.proofs.Log.{log_of_sound}
-use Rattle.state_laws.proofs.Reading.{pages_law}
-use Rattle.state_laws.proofs.true_pages.Goals as goal
-
-pub returns : goal.returns
-returns c = λ roster log facts p s page q image sound. pages_law log facts p s page q image (log_of_sound roster log sound)

@@ -1,5 +1,0 @@
-use Rattle.state_laws.proofs.Chains.{whole_block_chains}
-use Rattle.state_laws.proofs.whole_block_chains.Goals as goal
-
-pub returns : goal.returns
-returns c = λ roster log facts. whole_block_chains log facts

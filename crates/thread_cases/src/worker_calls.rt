@@ -1,0 +1,70 @@
+//! Rows of workers in threads: a line names a run and its numbers, and what comes of it is printed in several lines.
+ghost use Rattle.std.specs.Prelude.{◌<◌, ◌≤◌};
+
+mod diaries;
+mod floors;
+mod folds;
+mod gates;
+mod jobs;
+mod rounds;
+
+use crate::worker_calls::floors::{print_ends, print_plan};
+use crate::worker_calls::folds::print_folds;
+use crate::worker_calls::gates::{Order, Turnstile};
+use crate::worker_calls::jobs::{print_deliveries, print_jobs, print_rounds};
+use crate::worker_calls::rounds::{apart, exchange_and_fold, strangers};
+use case_io::Row;
+use fleet_drill::{MAX_NODES, MAX_WORKERS, Open};
+use std::io;
+use std::sync::Wait;
+use std::thread::Threads;
+
+/// How many facts the log has.
+pub const FACTS: u64 = 130;
+
+/// Prints what comes of a run. The runs here have so many nodes and workers as they say themselves.
+pub fn answer<R: Threads + Wait + Sync>(rt: &R, row: &Row) -> io::Result<()> {
+    match row.name {
+        "exchange_and_fold" => exchange_and_fold(rt, row),
+        "strangers" => strangers(rt, row),
+        "apart" => apart(rt, row),
+        "folds" => print_folds(rt, row),
+        "jobs" => print_jobs(rt, row),
+        "deliveries" => print_deliveries(rt, row),
+        "rounds" => print_rounds(rt, row),
+        _ => of_floors(rt, row),
+    }
+}
+
+// What comes of a run with the nodes and the workers that the line gives.
+fn of_floors<R: Threads + Wait + Sync>(rt: &R, row: &Row) -> io::Result<()> {
+    let (nodes, workers) = (row.index(0), row.index(1));
+    if nodes == 0 || nodes > MAX_NODES || workers == 0 || workers > MAX_WORKERS {
+        return row.unknown();
+    }
+    match row.name {
+        "plan" => print_plan(row, nodes, workers),
+        "trails" => print_ends(rt, row, nodes, workers, row.number(2), &Open),
+        "at_once" => in_order(rt, row, nodes, workers, Order::AtOnce),
+        "late_folds" => in_order(rt, row, nodes, workers, Order::LateFolds),
+        "early_mail" => in_order(rt, row, nodes, workers, Order::EarlyMail),
+        _ => row.unknown(),
+    }
+}
+
+// The ends of a drill whose workers go in an order, and how many were let through unmet.
+fn in_order<R: Threads + Wait + Sync>(
+    rt: &R,
+    row: &Row,
+    nodes: usize,
+    workers: usize,
+    order: Order,
+) -> io::Result<()>
+    requires nodes { (0 < nodes) × (nodes ≤ MAX_NODES) }
+    requires workers { 0 < workers }
+{
+    let pairs = nodes as u64 * (nodes as u64 - 1);
+    let gate = Turnstile::new(order, FACTS, pairs);
+    print_ends(rt, row, nodes, workers, FACTS, &gate)?;
+    row.one("Unmet", &gate.unmet.read())
+}

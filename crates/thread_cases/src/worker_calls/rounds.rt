@@ -1,0 +1,171 @@
+ghost use Rattle.std.specs.Prelude.{◌<◌, ◌≤◌};
+
+use crate::Log;
+use case_io::Row;
+use fleet_drill::{DrillResult, Open, close_all, join_all, open_floor, tell, work};
+use node_cell::Closed;
+use node_threads::{Gate, Plan, Refusal, serve};
+use segment_core::Segment;
+use std::alloc::{AllocError, Global};
+use std::io;
+use std::sync::Wait;
+use std::thread::Threads;
+
+// The places of the first epoch's records and of the advance.
+const EARLY: usize = 65;
+
+type Round = (u16, u16);
+
+// One worker, with these rounds.
+fn one_worker(alloc: Global, rounds: &[Round]) -> Result<Vec<Vec<Round>>, AllocError> {
+    let mut workers = Vec::new(alloc);
+    workers.push(rounds.to_vec(alloc)?)?;
+    Ok(workers)
+}
+
+// A plan in which each inlet takes so many parcels, and there is one folder and one gossiper with these rounds.
+fn plan_of(
+    alloc: Global,
+    parcels: &[u64],
+    folds: &[Round],
+    gossip: &[Round],
+) -> Result<Plan, AllocError> {
+    let folds = one_worker(alloc, folds)?;
+    let gossip = one_worker(alloc, gossip)?;
+    let parcels = parcels.to_vec(alloc)?;
+    Ok(Plan {
+        parcels,
+        folds,
+        gossip,
+    })
+}
+
+/// One folder and one gossiper run these rounds under a gate, at nodes that have worked: what was refused.
+pub fn work_again<G: Gate + Sync, R: Threads + Wait + Sync>(
+    rt: &R,
+    alloc: Global,
+    worked: &DrillResult<Log>,
+    folds: &[Round],
+    gossip: &[Round],
+    gate: &G,
+) -> Result<Vec<Refusal>, AllocError> {
+    let plan = plan_of(alloc, &[0], folds, gossip)?;
+    let nodes = worked.nodes.as_slice();
+    let (feeds, inlets) = (Vec::new(alloc), Vec::new(alloc));
+    match serve(rt, alloc, nodes, feeds, inlets, &worked.board, plan, gate) {
+        Ok(served) => Ok(served.refusals),
+        Err(_) => Err(AllocError),
+    }
+}
+
+// One node or two that have taken so many parcels each; the early places are dealt to so many nodes in turn.
+fn early<R: Threads + Wait + Sync>(
+    rt: &R,
+    alloc: Global,
+    nodes: usize,
+    dealt: usize,
+    parcels: &[u64],
+) -> Result<DrillResult<Log>, AllocError>
+    requires nodes { (0 < nodes) × (nodes ≤ 2) }
+    requires dealt { 0 < dealt }
+{
+    let plan = plan_of(alloc, parcels, &[], &[])?;
+    let floor = open_floor(alloc, nodes, dealt, EARLY, EARLY as u64)?;
+    work(rt, alloc, floor, plan, &Open)
+}
+
+/// One node or two, of which the first has the early places.
+pub fn early_at_the_first<R: Threads + Wait + Sync>(
+    rt: &R,
+    alloc: Global,
+    nodes: usize,
+) -> Result<DrillResult<Log>, AllocError>
+    requires { (0 < nodes) × (nodes ≤ 2) }
+{
+    early(rt, alloc, nodes, 1, &[EARLY as u64])
+}
+
+/// The second asks the first, and then the first folds its first page.
+pub fn exchange_and_fold<R: Threads + Wait + Sync>(rt: &R, row: &Row) -> io::Result<()> {
+    let worked = early_at_the_first(rt, row.alloc, 2)?;
+    let refused = ask_and_fold(rt, row.alloc, &worked)?;
+    print_nodes(rt, row, worked, refused)
+}
+
+// How many of the two rounds were refused.
+fn ask_and_fold<R: Threads + Wait + Sync>(
+    rt: &R,
+    alloc: Global,
+    worked: &DrillResult<Log>,
+) -> Result<usize, AllocError> {
+    let asked = work_again(rt, alloc, worked, &[], &[(2, 1)], &Open)?;
+    let folded = work_again(rt, alloc, worked, &[(1, 0)], &[], &Open)?;
+    Ok(asked.len() + folded.len())
+}
+
+/// Rounds that name no node: each is refused by name, and the others go on.
+pub fn strangers<R: Threads + Wait + Sync>(rt: &R, row: &Row) -> io::Result<()> {
+    let worked = early_at_the_first(rt, row.alloc, 2)?;
+    let refused = name_strangers(rt, row, &worked)?;
+    print_nodes(rt, row, worked, refused)
+}
+
+// Prints each refusal. The answer is how many there are.
+fn name_strangers<R: Threads + Wait + Sync>(
+    rt: &R,
+    row: &Row,
+    worked: &DrillResult<Log>,
+) -> io::Result<usize> {
+    let folds = [(0, 0), (3, 0), (1, 0)];
+    let gossip = [(1, 3), (0, 1), (2, 1)];
+    let refusals = work_again(rt, row.alloc, worked, &folds, &gossip, &Open)?;
+    row.one("Strangers", &refusals)?;
+    Ok(refusals.len())
+}
+
+/// Closes the nodes, and prints how many rounds were refused, and what the nodes have.
+pub fn print_nodes<R: Wait>(
+    rt: &R,
+    row: &Row,
+    worked: DrillResult<Log>,
+    refused: usize,
+) -> io::Result<()> {
+    let closed = close_all(rt, row.alloc, worked)?;
+    row.one("Refused", &refused)?;
+    print_fronts(row, closed.as_slice())
+}
+
+// Prints the front of each node: the epoch, the complete point and the minimum read point; and the base point of the first and how many
+// keys it stores.
+fn print_fronts(row: &Row, closed: &[Closed<Log>]) -> io::Result<()> {
+    for node in closed {
+        let front = node.segment().front();
+        row.parts("Front", &(front.epoch, front.complete, front.min))?;
+    }
+    match closed.first() {
+        Some(first) => print_stored(row, first.segment()),
+        None => row.unknown(),
+    }
+}
+
+fn print_stored(row: &Row, segment: &Segment) -> io::Result<()> {
+    let keys = segment.stored()?.len();
+    row.parts("Stored", &(segment.base_point(), keys))
+}
+
+/// Two nodes that share two thirds of the early places and never meet: what they tell, each by itself, the second one first.
+pub fn apart<R: Threads + Wait + Sync>(rt: &R, row: &Row) -> io::Result<()> {
+    let worked = early(rt, row.alloc, 2, 3, &[22, 22])?;
+    let closed = close_all(rt, row.alloc, worked)?;
+    print_alone(row, closed.as_slice())
+}
+
+fn print_alone(row: &Row, closed: &[Closed<Log>]) -> io::Result<()> {
+    let mut alone = Vec::new(row.alloc);
+    for one in closed.chunks(1) {
+        alone.append(&mut join_all(row.alloc, one)?)?;
+    }
+    alone.as_mut_slice().reverse();
+    let text = tell(row.alloc, EARLY, alone.as_slice())?;
+    row.lines(text.as_str())
+}
