@@ -1,6 +1,6 @@
 """The forms of a picture of a log, as SVG: a canvas that collects them, the marks on it, and the legend of those that were drawn.
 
-Each place is a whole number and nothing goes by the order of a set, so one picture has one spelling in bytes. No mark is told from
+Each place is a whole number and nothing goes by the order of a set, so one picture has one encoding in bytes. No mark is told from
 another by its colour alone: each has its own shape, or its own dashes.
 """
 
@@ -32,8 +32,8 @@ class Canvas:
         self.kinds = set()
 
     def add(self, name, content="", **attributes):
-        spelled = "".join(f' {key.replace("_", "-")}="{escape(str(value))}"' for key, value in attributes.items())
-        self.forms.append(f"<{name}{spelled}>{escape(content)}</{name}>" if content else f"<{name}{spelled}/>")
+        encoded = "".join(f' {key.replace("_", "-")}="{escape(str(value))}"' for key, value in attributes.items())
+        self.forms.append(f"<{name}{encoded}>{escape(content)}</{name}>" if content else f"<{name}{encoded}/>")
 
     def line(self, x1, y1, x2, y2, stroke=INK, **more):
         self.add("line", x1=x1, y1=y1, x2=x2, y2=y2, stroke=stroke, **more)

@@ -46,7 +46,7 @@ class Case(NamedTuple):
         return 0 if self.task == "inspect" else {b"bad": 2, b"unsound": 3}.get(self.output.split(b" ")[0], 0)
 
 
-def spelled(text):
+def encoded(text):
     """The bytes of a block: `\\` at the end of a line joins it with the next one, `\\xNN` is a byte, `\\{TEXT*N}` is a text N times."""
     text = re.sub(r"\\\{([^}]*)\*([0-9]+)\}", lambda it: it[1] * int(it[2]), text.replace("\\\n", ""))
     return re.sub(r"\\(r|x[0-9a-f]{2})", lambda it: ast.literal_eval(f"'{it[0]}'"), text).encode("latin-1")
@@ -60,7 +60,7 @@ def cases():
             task, _, name = head.partition(" ")
             text, _, rest = ("\n" + rest).partition("\n--\n")
             output, _, said = rest.rstrip("\n").partition("\n-- explained\n")
-            text, output = spelled(text.removeprefix("\n") + "\n" * bool(text)), spelled(output + "\n" * bool(output))
+            text, output = encoded(text.removeprefix("\n") + "\n" * bool(text)), encoded(output + "\n" * bool(output))
             yield Case(f"{path.stem}: {task} {name or last_line(text)}", task, text, output, said.encode() or None)
 
 

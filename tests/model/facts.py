@@ -1,4 +1,4 @@
-"""Facts: records, truncations and advances, their rules of shape, and the lines that spell them."""
+"""Facts: records, truncations and advances, their rules of shape, and the lines that encode them."""
 
 from dataclasses import dataclass
 

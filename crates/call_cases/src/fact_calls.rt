@@ -1,6 +1,6 @@
 //! Facts, logs, bytes and the plain model.
 //!
-//! A line that spells a fact is kept, `clear` forgets those kept, and `kept` and `model` ask about them.
+//! A line that encodes a fact is kept, `clear` forgets those kept, and `kept` and `model` ask about them.
 
 mod bench;
 mod bodies;

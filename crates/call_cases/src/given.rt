@@ -1,4 +1,4 @@
-//! What the words of rows spell: facts, bytes, and pages and images whose every byte is one.
+//! What the words of rows encode: facts, bytes, and pages and images whose every byte is one.
 
 use crate::answer::Answer;
 use crate::keeping::add;
@@ -9,7 +9,7 @@ use redo_core::{Advance, Cut, Fact, Key, Page, Patch, Record, SharedPage, Write}
 use script_text::read_fact;
 use std::alloc::{AllocError, Global};
 
-/// Keeps the fact that a line spells, and tells its number.
+/// Keeps the fact that a line encodes, and tells its number.
 pub fn keep_fact(alloc: Global, facts: &mut Vec<Fact>, line: &str) -> Result<Answer, AllocError> {
     match read_fact(alloc, line.as_bytes())? {
         Some(fact) => add("Fact", facts, fact),
@@ -50,7 +50,7 @@ pub fn advance(row: &Row) -> Option<Advance> {
     Advance::of_reader(row.byte(0), row.short(1), row.number(2)).ok()
 }
 
-/// The fact that a name and the row's numbers spell, or None where they spell none.
+/// The fact that a name and the row's numbers encode, or None where they encode none.
 pub fn fact(row: &Row, name: &str) -> Result<Option<Fact>, AllocError> {
     match name {
         "record" => record(row, false),
@@ -101,7 +101,7 @@ fn put_times(out: &mut BytesMut, bytes: &[u8], times: u16) -> Result<(), AllocEr
     Ok(())
 }
 
-/// Appends what a word spells: hexadecimal digits, as many times as the number behind a star says. False where it spells nothing.
+/// Appends what a word encodes: hexadecimal digits, as many times as the number behind a star says. False where it encodes nothing.
 fn put_word(alloc: Global, out: &mut BytesMut, word: &str) -> Result<bool, AllocError> {
     let (digits, times) = word.split_once('*').unwrap_or((word, "1"));
     match hex::decode(alloc, digits) {
@@ -113,7 +113,7 @@ fn put_word(alloc: Global, out: &mut BytesMut, word: &str) -> Result<bool, Alloc
     }
 }
 
-/// The bytes that words spell, one behind the other, or None where one spells nothing.
+/// The bytes that words encode, one behind the other, or None where one encodes nothing.
 pub fn bytes(alloc: Global, words: &str) -> Result<Option<BytesMut>, AllocError> {
     let mut bytes = BytesMut::new(alloc);
     for word in words.split(' ') {

@@ -16,7 +16,7 @@ use Rattle.segment_theorems.proofs.Same.{meaning_law}
 use Rattle.segment_core.specs.Forgetting.{IsSoundState}
 use Rattle.segment_core.specs.Reading.{IsFrontAt, IsReadResult}
 use Rattle.segment_core.specs.Refusing.{FitsSoundLog}
-use Rattle.segment_core.specs.Taking.{TellsChange}
+use Rattle.segment_core.specs.Taking.{ReportsChange}
 use Rattle.segment_core.specs.declared.answers.Front.{Front}
 use Rattle.segment_core.specs.declared.answers.ReadFault.{ReadFault}
 use Rattle.segment_core.specs.declared.answers.ReadFault.TheVariants as fault
@@ -50,7 +50,7 @@ use Rattle.replica.specs.Hydrating.{MakesSegment, Finishes, StandsFor, EndsInUni
 use Rattle.replica.specs.Machine.{IsReply}
 use Rattle.replica.specs.Meaning.{BringsDelta, ReplicaMeans}
 use Rattle.cluster_theorems.specs.Following.{IsRead}
-use Rattle.cluster_theorems.specs.Replying.{TellsTake, TellsSummary, TellsDelta, TellsAbsorb, EndsStaging, RepliesAs}
+use Rattle.cluster_theorems.specs.Replying.{ReportsTake, ReportsSummary, ReportsDelta, ReportsAbsorb, EndsStaging, RepliesAs}
 use Rattle.cluster_theorems.proofs.Made.{IsOfFacts}
 
 module _ (roster : ℕ) (log facts : List Fact) (s : State) (sound : IsSound roster log) (means : Means roster log facts s) where
@@ -61,21 +61,21 @@ module _ (roster : ℕ) (log facts : List Fact) (s : State) (sound : IsSound ros
   changed_back : (reply.Changed ≡ reply.Unchanged) → taken.Changed ≡ taken.Unchanged
   changed_back e = cc
 
-  took : (fact : Fact) (told : Reply) (answer : Result Taken (Refused Fact Refusal)) → Contains log fact → IfOk answer (TellsChange s fact)
+  took : (fact : Fact) (told : Reply) (answer : Result Taken (Refused Fact Refusal)) → Contains log fact → IfOk answer (ReportsChange s fact)
       → IfErr answer (λ e. FitsSoundLog s fact → e.fault ≡ refusal.Memory) → told ≡ taken_reply answer
-      → (told ≡ reply.Memory) ⊎ TellsTake roster facts fact told
+      → (told ≡ reply.Memory) ⊎ ReportsTake roster facts fact told
   took fact told (Ok taken.Changed) among tells fits is =
-      let tell : TellsTake roster facts fact reply.Changed = (
+      let tell : ReportsTake roster facts fact reply.Changed = (
         inl refl,
         λ m of. let same = tells roster log facts m sound among means of in (λ e. same.0 (changed_back e), λ h. changed (same.1 h)),
       ) in
-      subst (λ r. (r ≡ reply.Memory) ⊎ TellsTake roster facts fact r) (sym is) (inr tell)
+      subst (λ r. (r ≡ reply.Memory) ⊎ ReportsTake roster facts fact r) (sym is) (inr tell)
   took fact told (Ok taken.Unchanged) among tells fits is =
-      let tell : TellsTake roster facts fact reply.Unchanged = (
+      let tell : ReportsTake roster facts fact reply.Unchanged = (
         inr refl,
         λ m of. let same = tells roster log facts m sound among means of in (λ e. same.0 refl, λ h. refl),
       ) in
-      subst (λ r. (r ≡ reply.Memory) ⊎ TellsTake roster facts fact r) (sym is) (inr tell)
+      subst (λ r. (r ≡ reply.Memory) ⊎ ReportsTake roster facts fact r) (sym is) (inr tell)
   took fact told (Err refused) among tells fits is =
       let e : refused.fault ≡ refusal.Memory = fits (roster, log, facts, sound, among, means) in
       inl (is ∙ ap refusal_reply e)
@@ -84,12 +84,12 @@ module _ (roster : ℕ) (log facts : List Fact) (s : State) (sound : IsSound ros
   sound_state : IsSoundState s
   sound_state = (roster, log, facts, sound, means)
 
-  summed : (summary : SummaryData) (told : Reply) → SumsUp s summary told → TellsSummary roster facts told
+  summed : (summary : SummaryData) (told : Reply) → SumsUp s summary told → ReportsSummary roster facts told
   summed summary told sums =
       (summary, λ m is. sums.meaning m ((meaning_law log facts s m (log_of_sound roster log sound) means).1 is), sums.is)
 
   delta_told : (summary : SummaryData) (told : Reply) (answer : Result DeltaData ReadFault) → IfOk answer (FillsSummary s summary)
-      → IfErr answer (λ e. IsSoundState s → e ≡ fault.Memory) → told ≡ delta_reply answer → (told ≡ reply.Memory) ⊎ TellsDelta roster facts summary told
+      → IfErr answer (λ e. IsSoundState s → e ≡ fault.Memory) → told ≡ delta_reply answer → (told ≡ reply.Memory) ⊎ ReportsDelta roster facts summary told
   delta_told summary told (Ok d) fills whole is =
       inr (means.0, means.1.position, (d, fills roster log facts means.0 sound means.1, is))
   delta_told summary told (Err why) fills whole is = inl (is ∙ ap fault_reply (whole sound_state))
@@ -101,7 +101,7 @@ module _ (roster : ℕ) (log facts : List Fact) (s : State) (sound : IsSound ros
       → BringsDelta roster log summary delta brought
       → OnOk answer (Answers s summary) → IfErr answer (RefusesAbsorb s summary delta)
       → IfErr answer (λ e. IsOfOneLog s summary delta → (e ≡ absorb.Refused refusal.Memory) ⊎ ((shown : Shown) × (e ≡ absorb.Uncovered shown)))
-      → told ≡ absorbed_reply answer → (told ≡ reply.Memory) ⊎ TellsAbsorb roster facts summary told
+      → told ≡ absorbed_reply answer → (told ≡ reply.Memory) ⊎ ReportsAbsorb roster facts summary told
   absorbed summary delta told (Ok done) brought brings answers refused fits is =
       inr (means.0, means.1.position, inl (is, answers_for roster log facts means.0 s sound means.1 summary answers.0 answers.1 answers.2))
   absorbed summary delta told (Err (absorb.Uncovered shown)) brought brings answers refused fits is =
@@ -239,7 +239,7 @@ replies_as roster log facts brought staged old new (request.AnswerWithin summary
     let t = says.0 in
     let r = t.replies in ⊎_elim
     (λ (lacks : t.whole ≡ reply.Memory). inl (within_memory most t.whole told lacks t.is))
-    (λ (tells : TellsDelta roster facts summary t.whole). inr (t.whole, tells, t.is))
+    (λ (tells : ReportsDelta roster facts summary t.whole). inr (t.whole, tells, t.is))
     (delta_told roster log facts old.cached.segment sound means summary t.whole r.answer r.fills r.sound r.is)
 replies_as roster log facts brought staged old new (request.Absorb summary delta) told sound means brings says =
     let t = says.0 in

@@ -23,13 +23,13 @@ use Rattle.replica.specs.Gossiping.{limited_reply}
 use Rattle.replica.specs.Replying.{gap_reply, read_reply}
 
 -- whether a fact changed what the facts mean
-abbrev pub TellsTake : ℕ → List Fact → Fact → Reply → Type 0
-TellsTake roster facts fact told =
+abbrev pub ReportsTake : ℕ → List Fact → Fact → Reply → Type 0
+ReportsTake roster facts fact told =
     ((told ≡ reply.Changed) ⊎ (told ≡ reply.Unchanged))
     × ((m : Meaning) → IsMeaning roster facts m → (told ≡ reply.Unchanged) ↔ IsMeaning roster (facts ++ fact ∷ []) m)
 
 -- the front of the facts
-pub record TellsFront (roster : ℕ) (facts : List Fact) (told : Reply) : Type 0 where
+pub record ReportsFront (roster : ℕ) (facts : List Fact) (told : Reply) : Type 0 where
   pub p : Position
   pub position : IsPosition roster facts p
   pub front : Front
@@ -37,7 +37,7 @@ pub record TellsFront (roster : ℕ) (facts : List Fact) (told : Reply) : Type 0
   pub is : told ≡ reply.Front front
 
 -- what the facts lack of the log
-pub record TellsGapOf (roster : ℕ) (log facts : List Fact) (told : Reply) : Type 0 where
+pub record ReportsGapOf (roster : ℕ) (log facts : List Fact) (told : Reply) : Type 0 where
   pub p : Position
   pub position : IsPosition roster facts p
   pub gap : Option Gap
@@ -45,7 +45,7 @@ pub record TellsGapOf (roster : ℕ) (log facts : List Fact) (told : Reply) : Ty
   pub is : told ≡ gap_reply gap
 
 -- the page of the facts at a read point, or why that is not admissible
-pub record TellsPage (roster : ℕ) (facts : List Fact) (page point : ℕ) (told : Reply) : Type 0 where
+pub record ReportsPage (roster : ℕ) (facts : List Fact) (page point : ℕ) (told : Reply) : Type 0 where
   pub p : Position
   pub position : IsPosition roster facts p
   pub answer : Result (List ℕ) ReadFault
@@ -53,23 +53,23 @@ pub record TellsPage (roster : ℕ) (facts : List Fact) (page point : ℕ) (told
   pub is : told ≡ read_reply answer
 
 -- the summary of what the facts mean
-abbrev pub TellsSummary : ℕ → List Fact → Reply → Type 0
-TellsSummary roster facts told =
+abbrev pub ReportsSummary : ℕ → List Fact → Reply → Type 0
+ReportsSummary roster facts told =
     (summary : SummaryData) × ((m : Meaning) → IsMeaning roster facts m → IsSummaryOf m summary) × (told ≡ reply.Summary summary)
 
 -- what the facts have beyond the summary
-abbrev pub TellsDelta : ℕ → List Fact → SummaryData → Reply → Type 0
-TellsDelta roster facts summary told =
+abbrev pub ReportsDelta : ℕ → List Fact → SummaryData → Reply → Type 0
+ReportsDelta roster facts summary told =
     (p : Position) × IsPosition roster facts p
     × ((delta : DeltaData) × Fills facts p (listing_of summary) (filling_of delta) × (told ≡ reply.Delta delta))
 
 -- the same, and `Large` in the place of a delta of more than so many bytes
-abbrev pub TellsWithin : ℕ → List Fact → SummaryData → ℕ → Reply → Type 0
-TellsWithin roster facts summary most told = (whole : Reply) × TellsDelta roster facts summary whole × (told ≡ limited_reply most whole)
+abbrev pub ReportsWithin : ℕ → List Fact → SummaryData → ℕ → Reply → Type 0
+ReportsWithin roster facts summary most told = (whole : Reply) × ReportsDelta roster facts summary whole × (told ≡ limited_reply most whole)
 
 -- whether the facts answer for the summary that a delta was made for
-abbrev pub TellsAbsorb : ℕ → List Fact → SummaryData → Reply → Type 0
-TellsAbsorb roster facts summary told =
+abbrev pub ReportsAbsorb : ℕ → List Fact → SummaryData → Reply → Type 0
+ReportsAbsorb roster facts summary told =
     (p : Position) × IsPosition roster facts p
     × (((told ≡ reply.Absorbed) × AnswersFor facts p (listing_of summary))
     ⊎ ((shown : Shown) × (told ≡ reply.Uncovered shown) × (AnswersFor facts p (listing_of summary) → ⊥)))
@@ -83,14 +83,14 @@ EndsStaging staged done told =
 -- What is replied by a node that these facts of the log have reached, and whose staging has taken pieces that brought such facts. Memory
 -- may be wanting. Else no fact, no delta and no staged segment is refused, and no block chain is broken.
 abbrev pub RepliesAs : ℕ → List Fact → List Fact → List (List Fact) → Request → Reply → Type 0
-RepliesAs roster log facts staged (request.Take fact) told = (told ≡ reply.Memory) ⊎ TellsTake roster facts fact told
-RepliesAs roster log facts staged request.Front told = TellsFront roster facts told
-RepliesAs roster log facts staged request.Gap told = TellsGapOf roster log facts told
-RepliesAs roster log facts staged (request.Read page point) told = TellsPage roster facts page point told
-RepliesAs roster log facts staged request.Ask told = (told ≡ reply.Memory) ⊎ TellsSummary roster facts told
-RepliesAs roster log facts staged (request.Answer summary) told = (told ≡ reply.Memory) ⊎ TellsDelta roster facts summary told
-RepliesAs roster log facts staged (request.AnswerWithin summary most) told = (told ≡ reply.Memory) ⊎ TellsWithin roster facts summary most told
-RepliesAs roster log facts staged (request.Absorb summary delta) told = (told ≡ reply.Memory) ⊎ TellsAbsorb roster facts summary told
+RepliesAs roster log facts staged (request.Take fact) told = (told ≡ reply.Memory) ⊎ ReportsTake roster facts fact told
+RepliesAs roster log facts staged request.Front told = ReportsFront roster facts told
+RepliesAs roster log facts staged request.Gap told = ReportsGapOf roster log facts told
+RepliesAs roster log facts staged (request.Read page point) told = ReportsPage roster facts page point told
+RepliesAs roster log facts staged request.Ask told = (told ≡ reply.Memory) ⊎ ReportsSummary roster facts told
+RepliesAs roster log facts staged (request.Answer summary) told = (told ≡ reply.Memory) ⊎ ReportsDelta roster facts summary told
+RepliesAs roster log facts staged (request.AnswerWithin summary most) told = (told ≡ reply.Memory) ⊎ ReportsWithin roster facts summary most told
+RepliesAs roster log facts staged (request.Absorb summary delta) told = (told ≡ reply.Memory) ⊎ ReportsAbsorb roster facts summary told
 RepliesAs roster log facts staged (request.Fold page) told = (told ≡ reply.Memory) ⊎ (told ≡ reply.Folded)
 RepliesAs roster log facts staged request.Discard told = told ≡ reply.Discarded
 RepliesAs roster log facts staged request.Tidy told = (told ≡ reply.Memory) ⊎ (told ≡ reply.Tidied)

@@ -116,9 +116,9 @@ one_absorb roster log facts asked r s sound its h k =
     let meaning = meaning_exists log asked (log_of_sound roster log sound) its in
     let m = meaning.0 in
     let p = k.p in
-    let Tells : Position → Reply → Type 0 =
+    let ReportsAnswer : Position → Reply → Type 0 =
     λ q t. ((t ≡ Absorbed) × AnswersFor facts q (summary_of_meaning m)) ⊎ ((shown : Shown) × (t ≡ Uncovered shown) × LeavesUncovered facts q m shown) in
-    let one : Tells p r = subst (λ q. Tells q r) (one_place facts h.p k.p h.position k.position) (h.tells m meaning.1) in
+    let one : ReportsAnswer p r = subst (λ q. ReportsAnswer q r) (one_place facts h.p k.p h.position k.position) (h.tells m meaning.1) in
     ⊎_elim
     (λ (x : (r ≡ Absorbed) × AnswersFor facts p (summary_of_meaning m)). ⊎_elim
     (λ (y : (s ≡ Absorbed) × AnswersFor facts p (summary_of_meaning m)). x.0 ∙ sym y.0)

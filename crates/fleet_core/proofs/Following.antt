@@ -10,7 +10,7 @@ use Rattle.segment_theorems.specs.Means.{MeansAt}
 use Rattle.segment_theorems.specs.Promises.{TakesFact, KeepsMeaningWith}
 use Rattle.segment_core.specs.Folding.{IsFoldOf}
 use Rattle.segment_core.specs.declared.fold_plan.Folded.{Folded}
-use Rattle.segment_core.specs.Taking.{TellsChange}
+use Rattle.segment_core.specs.Taking.{ReportsChange}
 use Rattle.segment_core.specs.Refusing.{FitsSoundLog}
 use Rattle.segment_core.specs.Reading.{IsFrontAt, IsReadResult}
 use Rattle.segment_core.specs.declared.answers.Front.{Front}
@@ -39,7 +39,7 @@ refused_at : (readers : ℕ) (other : Option State) (old new : State) (node : �
 refused_at readers other old new node fact why reply sound same is = search rules
 
 follows_take : (readers : ℕ) (other : Option State) (old new : State) (node : ℕ) (fact : Fact) (answer : Result Taken (Refused Fact Refusal))
-    (reply : Reply) → OnOk answer (TakesFact old fact new) → IfOk answer (TellsChange old fact) → IfErr answer
+    (reply : Reply) → OnOk answer (TakesFact old fact new) → IfOk answer (ReportsChange old fact) → IfErr answer
     (λ e. FitsSoundLog old fact → e.fault ≡ refusal.Memory) → OnErr answer (new ≡ old) → reply ≡ taken_reply answer → OwnFollows readers old other
     (Take node fact) reply new
 follows_take readers other old new node fact (Ok taken.Changed) reply takes tells sound same is =

@@ -17,13 +17,13 @@ use Rattle.segment_theorems.proofs.Same.{meaning_law}
 use Rattle.segment_core.specs.declared.answers.Refusal.{Refusal}
 use Rattle.segment_core.specs.declared.answers.Refusal.TheVariants as refusal
 use Rattle.segment_join.specs.Joining.{MeansUnion, AreOfOneLog}
-use Rattle.segment_join.specs.Sameness.{TellsSame}
+use Rattle.segment_join.specs.Sameness.{ReportsSame}
 use Rattle.fleet_steps.specs.declared.steps.Step.TheVariants.{Join, Same, Covers, Wipe}
 use Rattle.fleet_core.specs.declared.replies.Reply.{Reply}
 use Rattle.fleet_core.specs.declared.replies.Reply.TheVariants.{Joined, Answer, Wiped, Memory}
 use Rattle.fleet_core.specs.Replying.{refusal_reply, joined_reply}
 use Rattle.fleet_core.specs.AtNode.{OwnFollows}
-use Rattle.fleet_core.specs.Calls.{TellsCovers}
+use Rattle.fleet_core.specs.Calls.{ReportsCovers}
 
 -- ---- joins
 
@@ -81,7 +81,7 @@ follows_join readers old other new node from (Err why) reply union sound same is
 
 -- ---- comparisons
 
-pub follows_same : (readers : ℕ) (s : State) (other : Option State) (node than : ℕ) (answer : Bool) → TellsSame s (unwrap_or other s) answer
+pub follows_same : (readers : ℕ) (s : State) (other : Option State) (node than : ℕ) (answer : Bool) → ReportsSame s (unwrap_or other s) answer
     → OwnFollows readers s other (Same node than) (Answer answer) s
 follows_same readers s other node than answer tells = λ roster log facts others messages size sound t means beside.
     let l = log_of_sound roster log sound in (
@@ -94,7 +94,7 @@ follows_same readers s other node than answer tells = λ roster log facts others
       means,
     )
 
-pub follows_covers : (readers : ℕ) (s : State) (other : Option State) (node than : ℕ) (answer : Bool) → TellsCovers s (unwrap_or other s) answer
+pub follows_covers : (readers : ℕ) (s : State) (other : Option State) (node than : ℕ) (answer : Bool) → ReportsCovers s (unwrap_or other s) answer
     → OwnFollows readers s other (Covers node than) (Answer answer) s
 follows_covers readers s other node than answer tells = λ roster log facts others messages size sound t means beside.
     let l = log_of_sound roster log sound in (

@@ -9,11 +9,11 @@ use Rattle.log_theorems.specs.OrderOfMeanings.{Covers}
 use Rattle.segment_theorems.specs.State.{State, version_of, empty_state}
 use Rattle.segment_theorems.specs.HasMeaning.{HasMeaning}
 use Rattle.segment_theorems.specs.Shows.{Shows}
-use Rattle.segment_core.specs.BlockChain.{TellsBreak}
+use Rattle.segment_core.specs.BlockChain.{ReportsBreak}
 use Rattle.segment_core.specs.Exactly.{TakesExactly}
 use Rattle.segment_core.specs.Folding.{PlansFold, Commits}
 use Rattle.segment_core.specs.Forgetting.{DiscardsJust}
-use Rattle.segment_core.specs.Reading.{IsFrontOf, TellsOutside}
+use Rattle.segment_core.specs.Reading.{IsFrontOf, ReportsOutside}
 use Rattle.segment_core.specs.declared.answers.Front.{Front}
 use Rattle.segment_core.specs.declared.answers.ReadFault.{ReadFault}
 use Rattle.segment_core.specs.declared.answers.Refusal.{Refusal}
@@ -21,7 +21,7 @@ use Rattle.segment_core.specs.declared.answers.Refusal.TheVariants as refusal
 use Rattle.segment_core.specs.declared.answers.Taken.{Taken}
 use Rattle.segment_core.specs.declared.fold_plan.Folded.{Folded}
 use Rattle.segment_join.specs.Joining.{MeansUnion, TakesTold, RefusesJoin, AreOfOneLog, JoinsInto}
-use Rattle.segment_join.specs.Sameness.{TellsSame}
+use Rattle.segment_join.specs.Sameness.{ReportsSame}
 use Rattle.fleet_steps.specs.Nodes.{node_of, nodes_of, first_missing}
 use Rattle.fleet_steps.specs.declared.steps.Step.{Step}
 use Rattle.fleet_steps.specs.declared.steps.Step.TheVariants as step
@@ -68,8 +68,8 @@ pub record Fronts (s : State) (reply : Reply) : Type 0 where
 pub record Reads (s : State) (page point : ℕ) (reply : Reply) : Type 0 where
   pub answer : Result (List ℕ) ReadFault
   pub own : IfOk answer (Shows s page point)
-  pub outside : TellsOutside s point answer
-  pub broken : TellsBreak s page point answer
+  pub outside : ReportsOutside s point answer
+  pub broken : ReportsBreak s page point answer
   pub told : reply ≡ read_reply answer
 
 -- another segment is joined into the segment
@@ -90,12 +90,12 @@ JoinsBeside old None reply new = (reply ≡ Joined) × (new ≡ old)
 JoinsBeside old (Some other) reply new = JoinsOther old other reply new
 
 -- the answer tells whether the first segment's meaning covers the second's
-abbrev pub TellsCovers : State → State → Bool → Type 0
-TellsCovers upper lower answer = (y x : Meaning) → HasMeaning upper y → HasMeaning lower x → IsTrue answer ↔ Covers y x
+abbrev pub ReportsCovers : State → State → Bool → Type 0
+ReportsCovers upper lower answer = (y x : Meaning) → HasMeaning upper y → HasMeaning lower x → IsTrue answer ↔ Covers y x
 
 -- there was no memory, or the reply is an answer that tells this
 abbrev pub RepliesAnswer : (Bool → Type 0) → Reply → Type 0
-RepliesAnswer Tells reply = (reply ≡ Memory) ⊎ ((answer : Bool) × Tells answer × (reply ≡ Answer answer))
+RepliesAnswer ReportsAnswer reply = (reply ≡ Memory) ⊎ ((answer : Bool) × ReportsAnswer answer × (reply ≡ Answer answer))
 
 -- the segment is as new
 abbrev pub Wipes : ℕ → State → Reply → State → Type 0
@@ -111,9 +111,9 @@ NodeCalls roster old other messages (step.Front node) reply new made = Fronts ol
 NodeCalls roster old other messages (step.Read node page point offset len) reply new made = Reads old page point reply × (new ≡ old) × (made ≡ messages)
 NodeCalls roster old other messages (step.Join node from) reply new made = JoinsBeside old other reply new × (made ≡ messages)
 NodeCalls roster old other messages (step.Same node than) reply new made =
-    RepliesAnswer (TellsSame old (unwrap_or other old)) reply × (new ≡ old) × (made ≡ messages)
+    RepliesAnswer (ReportsSame old (unwrap_or other old)) reply × (new ≡ old) × (made ≡ messages)
 NodeCalls roster old other messages (step.Covers node than) reply new made =
-    RepliesAnswer (TellsCovers old (unwrap_or other old)) reply × (new ≡ old) × (made ≡ messages)
+    RepliesAnswer (ReportsCovers old (unwrap_or other old)) reply × (new ≡ old) × (made ≡ messages)
 NodeCalls roster old other messages (step.Wipe node) reply new made = Wipes roster old reply new × (made ≡ messages)
 NodeCalls roster old other messages (step.Ask node) reply new made = Asks old messages reply made × (new ≡ old)
 NodeCalls roster old other messages (step.Answer node message) reply new made = AnswersNumber old messages message reply made × (new ≡ old)

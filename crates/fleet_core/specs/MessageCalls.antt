@@ -11,7 +11,7 @@ use Rattle.segment_core.specs.declared.answers.ReadFault.TheVariants as fault
 use Rattle.segment_core.specs.declared.answers.Refusal.TheVariants as refusal
 use Rattle.gossip_core.specs.Summarizing.{Summarizes, IsSummaryOf}
 use Rattle.gossip_core.specs.Replying.{AnswersSummary, FillsSummary, IsLeastBreak}
-use Rattle.gossip_core.specs.Absorbing.{MeansBoth, IsOfOneLog, Answers, AbsorbsInto, RefusesAbsorb, TellsRoster}
+use Rattle.gossip_core.specs.Absorbing.{MeansBoth, IsOfOneLog, Answers, AbsorbsInto, RefusesAbsorb, ReportsRoster}
 use Rattle.gossip_core.specs.declared.absorbing.AbsorbRefusal.{AbsorbRefusal}
 use Rattle.gossip_core.specs.declared.absorbing.AbsorbRefusal.TheVariants.{Refused as RefusedFor, Uncovered as UncoveredBy}
 use Rattle.gossip_core.specs.declared.answering.Shown.{Shown}
@@ -72,7 +72,7 @@ pub record AbsorbsDelta (old : State) (summary : SummaryData) (delta : DeltaData
   pub absorbs : OnOk answer (AbsorbsInto old delta new)
   pub answers : OnOk answer (Answers old summary)
   pub refused : IfErr answer (RefusesAbsorb old summary delta)
-  pub roster : TellsRoster old delta answer
+  pub roster : ReportsRoster old delta answer
   pub unchanged : OnErr answer (new ≡ old)
 
 pub record AbsorbsAnswer (old : State) (summary : SummaryData) (delta : DeltaData) (reply : Reply) (new : State) : Type 0 where

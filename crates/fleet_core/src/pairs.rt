@@ -1,9 +1,9 @@
 ghost use Rattle.std.specs.Prelude.{◌≡◌, ℕ, unwrap_or};
 ghost use Rattle.std.specs.Option.{option_copied};
-ghost use Rattle.segment_join.specs.Sameness.{TellsSame};
+ghost use Rattle.segment_join.specs.Sameness.{ReportsSame};
 ghost use Rattle.fleet_steps.specs.declared.steps.Step.TheVariants.{Join as JoinOf, Same as SameOf, Covers as CoversOf};
 ghost use Rattle.fleet_core.specs.AtNode.{OwnFollows};
-ghost use Rattle.fleet_core.specs.Calls.{JoinsBeside, RepliesAnswer, TellsCovers};
+ghost use Rattle.fleet_core.specs.Calls.{JoinsBeside, RepliesAnswer, ReportsCovers};
 ghost use Rattle.fleet_core.specs.Refused.{IsRefusal};
 ghost use Rattle.fleet_core.specs.declared.replies.Reply.TheVariants.{NoNode, NoMessage};
 
@@ -29,7 +29,7 @@ pub fn join_beside(segment: &mut Segment, other: Option<&Segment>) -> Reply
 /// Whether a node and the other one mean the same. A node means the same as itself.
 pub fn same_beside(segment: &Segment, other: Option<&Segment>) -> Reply
     ensures follows { (readers node than : ℕ) → OwnFollows readers segment.now (option_copied other.entry) (SameOf node than) result segment.now }
-    ensures calls { RepliesAnswer (TellsSame segment.now (unwrap_or (option_copied other.entry) segment.now)) result }
+    ensures calls { RepliesAnswer (ReportsSame segment.now (unwrap_or (option_copied other.entry) segment.now)) result }
     ensures found { (node : ℕ) → result ≡ NoNode node → ⊥ }
     ensures named { (number : ℕ) → result ≡ NoMessage number → ⊥ }
 {
@@ -42,7 +42,7 @@ pub fn same_beside(segment: &Segment, other: Option<&Segment>) -> Reply
 /// Whether what a node means covers what the other one means. A node covers itself.
 pub fn covers_beside(segment: &Segment, other: Option<&Segment>) -> Reply
     ensures follows { (readers node than : ℕ) → OwnFollows readers segment.now (option_copied other.entry) (CoversOf node than) result segment.now }
-    ensures calls { RepliesAnswer (TellsCovers segment.now (unwrap_or (option_copied other.entry) segment.now)) result }
+    ensures calls { RepliesAnswer (ReportsCovers segment.now (unwrap_or (option_copied other.entry) segment.now)) result }
     ensures found { (node : ℕ) → result ≡ NoNode node → ⊥ }
     ensures named { (number : ℕ) → result ≡ NoMessage number → ⊥ }
 {

@@ -11,7 +11,7 @@ use Rattle.clap.specs.declared.parser.matches.SubCommand.{SubCommand}
 use Rattle.clap.proofs.OnLiterals.{clap_on_literals}
 use Rattle.clap.proofs.WalkLemmas.{list_any-map}
 use Rattle.fleet_tool.specs.CommandLine.{AsksDrill, NameTask, NameExplained, fleet_app, line_faults, subcommand_in}
-use Rattle.fleet_tool.specs.DrillLine.{IsDrillTask, SpellsDrill}
+use Rattle.fleet_tool.specs.DrillLine.{IsDrillTask, EncodesDrill}
 use Rattle.fleet_tool.specs.declared.job.LineFault.{LineFault}
 use Rattle.fleet_tool.specs.declared.job.Task.{Task}
 use Rattle.fleet_tool.specs.declared.job.Task.TheVariants.{Drill}
@@ -102,23 +102,23 @@ pub drill_entered : (m : ArgMatches) (words : List (List ℕ)) (task : DrillTask
     → subcommand_name_of m ≡ Some (codes "drill")
 drill_entered m words task entered asks = entered_name m (codes "drill") asks.options (entered ∙ asks.names)
 
--- and spell it by the options that were found
-pub drill_spelled : (m : ArgMatches) (words : List (List ℕ)) (task : DrillTask) (options : List Row) → subcommand_rows_of m ≡ subcommand_in words
-    → AsksDrill words task → option_map (λ p. p.1) (subcommand_rows_of m) ≡ Some options → SpellsDrill options task
-drill_spelled m words task options entered asks found =
+-- and encode it by the options that were found
+pub drill_encoded : (m : ArgMatches) (words : List (List ℕ)) (task : DrillTask) (options : List Row) → subcommand_rows_of m ≡ subcommand_in words
+    → AsksDrill words task → option_map (λ p. p.1) (subcommand_rows_of m) ≡ Some options → EncodesDrill options task
+drill_encoded m words task options entered asks found =
     let seen : option_map (λ p. p.1) (subcommand_rows_of m) ≡ Some asks.options =
     ap (λ (o : Option (List ℕ × List Row)). option_map (λ p. p.1) o) (entered ∙ asks.names) in
     let same : asks.options ≡ options = cc in
-    subst (λ (rows : List Row). SpellsDrill rows task) same asks.spells
+    subst (λ (rows : List Row). EncodesDrill rows task) same asks.encodes
 
 -- a drill that was found is asked for
 pub drill_asked : (m : ArgMatches) (words : List (List ℕ)) (found task : DrillTask) (options : List Row) → subcommand_rows_of m ≡ subcommand_in words
-    → subcommand_name_of m ≡ Some (codes "drill") → option_map (λ p. p.1) (subcommand_rows_of m) ≡ Some options → SpellsDrill options found
+    → subcommand_name_of m ≡ Some (codes "drill") → option_map (λ p. p.1) (subcommand_rows_of m) ≡ Some options → EncodesDrill options found
     → line_faults words ≡ [] → list_any (λ word. bytes_eq word (codes "--")) words ≡ false → found ≡ task → AsksDrill words task
-drill_asked m words found task options entered name rows spells right whole same = record {
+drill_asked m words found task options entered name rows encodes right whole same = record {
   options = options;
   names = sym entered ∙ entered_rows m (codes "drill") options name rows;
-  spells = subst (SpellsDrill options) same spells;
+  encodes = subst (EncodesDrill options) same encodes;
   right = right;
   whole = whole;
 }

@@ -9,7 +9,7 @@ unfolding clap_on_literals subcommand_in line_faults
 plain_drill program unmarked = record {
   options = _;
   names = refl;
-  spells = record {
+  encodes = record {
     nodes = (codes "3", refl, (omega arith, (omega arith, tt)), refl);
     workers = (codes "4", refl, (omega arith, (omega arith, tt)), refl);
     size = refl;

@@ -12,7 +12,7 @@ use Rattle.fleet_tool.specs.declared.job.TextTask.{TextTask}
 use Rattle.fleet_tool.specs.declared.drill_line.DrillTask.{DrillTask}
 use Rattle.fleet_tool.specs.TaskName.{name_of, as_text_task}
 use Rattle.fleet_tool.specs.declared.job.LinesTask.{LinesTask}
-use Rattle.fleet_tool.specs.DrillLine.{drill_shape, SpellsDrill}
+use Rattle.fleet_tool.specs.DrillLine.{drill_shape, EncodesDrill}
 
 -- the command, with a version, and its subcommands, of which the drill alone has words of its own
 abbrev pub top : App
@@ -57,11 +57,11 @@ NameTask words task = (program : List ℕ) × (words ≡ program ∷ name_of tas
 abbrev pub NameExplained : List (List ℕ) → LinesTask → Type 0
 NameExplained words task = (program : List ℕ) × (words ≡ program ∷ name_of (as_text_task task) ∷ codes "--explain" ∷ [])
 
--- The words name the drill and spell its numbers and its size, as clap takes them: they have no fault, and no word that it leaves out.
+-- The words name the drill and encode its numbers and its size, as clap takes them: they have no fault, and no word that it leaves out.
 pub record AsksDrill (words : List (List ℕ)) (task : DrillTask) : Type 0 where
   pub options : List Row
   pub names : subcommand_in words ≡ Some (codes "drill", options)
-  pub spells : SpellsDrill options task
+  pub encodes : EncodesDrill options task
   pub right : line_faults words ≡ []
   pub whole : list_any (λ word. bytes_eq word (codes "--")) words ≡ false
 

@@ -1,4 +1,4 @@
--- The words of a drill: what its options spell, and within which ranges.
+-- The words of a drill: what its options encode, and within which ranges.
 use Rattle.std.specs.Prelude.{◌≡◌, ◌<◌, ◌≤◌, ℕ, List, [], ◌∷◌, Option, Some, codes}
 use Rattle.std.specs.Str.Parse.{IsNumeral, digits_value, without_leading_plus}
 use Rattle.clap.specs.Words.{Row, Rule, Shape, first_of, new_app, new_rule, one_of}
@@ -34,19 +34,19 @@ drill_shape = record (new_app (codes "drill")).top {
   rules = number_rule (codes "nodes") 6 (codes "3") ∷ number_rule (codes "workers") 16 (codes "4") ∷ size_rule ∷ [];
 }
 
--- ---- what they spell
+-- ---- what they encode
 
 abbrev pub size_name : Size → List ℕ
 size_name Small = codes "small"
 size_name Large = codes "large"
 
--- the text is there, and spells the number in decimal digits
-abbrev pub SpellsNumber : Option (List ℕ) → ℕ → Type 0
-SpellsNumber text n = (digits : List ℕ) × (text ≡ Some digits) × IsNumeral 10 (without_leading_plus digits)
+-- the text is there, and encodes the number in decimal digits
+abbrev pub EncodesNumber : Option (List ℕ) → ℕ → Type 0
+EncodesNumber text n = (digits : List ℕ) × (text ≡ Some digits) × IsNumeral 10 (without_leading_plus digits)
     × (digits_value 10 (without_leading_plus digits) ≡ n)
 
--- the values of the options, given or left out, spell the drill
-pub record SpellsDrill (options : List Row) (task : DrillTask) : Type 0 where
-  pub nodes : SpellsNumber (one_of (codes "nodes") options) task.nodes
-  pub workers : SpellsNumber (one_of (codes "workers") options) task.workers
+-- the values of the options, given or left out, encode the drill
+pub record EncodesDrill (options : List Row) (task : DrillTask) : Type 0 where
+  pub nodes : EncodesNumber (one_of (codes "nodes") options) task.nodes
+  pub workers : EncodesNumber (one_of (codes "workers") options) task.workers
   pub size : first_of (codes "size") options ≡ Some (size_name task.size)

@@ -4,7 +4,7 @@ use Rattle.redo_core.specs.Sound.{IsSound}
 use Rattle.redo_core.specs.declared.facts.Fact.{Fact}
 use Rattle.redo_core.specs.declared.laws.LawFault.{LawFault}
 use Rattle.log_law.specs.Report.{Reports}
-use Rattle.log_law.specs.Breach.{TellsBreach}
+use Rattle.log_law.specs.Breach.{ReportsBreach}
 use Rattle.script_text.specs.Parts.{parts_at}
 use Rattle.script_text.specs.Script.{ScriptData, Rostered, rostered, script_of, facts_of}
 use Rattle.line_reasons.specs.TextReasons.{IsTextReason, IsGoodLine}
@@ -18,7 +18,7 @@ abbrev pub script_log : Result (Rostered ScriptData) ℕ → Result (Rostered (L
 script_log (Ok script) = Ok (rostered script.roster (script.said).facts)
 script_log (Err at) = Err at
 
--- the log that a text of the task spells, or its bad line
+-- the log that a text of the task encodes, or its bad line
 abbrev pub log_of : LinesTask → List ℕ → Result (Rostered (List Fact)) ℕ
 log_of Run text = script_log (script_of text)
 log_of Check text = facts_of text
@@ -36,7 +36,7 @@ HasNothingToTell task text =
 -- the reason names the first fault of a log, and with what else it breaks its law
 abbrev pub IsUnsoundReason : Rostered (List Fact) → Reason → Type 0
 IsUnsoundReason log (BadLine at reason) = ⊥
-IsUnsoundReason log (Unsound fault breach) = Reports log.roster log.said fault × TellsBreach log.roster log.said fault breach
+IsUnsoundReason log (Unsound fault breach) = Reports log.roster log.said fault × ReportsBreach log.roster log.said fault breach
 
 -- the reason names the text's bad line, and is true of it; or its log's first fault
 abbrev pub IsTrueReason : LinesTask → List ℕ → Reason → Type 0

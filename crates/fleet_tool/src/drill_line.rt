@@ -2,7 +2,7 @@
 
 ghost use Rattle.std.specs.Prelude.{◌≡◌, ◌<◌, ◌^◌, ◌↔◌, ℕ, IfOk, IfSome, IsTrue, Some, codes, false};
 ghost use Rattle.clap.specs.Words.{shape_of, rule_of, found_of, rows_of, first_of, one_of};
-ghost use Rattle.fleet_tool.specs.DrillLine.{IsDrillTask, SpellsNumber, SpellsDrill, size_name, number_rule, size_rule, drill_shape};
+ghost use Rattle.fleet_tool.specs.DrillLine.{IsDrillTask, EncodesNumber, EncodesDrill, size_name, number_rule, size_rule, drill_shape};
 
 use crate::help;
 use clap::builder::ValueParser;
@@ -85,8 +85,8 @@ fn size_of(name: &str) -> Option<Size>
 
 // The number that an option was given.
 fn number_in(options: &ArgMatches<'_>, id: &str) -> Option<usize>
-    ensures spelled { IfSome result (SpellsNumber (one_of id.now (rows_of (found_of options.now)))) }
-    ensures known { (n : ℕ) → n < 2 ^ 64 → SpellsNumber (one_of id.now (rows_of (found_of options.now))) n → result ≡ Some n }
+    ensures encoded { IfSome result (EncodesNumber (one_of id.now (rows_of (found_of options.now)))) }
+    ensures known { (n : ℕ) → n < 2 ^ 64 → EncodesNumber (one_of id.now (rows_of (found_of options.now))) n → result ≡ Some n }
 {
     options.get_one::<usize>(id)
 }
@@ -99,10 +99,10 @@ fn size_in(options: &ArgMatches<'_>) -> Option<Size>
     size_of(options.get_str("size")?)
 }
 
-/// The drill that its options spell, which may be out of range.
+/// The drill that its options encode, which may be out of range.
 pub fn drill_in(options: &ArgMatches<'_>) -> Option<DrillTask>
-    ensures spelled { IfSome result (SpellsDrill (rows_of (found_of options.now))) }
-    ensures known { (task : DrillTask) → IsDrillTask task → SpellsDrill (rows_of (found_of options.now)) task → result ≡ Some task }
+    ensures encoded { IfSome result (EncodesDrill (rows_of (found_of options.now))) }
+    ensures known { (task : DrillTask) → IsDrillTask task → EncodesDrill (rows_of (found_of options.now)) task → result ≡ Some task }
 {
     let nodes = number_in(options, "nodes")?;
     let workers = number_in(options, "workers")?;

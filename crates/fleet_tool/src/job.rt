@@ -134,7 +134,7 @@ fn texts_command<'a>(alloc: Global) -> Result<Command<'a>, AllocError>
         help::CHECK,
     )?;
     let inspect = Command::new(alloc, "inspect")
-        .about("Tells what each line of hexadecimal digits on standard input spells")
+        .about("Tells what each line of hexadecimal digits on standard input encodes")
         .after_help(help::INSPECT);
     with_check.subcommand(inspect)
 }

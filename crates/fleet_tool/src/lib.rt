@@ -1,7 +1,7 @@
 //! Texts in, texts out, over any reader and writer; and the program `fleet` over any runtime.
 //!
 //! `run_text` answers a script with the replies of a fleet, `check_text` answers a log with its soundness, `inspect_text` tells
-//! what each line of a capture spells. What they write is the output that the definitions in `specs/` give to the whole input, for
+//! what each line of a capture encodes. What they write is the output that the definitions in `specs/` give to the whole input, for
 //! every input whose bytes the reader tells; an input has just one (`laws`). The whole input is read before anything is written;
 //! an error says which device failed, or that memory ran out, and after `Input` and `Memory` nothing was written.
 //!

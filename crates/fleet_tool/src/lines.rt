@@ -4,7 +4,7 @@ ghost use Rattle.std.specs.Prelude.{◌≡◌, [], ◌∷◌, ◌++◌, OnOk, co
 ghost use Rattle.hex.specs.Hex.{encode_lower};
 ghost use Rattle.fleet_steps.specs.Shown.{ShowsInside};
 ghost use Rattle.fleet_core.specs.Replies.{HasCome};
-ghost use Rattle.script_text.specs.Spelled.{worded_line};
+ghost use Rattle.script_text.specs.Encoded.{worded_line};
 ghost use Rattle.fleet_tool.specs.Lines.{shown_bytes, front_text, uncovered_text, line_of};
 
 use fleet_core::Reply;

@@ -104,7 +104,7 @@ pub fn explain_text<R: Read, W: Write>(
     Ok(explained)
 }
 
-/// Tells what each line of hexadecimal digits spells: a fact's line, what a summary, a delta or a piece of a snapshot holds,
+/// Tells what each line of hexadecimal digits encodes: a fact's line, what a summary, a delta or a piece of a snapshot holds,
 /// the number of the first wire fault, or `bad hex`.
 ///
 /// Errors as for `run_text`.

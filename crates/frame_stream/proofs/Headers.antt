@@ -18,7 +18,7 @@ pub stated_header : (n : ℕ) (bytes : List ℕ) → n < 2 ^ 32 → stated (head
 unfolding header stated
 stated_header n bytes h = from_be_bytes-to_be_bytes_4 n h
 
--- four bytes are the header of the number that they spell
+-- four bytes are the header of the number that they encode
 pub header_of : (head : List ℕ) (n : ℕ) → length head ≡ 4 → ((i : ℕ) → get_or head i 0 < 256) → n ≡ from_be_bytes w32 head → header n ≡ head
 unfolding header
 header_of head n four bytes is = be_bytes_4 head n four bytes is
@@ -57,4 +57,4 @@ one_way (x ∷ xs) (y ∷ ys) rest behind a b r s e =
     (ap (λ (l : List ℕ). l ∷ xs) first.0 ∙ ap (λ (l : List (List ℕ)). y ∷ l) others.0, others.1)
 
 pub one_reading : OneReading
-one_reading input frames others rest behind a b = one_way frames others rest behind a.short b.short a.begun b.begun (sym a.spelled ∙ b.spelled)
+one_reading input frames others rest behind a b = one_way frames others rest behind a.short b.short a.begun b.begun (sym a.encoded ∙ b.encoded)

@@ -27,21 +27,21 @@ shorter rest frame behind e = grind (arith, common_steps, length-header)
 pub first_inside : (rest frame behind : List ℕ) (frames : List (List ℕ)) → AreInside rest frames → rest ≡ framed frame ++ behind → IsShort frame
     → (others : List (List ℕ)) × (frames ≡ frame ∷ others) × AreInside behind others
 first_inside rest frame behind [] h e short =
-    absurd (omega (arith, ap length (sym h.spelled ∙ e), length-append (framed frame) behind, length-append (header (length frame)) frame, length-header (length frame)))
+    absurd (omega (arith, ap length (sym h.encoded ∙ e), length-append (framed frame) behind, length-append (header (length frame)) frame, length-header (length frame)))
 first_inside rest frame behind (x ∷ xs) h e short =
-    let first = same_front frame x behind (concat (map framed xs)) short (All-head IsShort x xs h.short) (sym e ∙ h.spelled) in
-    (xs, ap (λ (l : List ℕ). l ∷ xs) (sym first.0), record { spelled = first.1; short = All-tail IsShort x xs h.short })
+    let first = same_front frame x behind (concat (map framed xs)) short (All-head IsShort x xs h.short) (sym e ∙ h.encoded) in
+    (xs, ap (λ (l : List ℕ). l ∷ xs) (sym first.0), record { encoded = first.1; short = All-tail IsShort x xs h.short })
 
 pub none_inside : (rest : List ℕ) (frames : List (List ℕ)) → AreInside rest frames → IsBegun rest → frames ≡ []
 none_inside rest [] h b = refl
-none_inside rest (x ∷ xs) h b = absurd (whole x (concat (map framed xs)) (All-head IsShort x xs h.short) (subst IsBegun h.spelled b))
+none_inside rest (x ∷ xs) h b = absurd (whole x (concat (map framed xs)) (All-head IsShort x xs h.short) (subst IsBegun h.encoded b))
 
 -- ---- their count
 -- so many frames stand in front of the rest
 pub record Counted (bytes rest : List ℕ) (count : ℕ) : Type 0 where
   pub frames : List (List ℕ)
   pub short : All IsShort frames
-  pub spelled : bytes ≡ concat (map framed frames) ++ rest
+  pub encoded : bytes ≡ concat (map framed frames) ++ rest
   pub many : length frames ≡ count
   pub few : 4 * count + length rest ≤ length bytes
 
@@ -50,7 +50,7 @@ pub counted_more : (bytes rest : List ℕ) (count : ℕ) (frame behind : List �
 counted_more bytes rest count frame behind h e short = record {
   frames = h.frames ++ frame ∷ [];
   short = All-push IsShort h.frames frame h.short short;
-  spelled = h.spelled ∙ ap (λ (l : List ℕ). concat (map framed h.frames) ++ l) e ∙ sym (append_assoc (concat (map framed h.frames)) (framed frame) behind)
+  encoded = h.encoded ∙ ap (λ (l : List ℕ). concat (map framed h.frames) ++ l) e ∙ sym (append_assoc (concat (map framed h.frames)) (framed frame) behind)
       ∙ ap (λ (l : List ℕ). l ++ behind) (sym (joined h.frames frame));
   many = omega (arith, h.many, length-append h.frames (frame ∷ []));
   few = omega (arith, h.few, ap length e, length-append (framed frame) behind, length-append (header (length frame)) frame, length-header (length frame));
@@ -59,6 +59,6 @@ counted_more bytes rest count frame behind h e short = record {
 pub counted_not : (bytes rest : List ℕ) (count : ℕ) → Counted bytes rest count → IsBegun rest → 0 < length rest → (frames : List (List ℕ))
     → AreInside bytes frames → ⊥
 counted_not bytes rest count h b some frames inside =
-    let same = one_reading bytes h.frames frames rest [] (record { spelled = h.spelled; short = h.short; begun = b })
-    (record { spelled = inside.spelled ∙ sym (append-nil (concat (map framed frames))); short = inside.short; begun = inl (omega arith) }) in
+    let same = one_reading bytes h.frames frames rest [] (record { encoded = h.encoded; short = h.short; begun = b })
+    (record { encoded = inside.encoded ∙ sym (append-nil (concat (map framed frames))); short = inside.short; begun = inl (omega arith) }) in
     omega (arith, some, ap length same.1)

@@ -26,7 +26,7 @@ IsBegun bytes = (length bytes < 4) ⊎ (length bytes < 4 + stated bytes)
 
 -- The whole frames of some bytes, and what stands behind the last of them.
 pub record AreFrames (input : List ℕ) (frames : List (List ℕ)) (rest : List ℕ) : Type 0 where
-  pub spelled : input ≡ concat (map framed frames) ++ rest
+  pub encoded : input ≡ concat (map framed frames) ++ rest
   pub short : All IsShort frames
   pub begun : IsBegun rest
 

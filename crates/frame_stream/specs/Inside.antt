@@ -6,7 +6,7 @@ use Rattle.frame_stream.specs.declared.answer_frames.AnswerFrames.{AnswerFrames}
 
 -- The bytes are whole frames, one behind the other.
 pub record AreInside (bytes : List ℕ) (frames : List (List ℕ)) : Type 0 where
-  pub spelled : bytes ≡ concat (map framed frames)
+  pub encoded : bytes ≡ concat (map framed frames)
   pub short : All IsShort frames
 
 -- ---- answer frames in room that was taken before they were known

@@ -15,7 +15,7 @@ use Rattle.segment_core.specs.declared.answers.Refusal.TheVariants.{Memory}
 use Rattle.segment_core.specs.Exported.{exported_facts}
 use Rattle.segment_core.specs.InOrder.{RefusesOne}
 use Rattle.segment_core.proofs.TakingAll.{IsLate}
-use Rattle.segment_core.proofs.ToldInLog.{TellsPart, none_of_part, kept_of_part}
+use Rattle.segment_core.proofs.ToldInLog.{ReportsPart, none_of_part, kept_of_part}
 use Rattle.gossip_core.specs.Answering.{listing_of}
 use Rattle.gossip_core.proofs.AnsweringFacts.{answers_for}
 use Rattle.gossip_core.specs.Absorbing.{filling_of, IsAnsweredInLog, MeansBoth, IsOfOneLog, Answers, AbsorbsInto, RefusesTold}
@@ -23,7 +23,7 @@ use Rattle.gossip_core.proofs.Absorbed.{known_together}
 
 module _ (roster : ℕ) (log F G : List Fact) (f g : Position) (s : State) (summary : SummaryData) (d : DeltaData)
     (a : IsAnsweredInLog roster log F G f g s summary d) where
-  tells_part : IsDelta d → TellsPart roster log G g d.book d.records
+  tells_part : IsDelta d → ReportsPart roster log G g d.book d.records
   tells_part shape = record {
     part = a.part;
     position = a.position;

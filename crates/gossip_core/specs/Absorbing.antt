@@ -78,8 +78,8 @@ RefusesAbsorb s summary d (Uncovered shown) =
 RefusesAbsorb s summary d (Refused why) = IsOfOther s d why ⊎ ((roster_of s.book ≡ roster_of d.book) × Answers s summary × RefusesTold s d why)
 
 -- a delta of another roster is told as such, whatever else might be said of it
-abbrev pub TellsRoster : State → DeltaData → Result (Unit {0}) AbsorbRefusal → Type 0
-TellsRoster s d answer =
+abbrev pub ReportsRoster : State → DeltaData → Result (Unit {0}) AbsorbRefusal → Type 0
+ReportsRoster s d answer =
     roster_of s.book ≢ roster_of d.book → answer ≡ Err (Refused (OtherRoster (roster_of s.book) (roster_of d.book)))
 
 -- a page of a delta at its base

@@ -6,7 +6,7 @@ use Rattle.redo_wire.specs.Deltas.{delta_bytes}
 use Rattle.segment_theorems.specs.State.{State}
 use Rattle.gossip_core.specs.Replying.{AnswersSummary, FillsSummary}
 
--- so many bytes spell a delta on the wire
+-- so many bytes encode a delta on the wire
 abbrev pub delta_len : DeltaData → ℕ
 delta_len d = length (delta_bytes d)
 

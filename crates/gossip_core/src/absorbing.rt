@@ -7,7 +7,7 @@ ghost use Rattle.segment_core.specs.Exported.{exported_facts};
 ghost use Rattle.segment_core.specs.InOrder.{TakesEach, RefusesOne};
 ghost use Rattle.gossip_core.specs.declared.absorbing.AbsorbRefusal.TheVariants.{Refused as RefusedFor, Uncovered as UncoveredBy};
 ghost use Rattle.gossip_core.specs.declared.answering.Shown.{Shown as AnyShown};
-ghost use Rattle.gossip_core.specs.Absorbing.{based_image, MeansBoth, IsOfOneLog, Answers, AbsorbsInto, RefusesAbsorb, TellsRoster};
+ghost use Rattle.gossip_core.specs.Absorbing.{based_image, MeansBoth, IsOfOneLog, Answers, AbsorbsInto, RefusesAbsorb, ReportsRoster};
 
 use crate::answering::{Shown, uncovered};
 use messages::{Delta, PageImage, Summary};
@@ -41,7 +41,7 @@ pub fn absorb(segment: &mut Segment, summary: &Summary, delta: &Delta) -> Result
     ensures absorbs { OnOk result (AbsorbsInto segment.old delta.now segment.new) }
     ensures answers { OnOk result (Answers segment.old summary.now) }
     ensures refused { IfErr result (RefusesAbsorb segment.old summary.now delta.now) }
-    ensures roster { TellsRoster segment.old delta.now result }
+    ensures roster { ReportsRoster segment.old delta.now result }
     ensures unchanged { OnErr result (segment.new ≡ segment.old) }
 {
     delta.opens_form();

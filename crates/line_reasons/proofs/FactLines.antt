@@ -59,7 +59,7 @@ pub record_made : (fields : List (List ℕ)) (head : Head) (c : Contents) → le
     → numbers_of record_limits (take 5 fields) ≡ Some (head_numbers head) → contents_of (get_or fields 5 []) ≡ Some c
     → record_line fields ≡ unless (fault_with head c) (Record (record_with head.epoch head.number head.back head.page head.block_back c.init c.patches))
 unfolding shaped
-record_made fields head c six numbers spelled = six_fields fields six ∙ rw (numbers, spelled) refl
+record_made fields head c six numbers encoded = six_fields fields six ∙ rw (numbers, encoded) refl
 
 many_five : (ns : List ℕ) (c : Contents) → max_patches < length c.patches
     → of_five (λ epoch number back page block_back. shaped (Record (record_with epoch number back page block_back c.init c.patches))) ns ≡ None
@@ -82,7 +82,7 @@ fault_in_front fields at fault h six = search (rules, number_fault)
 pub record_reason : (fields : List (List ℕ)) (reason : LineReason) → IsRecordReason fields reason → record_line fields ≡ None
 record_reason fields (FieldCount wanted) h = other_fields fields h.1
 record_reason fields (Field at fault) h = record_none fields (λ six. unread_numbers record_limits (take 5 fields) _ (fault_in_front fields at fault h six))
-record_reason fields (Shape fault) h = record_made fields h.head h.contents h.many h.numbers h.spelled
+record_reason fields (Shape fault) h = record_made fields h.head h.contents h.many h.numbers h.encoded
     ∙ unless_fault (fault_with h.head h.contents) fault (Record (record_with h.head.epoch h.head.number h.head.back h.head.page h.head.block_back h.contents.init h.contents.patches)) h.faulty
 record_reason fields ManyPatches h = record_none fields (λ six. many_none (numbers_of record_limits (take 5 fields)) (contents_of (get_or fields 5 []))
     (λ c e. many_contents (get_or fields 5 []) c h.1 e))
@@ -197,9 +197,9 @@ three_judged fields epoch point reader (Err _) numbers h = absurd h
 pub record_judged : (fields : List (List ℕ)) (o : Option LineReason) (head : Head) (c : Contents) → length fields ≡ 6
     → numbers_of record_limits (take 5 fields) ≡ Some (head_numbers head) → contents_of (get_or fields 5 []) ≡ Some c
     → MatchOption o (fault_with head c ≡ None) (IsShape (fault_with head c)) → MatchOption o (IsSome (record_line fields)) (IsRecordReason fields)
-record_judged fields None head c six numbers spelled h = rw (record_made fields head c six numbers spelled, h) refl
-record_judged fields (Some (Shape fault)) head c six numbers spelled h = record { head = head; contents = c; many = six; numbers = numbers; spelled = spelled; faulty = h }
-record_judged fields (Some _) head c six numbers spelled h = absurd h
+record_judged fields None head c six numbers encoded h = rw (record_made fields head c six numbers encoded, h) refl
+record_judged fields (Some (Shape fault)) head c six numbers encoded h = record { head = head; contents = c; many = six; numbers = numbers; encoded = encoded; faulty = h }
+record_judged fields (Some _) head c six numbers encoded h = absurd h
 
 -- the contents of a record are wrong
 pub contents_judged : (fields : List (List ℕ)) (word : List ℕ) (reason : LineReason) → length fields ≡ 6 → get_or fields 5 [] ≡ word

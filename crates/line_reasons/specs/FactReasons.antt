@@ -28,7 +28,7 @@ pub record IsFaultyRecord (fields : List (List ℕ)) (fault : ShapeFault) : Type
   pub contents : Contents
   pub many : length fields ≡ 6
   pub numbers : numbers_of record_limits (take 5 fields) ≡ Some (head_numbers head)
-  pub spelled : contents_of (slice_index_or fields 5 []) ≡ Some contents
+  pub encoded : contents_of (slice_index_or fields 5 []) ≡ Some contents
   pub faulty : fault_with head contents ≡ Some fault
 
 -- the fields behind rec are not six, or a number, the contents or the shape is wrong; without a sixth there are no contents

@@ -28,7 +28,7 @@ fn patch_words<'a>(parts: &'a [&'a [u8]]) -> (bool, &'a [&'a [u8]])
     }
 }
 
-/// The patches that the words spell, or why the first that spells none does not.
+/// The patches that the words encode, or why the first that encodes none does not.
 fn patches(alloc: Global, words: &[&[u8]]) -> Result<Result<Vec<Patch>, LineReason>, AllocError>
     ensures { IfOk result (λ r. MatchResult r (λ v. each_patch (map (λ x. x.now) words.now) ≡ Some v.items) (IsListReason (map (λ x. x.now) words.now))) }
 {
@@ -43,7 +43,7 @@ fn patches(alloc: Global, words: &[&[u8]]) -> Result<Result<Vec<Patch>, LineReas
     Ok(Ok(patches))
 }
 
-/// The contents that the word spells, or why it spells none.
+/// The contents that the word encodes, or why it encodes none.
 pub fn read_contents(alloc: Global, word: &[u8]) -> Result<Result<Contents, LineReason>, AllocError>
     ensures { IfOk result (λ r. MatchResult r (λ c. contents_of word.now ≡ Some (contents c.init c.patches.items)) (IsContentsReason word.now)) }
 {

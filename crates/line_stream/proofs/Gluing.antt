@@ -3,7 +3,7 @@ use Rattle.std.proofs.Common.{◌≡◌, ℕ, ◌<◌, Bool, cond, eqb, List, []
 use Rattle.std.specs.List.{onto_first}
 use Rattle.script_text.specs.Parts.{parts_at}
 use Rattle.line_stream.specs.Lines.{glued}
-use Rattle.script_text.proofs.PatchSpelling.{some_parts}
+use Rattle.script_text.proofs.PatchEncoding.{some_parts}
 
 pub glued_none : (parts : List (List ℕ)) → glued [] parts ≡ parts
 glued_none parts = search rules

@@ -10,7 +10,7 @@ use Rattle.line_stream.specs.Served.{EndsWith, IsCutOff}
 use Rattle.line_stream.specs.declared.watched.Watched.{Watched}
 use Rattle.line_stream.proofs.Answered.{first_none, first_more, first_both, joined_none, joined_more, joined_both, joined_cut}
 use Rattle.line_stream.proofs.Gluing.{glued_none, parts_go_on}
-use Rattle.script_text.proofs.PatchSpelling.{some_parts}
+use Rattle.script_text.proofs.PatchEncoding.{some_parts}
 use Rattle.std.proofs.KnownBytes.{Appends-trans}
 
 -- The lines before the rest are answered, and of the next line a part has come.

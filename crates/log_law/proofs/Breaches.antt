@@ -26,7 +26,7 @@ use Rattle.log_law.specs.Report.{Reports}
 use Rattle.log_law.specs.declared.breach.Breach.{Breach}
 use Rattle.log_law.specs.declared.breach.Breach.TheVariants.{OtherFact, NotBegun, NotAbove, Passes, NoTarget, NoReader, CutBelow}
 use Rattle.log_law.specs.declared.targets.Target.{Target}
-use Rattle.log_law.specs.Breach.{IsFirstMissing, IsPassed, IsAboveAll, IsCutBelow, TellsKey, TellsBegun, TellsLink, TellsSegment, TellsBlock, TellsAdvance, TellsOf, TellsBreach, ShowsBroken}
+use Rattle.log_law.specs.Breach.{IsFirstMissing, IsPassed, IsAboveAll, IsCutBelow, ReportsKey, ReportsBegun, ReportsLink, ReportsSegment, ReportsBlock, ReportsAdvance, ReportsOf, ReportsBreach, ShowsBroken}
 use Rattle.log_law.specs.Targets.{IsPlaced, IsTarget}
 use Rattle.log_law.proofs.FirstCuts.{above_hi, at_counted, counted_among}
 use Rattle.log_law.proofs.Reaching.{past_low, low_past}
@@ -102,7 +102,7 @@ no_cut_below roster log table lows a p t least l each c counts later past =
     (cases_lt c.lo a.point)
 
 -- what is told shows that the law is broken
-key_shows : (log : List Fact) (place : ℕ) (fact : Fact) (b : Breach) → TellsKey log (place + 1) fact b → Law1 (take place log) fact → ⊥
+key_shows : (log : List Fact) (place : ℕ) (fact : Fact) (b : Breach) → ReportsKey log (place + 1) fact b → Law1 (take place log) fact → ⊥
 key_shows log place fact (OtherFact p) h law =
     let w = h.1 in let at = w.1 in
     let l : p < place + 1 = h.0 in let q : p ≡ at.0 + 1 = at.1 in
@@ -117,7 +117,7 @@ key_shows log place fact (CutBelow p) h law = h
 missing_shows : (log : List Fact) (epoch missing : ℕ) → IsFirstMissing log epoch missing → HasCutsTo (counted log) epoch → ⊥
 missing_shows log epoch missing h has = let c = has missing h.some h.upto in h.lacks c.0 c.1 c.2
 
-begun_shows : (log : List Fact) (fact : Fact) (b : Breach) → TellsBegun log fact b → Law2 log fact → ⊥
+begun_shows : (log : List Fact) (fact : Fact) (b : Breach) → ReportsBegun log fact b → Law2 log fact → ⊥
 begun_shows log (Record r) (OtherFact p) h law = h
 begun_shows log (Record r) (NotBegun e) h law = missing_shows log r.epoch e h law.0
 begun_shows log (Record r) (NotAbove p) h law = let l : h.0.hi < r.number = law.1 h.0 h.2 h.3 in let m : r.number ≤ h.0.hi = h.4 in omega arith
@@ -128,7 +128,7 @@ begun_shows log (Record r) (CutBelow p) h law = h
 begun_shows log (Cut c) b h law = h
 begun_shows log (Advance a) b h law = h
 
-link_shows : (log : List Fact) (r : RecordData) (Only : RecordData → Type 0) (back : ℕ) (b : Breach) → TellsLink log r Only back b
+link_shows : (log : List Fact) (r : RecordData) (Only : RecordData → Type 0) (back : ℕ) (b : Breach) → ReportsLink log r Only back b
     → IsGreatest (IsAliveBelow log r Only) back → ⊥
 link_shows log r Only back (OtherFact p) h law = h
 link_shows log r Only back (NotBegun e) h law = h
@@ -142,13 +142,13 @@ link_shows log r Only back (NoTarget n) h law =
 link_shows log r Only back (NoReader n) h law = h
 link_shows log r Only back (CutBelow p) h law = h
 
-segment_shows : (log : List Fact) (fact : Fact) (b : Breach) → TellsSegment log fact b → Law3 log fact → ⊥
+segment_shows : (log : List Fact) (fact : Fact) (b : Breach) → ReportsSegment log fact b → Law3 log fact → ⊥
 segment_shows log fact b h law = search (rules, link_shows)
 
-block_shows : (log : List Fact) (fact : Fact) (b : Breach) → TellsBlock log fact b → Law4 log fact → ⊥
+block_shows : (log : List Fact) (fact : Fact) (b : Breach) → ReportsBlock log fact b → Law4 log fact → ⊥
 block_shows log fact b h law = search (rules, link_shows)
 
-advance_shows : (roster : ℕ) (log : List Fact) (fact : Fact) (b : Breach) → TellsAdvance roster log fact b → Law5 roster log fact → ⊥
+advance_shows : (roster : ℕ) (log : List Fact) (fact : Fact) (b : Breach) → ReportsAdvance roster log fact b → Law5 roster log fact → ⊥
 advance_shows roster log (Record r) b h law = h
 advance_shows roster log (Cut c) b h law = h
 advance_shows roster log (Advance a) (OtherFact p) h law = h
@@ -159,7 +159,7 @@ advance_shows roster log (Advance a) (NoTarget n) h law = h
 advance_shows roster log (Advance a) (NoReader n) h law = h.1 (subst (IsReader roster) (sym h.0) law.0)
 advance_shows roster log (Advance a) (CutBelow p) h law = let l : a.point ≤ h.0.lo = law.2 h.0 h.2 h.3 h.4 in let m : h.0.lo < a.point = h.5 in omega arith
 
-shows_broken : (roster : ℕ) (log : List Fact) (place : ℕ) (fact : Fact) (law : Law) (b : Breach) → TellsOf roster log (place + 1) fact law b
+shows_broken : (roster : ℕ) (log : List Fact) (place : ℕ) (fact : Fact) (law : Law) (b : Breach) → ReportsOf roster log (place + 1) fact law b
     → KeepsLaw roster log place fact law → ⊥
 shows_broken roster log place fact law b h k = search (rules, key_shows, begun_shows, segment_shows, block_shows, advance_shows)
 
@@ -168,20 +168,20 @@ tells_broken roster log fault b place fact t e at k = search (rules, shows_broke
 
 -- what is told of a place is told of the fault
 abbrev pub AnswersAt : ℕ → List Fact → ℕ → Law → Option Breach → Fact → Type 0
-AnswersAt roster log place law found fact = MatchOption found (KeepsLaw roster log place fact law) (TellsOf roster log (place + 1) fact law)
+AnswersAt roster log place law found fact = MatchOption found (KeepsLaw roster log place fact law) (ReportsOf roster log (place + 1) fact law)
 
 told_by : (roster : ℕ) (log : List Fact) (place : ℕ) (fault : LawFault) (found : Option Breach) (at : Option Fact) → slice_get log place ≡ at
     → fault.place ≡ place + 1 → (slice_get log place ≡ None → found ≡ None)
-    → ((fact : Fact) → slice_get log place ≡ Some fact → AnswersAt roster log place fault.law found fact) → IfSome found (TellsBreach roster log fault)
+    → ((fact : Fact) → slice_get log place ≡ Some fact → AnswersAt roster log place fault.law found fact) → IfSome found (ReportsBreach roster log fault)
 told_by roster log place fault None at q e none some = tt
 told_by roster log place fault (Some b) None q e none some = absurd (none-some b (sym (none q)))
 told_by roster log place fault (Some b) (Some f) q e none some =
-    (f, (place, e, q), subst (λ i. TellsOf roster log i f fault.law b) (sym e) (some f q))
+    (f, (place, e, q), subst (λ i. ReportsOf roster log i f fault.law b) (sym e) (some f q))
 
 pub told : (roster : ℕ) (log : List Fact) (place : ℕ) (fault : LawFault) (r : Result (Option Breach) AllocError) → fault.place ≡ place + 1
     → (slice_get log place ≡ None → IfOk r (λ found. found ≡ None))
     → ((fact : Fact) → slice_get log place ≡ Some fact → IfOk r (λ found. AnswersAt roster log place fault.law found fact))
-    → IfOk r (λ found. IfSome found (TellsBreach roster log fault))
+    → IfOk r (λ found. IfSome found (ReportsBreach roster log fault))
 told roster log place fault (Ok found) e none some = told_by roster log place fault found (slice_get log place) refl e none some
 told roster log place fault (Err e') e none some = tt
 

@@ -47,52 +47,52 @@ IsCutBelow roster log a place =
     (c : CutData) × IsPlaced log place (Cut c) × Contains (counted log) c × (a.epoch < c.epoch) × ArePast roster (advances log) c × (c.lo < a.point)
 
 -- a breach of law 1
-abbrev pub TellsKey : List Fact → ℕ → Fact → Breach → Type 0
-TellsKey log place fact (OtherFact earlier) = IsOtherAt log place fact earlier
-TellsKey log place fact _ = ⊥
+abbrev pub ReportsKey : List Fact → ℕ → Fact → Breach → Type 0
+ReportsKey log place fact (OtherFact earlier) = IsOtherAt log place fact earlier
+ReportsKey log place fact _ = ⊥
 
 -- a breach of law 2
-abbrev pub TellsBegun : List Fact → Fact → Breach → Type 0
-TellsBegun log (Record r) (NotBegun epoch) = IsFirstMissing log r.epoch epoch
-TellsBegun log (Record r) (NotAbove place) = IsNotAbove log r place
-TellsBegun log _ _ = ⊥
+abbrev pub ReportsBegun : List Fact → Fact → Breach → Type 0
+ReportsBegun log (Record r) (NotBegun epoch) = IsFirstMissing log r.epoch epoch
+ReportsBegun log (Record r) (NotAbove place) = IsNotAbove log r place
+ReportsBegun log _ _ = ⊥
 
 -- a wrong backlink, over the records with Only
-abbrev pub TellsLink : List Fact → RecordData → (RecordData → Type 0) → ℕ → Breach → Type 0
-TellsLink log r Only back (Passes place) = IsPassed log r Only back place
-TellsLink log r Only back (NoTarget number) = (number ≡ back) × IsAboveAll log r Only back
-TellsLink log r Only back _ = ⊥
+abbrev pub ReportsLink : List Fact → RecordData → (RecordData → Type 0) → ℕ → Breach → Type 0
+ReportsLink log r Only back (Passes place) = IsPassed log r Only back place
+ReportsLink log r Only back (NoTarget number) = (number ≡ back) × IsAboveAll log r Only back
+ReportsLink log r Only back _ = ⊥
 
 -- a breach of law 3
-abbrev pub TellsSegment : List Fact → Fact → Breach → Type 0
-TellsSegment log (Record r) breach = TellsLink log r (λ s. Unit {0}) r.back breach
-TellsSegment log _ breach = ⊥
+abbrev pub ReportsSegment : List Fact → Fact → Breach → Type 0
+ReportsSegment log (Record r) breach = ReportsLink log r (λ s. Unit {0}) r.back breach
+ReportsSegment log _ breach = ⊥
 
 -- a breach of law 4
-abbrev pub TellsBlock : List Fact → Fact → Breach → Type 0
-TellsBlock log (Record r) breach = TellsLink log r (λ s. s.page ≡ r.page) r.block_back breach
-TellsBlock log _ breach = ⊥
+abbrev pub ReportsBlock : List Fact → Fact → Breach → Type 0
+ReportsBlock log (Record r) breach = ReportsLink log r (λ s. s.page ≡ r.page) r.block_back breach
+ReportsBlock log _ breach = ⊥
 
 -- a breach of law 5
-abbrev pub TellsAdvance : ℕ → List Fact → Fact → Breach → Type 0
-TellsAdvance roster log (Advance a) (NoReader reader) = (reader ≡ a.reader) × (IsReader roster reader → ⊥)
-TellsAdvance roster log (Advance a) (NotBegun epoch) = IsFirstMissing log a.epoch epoch
-TellsAdvance roster log (Advance a) (CutBelow place) = IsCutBelow roster log a place
-TellsAdvance roster log _ _ = ⊥
+abbrev pub ReportsAdvance : ℕ → List Fact → Fact → Breach → Type 0
+ReportsAdvance roster log (Advance a) (NoReader reader) = (reader ≡ a.reader) × (IsReader roster reader → ⊥)
+ReportsAdvance roster log (Advance a) (NotBegun epoch) = IsFirstMissing log a.epoch epoch
+ReportsAdvance roster log (Advance a) (CutBelow place) = IsCutBelow roster log a place
+ReportsAdvance roster log _ _ = ⊥
 
 -- the breach says truly with what the fact at the place breaks the law
-abbrev pub TellsOf : ℕ → List Fact → ℕ → Fact → Law → Breach → Type 0
-TellsOf roster log place fact OneFactPerKey breach = TellsKey log place fact breach
-TellsOf roster log place fact EpochBegun breach = TellsBegun log fact breach
-TellsOf roster log place fact SegmentBacklink breach = TellsSegment log fact breach
-TellsOf roster log place fact BlockBacklink breach = TellsBlock log fact breach
-TellsOf roster log place fact AdvanceKept breach = TellsAdvance roster log fact breach
+abbrev pub ReportsOf : ℕ → List Fact → ℕ → Fact → Law → Breach → Type 0
+ReportsOf roster log place fact OneFactPerKey breach = ReportsKey log place fact breach
+ReportsOf roster log place fact EpochBegun breach = ReportsBegun log fact breach
+ReportsOf roster log place fact SegmentBacklink breach = ReportsSegment log fact breach
+ReportsOf roster log place fact BlockBacklink breach = ReportsBlock log fact breach
+ReportsOf roster log place fact AdvanceKept breach = ReportsAdvance roster log fact breach
 
 -- the breach is true of the log, and shows that the fault is one
-abbrev pub TellsBreach : ℕ → List Fact → LawFault → Breach → Type 0
-TellsBreach roster log fault breach = (fact : Fact) × IsPlaced log fault.place fact × TellsOf roster log fault.place fact fault.law breach
+abbrev pub ReportsBreach : ℕ → List Fact → LawFault → Breach → Type 0
+ReportsBreach roster log fault breach = (fact : Fact) × IsPlaced log fault.place fact × ReportsOf roster log fault.place fact fault.law breach
 
 -- what is told shows that the law is broken
 abbrev pub ShowsBroken : Type 0
-ShowsBroken = (roster : ℕ) (log : List Fact) (fault : LawFault) (breach : Breach) (place : ℕ) (fact : Fact) → TellsBreach roster log fault breach
+ShowsBroken = (roster : ℕ) (log : List Fact) (fault : LawFault) (breach : Breach) (place : ℕ) (fact : Fact) → ReportsBreach roster log fault breach
     → fault.place ≡ place + 1 → slice_get log place ≡ Some fact → KeepsLaw roster log place fact fault.law → ⊥

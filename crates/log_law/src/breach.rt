@@ -11,7 +11,7 @@ ghost use Rattle.log_law.specs.Counted.{Describes};
 ghost use Rattle.log_law.specs.Lows.{AreLeastPoints};
 ghost use Rattle.log_law.specs.Report.{Reports};
 ghost use Rattle.log_law.specs.Targets.{IsPlaced, IsOfPage};
-ghost use Rattle.log_law.specs.Breach.{TellsBreach, TellsOf, TellsKey, TellsBegun, TellsSegment, TellsBlock, TellsLink, TellsAdvance, IsCutBelow};
+ghost use Rattle.log_law.specs.Breach.{ReportsBreach, ReportsOf, ReportsKey, ReportsBegun, ReportsSegment, ReportsBlock, ReportsLink, ReportsAdvance, IsCutBelow};
 
 use crate::counted::CountedCuts;
 use crate::lows::lows_of;
@@ -53,7 +53,7 @@ pub fn breach_of(
     roster: Roster,
     fault: LawFault,
 ) -> Result<Option<Breach>, AllocError>
-    ensures tells { IfOk result (λ found. IfSome found (TellsBreach roster facts.now fault)) }
+    ensures tells { IfOk result (λ found. IfSome found (ReportsBreach roster facts.now fault)) }
     ensures found { Reports roster facts.now fault → IfOk result (λ found. IsSome found) }
 {
     match fault.place {
@@ -72,7 +72,7 @@ fn breach_at(
 ) -> Result<Option<Breach>, AllocError>
     ensures none { slice_get facts.now place ≡ None → IfOk result (λ found. found ≡ None) }
     ensures some { (fact : Fact) → slice_get facts.now place ≡ Some fact → IfOk result
-        (λ found. MatchOption found (KeepsLaw roster facts.now place fact law) (TellsOf roster facts.now (place + 1) fact law)) }
+        (λ found. MatchOption found (KeepsLaw roster facts.now place fact law) (ReportsOf roster facts.now (place + 1) fact law)) }
 {
     let Some(fact) = facts.get(place) else {
         return Ok(None);
@@ -93,7 +93,7 @@ fn breach_among(
 ) -> Result<Option<Breach>, AllocError>
     requires at { slice_get facts.now place ≡ Some fact.now }
     requires cuts { Describes facts.now cuts.now }
-    ensures { IfOk result (λ found. MatchOption found (KeepsLaw roster facts.now place fact.now law) (TellsOf roster facts.now (place + 1) fact.now law)) }
+    ensures { IfOk result (λ found. MatchOption found (KeepsLaw roster facts.now place fact.now law) (ReportsOf roster facts.now (place + 1) fact.now law)) }
 {
     match law {
         Law::OneFactPerKey => Ok(key_breach(facts, place, fact)),
@@ -106,7 +106,7 @@ fn breach_among(
 
 fn key_breach(facts: &[Fact], place: usize, fact: &Fact) -> Option<Breach>
     requires { slice_get facts.now place ≡ Some fact.now }
-    ensures { MatchOption result (Law1 (take place facts.now) fact.now) (TellsKey facts.now (place + 1) fact.now) }
+    ensures { MatchOption result (Law1 (take place facts.now) fact.now) (ReportsKey facts.now (place + 1) fact.now) }
 {
     for earlier in 0..place {
         if is_other(&facts[earlier], fact) {
@@ -139,7 +139,7 @@ fn has_same_key(one: &Fact, two: &Fact) -> bool
 
 fn begun_breach(facts: &[Fact], cuts: &CountedCuts, fact: &Fact) -> Option<Breach>
     requires { Describes facts.now cuts.now }
-    ensures { MatchOption result (Law2 facts.now fact.now) (TellsBegun facts.now fact.now) }
+    ensures { MatchOption result (Law2 facts.now fact.now) (ReportsBegun facts.now fact.now) }
 {
     let Fact::Record(redo) = fact else {
         return None;
@@ -183,7 +183,7 @@ fn segment_breach(
     fact: &Fact,
 ) -> Result<Option<Breach>, AllocError>
     requires { Describes facts.now cuts.now }
-    ensures { IfOk result (λ found. MatchOption found (Law3 facts.now fact.now) (TellsSegment facts.now fact.now)) }
+    ensures { IfOk result (λ found. MatchOption found (Law3 facts.now fact.now) (ReportsSegment facts.now fact.now)) }
 {
     match fact {
         Fact::Record(redo) => link_breach(alloc, facts, cuts, redo, None, redo.back()),
@@ -198,7 +198,7 @@ fn block_breach(
     fact: &Fact,
 ) -> Result<Option<Breach>, AllocError>
     requires { Describes facts.now cuts.now }
-    ensures { IfOk result (λ found. MatchOption found (Law4 facts.now fact.now) (TellsBlock facts.now fact.now)) }
+    ensures { IfOk result (λ found. MatchOption found (Law4 facts.now fact.now) (ReportsBlock facts.now fact.now)) }
 {
     match fact {
         Fact::Record(redo) => {
@@ -220,7 +220,7 @@ fn link_breach(
 ) -> Result<Option<Breach>, AllocError>
     requires { Describes facts.now cuts.now }
     ensures { IfOk result (λ found. MatchOption found (IsGreatest (IsAliveBelow facts.now redo.now (λ s. IsOfPage page s)) back)
-        (TellsLink facts.now redo.now (λ s. IsOfPage page s) back)) }
+        (ReportsLink facts.now redo.now (λ s. IsOfPage page s) back)) }
 {
     let target = target_of(alloc, facts, cuts, redo, page)?;
     if back < target.number {
@@ -241,7 +241,7 @@ fn advance_breach(
     fact: &Fact,
 ) -> Result<Option<Breach>, AllocError>
     requires { Describes facts.now cuts.now }
-    ensures { IfOk result (λ found. MatchOption found (Law5 roster facts.now fact.now) (TellsAdvance roster facts.now fact.now)) }
+    ensures { IfOk result (λ found. MatchOption found (Law5 roster facts.now fact.now) (ReportsAdvance roster facts.now fact.now)) }
 {
     let Fact::Advance(advance) = fact else {
         return Ok(None);

@@ -33,7 +33,7 @@ use Rattle.node_cell.specs.Settling.{Stands}
 use Rattle.node_cell.specs.Folding.{IsFoldOfLog, RefusesFold}
 use Rattle.node_cell.specs.Kept.{MeansTrail}
 use Rattle.node_cell.specs.View.{ViewData, IsLogPage}
-use Rattle.node_cell.specs.Reading.{IsViewResult, TellsRead}
+use Rattle.node_cell.specs.Reading.{IsViewResult, ReportsRead}
 use Rattle.node_cell.specs.Delivering.{IsFrontWith}
 use Rattle.node_cell.proofs.Places.{wider, longer, of_receipts, found}
 
@@ -76,15 +76,15 @@ module _ (roster : ℕ) (log : List Fact) where
       })
 
   pub tells : (segment : State) (trail : List Entry) (page q : ℕ) (result : Result ViewData ReadFault) → (k : MeansTrail roster log segment trail)
-      → IsViewResult k.facts k.means.0 page q result → TellsRead roster log trail page q result
+      → IsViewResult k.facts k.means.0 page q result → ReportsRead roster log trail page q result
   tells segment trail page q result k answer = search rules
 
   pub tells_of : (trail : List Entry) (pass : ℕ) (list : List Receipt) (page q : ℕ) (result : Result ViewData ReadFault)
-      → TellsRead roster log trail page q result → HasReceipts trail pass list → TellsRead roster log list page q result
+      → ReportsRead roster log trail page q result → HasReceipts trail pass list → ReportsRead roster log list page q result
   tells_of trail pass list page q result t has = search (rules, of_receipts)
 
-  pub tells_after : (trail : List Entry) (r : ReceiptData) (page q : ℕ) (result : Result ViewData ReadFault) → TellsRead roster log trail page q result
-      → Stands trail r → TellsRead roster log ((r.place, r.log_place) ∷ []) page q result
+  pub tells_after : (trail : List Entry) (r : ReceiptData) (page q : ℕ) (result : Result ViewData ReadFault) → ReportsRead roster log trail page q result
+      → Stands trail r → ReportsRead roster log ((r.place, r.log_place) ∷ []) page q result
   tells_after trail r page q result t there = search (rules, found)
 
   -- images of one page at one point in one view are one

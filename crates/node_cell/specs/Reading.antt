@@ -22,7 +22,7 @@ IsViewResult facts p page q (Ok view) = (view.epoch ≡ p.epoch) × (view.page �
 IsViewResult facts p page q (Err fault) = IsReadFault facts p page q fault
 
 -- the answer is that of one part of the log, which has the fact of each of these entries or receipts
-pub record TellsRead (roster : ℕ) (log : List Fact) (places : List (ℕ × ℕ)) (page q : ℕ) (result : Result ViewData ReadFault) : Type 0 where
+pub record ReportsRead (roster : ℕ) (log : List Fact) (places : List (ℕ × ℕ)) (page q : ℕ) (result : Result ViewData ReadFault) : Type 0 where
   pub facts : List Fact
   pub p : Position
   pub part : IsPart facts log
@@ -44,7 +44,7 @@ FindsReceipt trail r (Err (Read fault)) = Stands trail r
 FindsReceipt trail r (Err (Stranger s)) = IsForeignReceipt trail r s.found
 
 -- the answer is that of one part of the log, which has the receipt's fact; or the receipt is not of this node
-abbrev pub TellsReadAfter : ℕ → List Fact → ReceiptData → ℕ → ℕ → Result ViewData ReadAfterFault → Type 0
-TellsReadAfter roster log r page q (Ok view) = TellsRead roster log ((r.place, r.log_place) ∷ []) page q (Ok view)
-TellsReadAfter roster log r page q (Err (Read fault)) = TellsRead roster log ((r.place, r.log_place) ∷ []) page q (Err fault)
-TellsReadAfter roster log r page q (Err (Stranger s)) = IsStrangerThere roster log r s.found
+abbrev pub ReportsReadAfter : ℕ → List Fact → ReceiptData → ℕ → ℕ → Result ViewData ReadAfterFault → Type 0
+ReportsReadAfter roster log r page q (Ok view) = ReportsRead roster log ((r.place, r.log_place) ∷ []) page q (Ok view)
+ReportsReadAfter roster log r page q (Err (Read fault)) = ReportsRead roster log ((r.place, r.log_place) ∷ []) page q (Err fault)
+ReportsReadAfter roster log r page q (Err (Stranger s)) = IsStrangerThere roster log r s.found

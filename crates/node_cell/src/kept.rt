@@ -3,7 +3,7 @@ ghost use Rattle.segment_theorems.specs.Means.{Means};
 ghost use Rattle.segment_core.specs.Folding.{Commits};
 ghost use Rattle.segment_core.specs.Forgetting.{DiscardsJust};
 ghost use Rattle.node_cell.specs.Kept.{MeansTrail, KeepsParts};
-ghost use Rattle.node_cell.specs.Reading.{FindsReceipt, TellsRead, TellsReadAfter};
+ghost use Rattle.node_cell.specs.Reading.{FindsReceipt, ReportsRead, ReportsReadAfter};
 ghost use Rattle.node_cell.specs.Delivering.{IsFrontWith, RefusesEntry, TakesPlace};
 ghost use Rattle.node_cell.specs.Folding.{IsFoldOfLog, RefusesFold};
 ghost use Rattle.node_cell.specs.Gossiping.{IsSummaryOfLog, IsMail, IsFrontWithMail, RefusesMail, fault_of};
@@ -133,7 +133,7 @@ impl<L: LogName> Kept<L> {
 
     /// The page at a read point.
     pub(crate) fn read(&mut self, page: u16, point: u64) -> Result<View<L>, ReadFault>
-        ensures answer { TellsRead L.roster L.log self.old.trail page point result }
+        ensures answer { ReportsRead L.roster L.log self.old.trail page point result }
         ensures keeps { MeansTrail L.roster L.log self.new.segment self.new.trail }
         ensures same { self.new ≡ self.old }
     {
@@ -151,7 +151,7 @@ impl<L: LogName> Kept<L> {
         page: u16,
         point: u64,
     ) -> Result<View<L>, ReadAfterFault>
-        ensures answer { TellsReadAfter L.roster L.log receipt.now page point result }
+        ensures answer { ReportsReadAfter L.roster L.log receipt.now page point result }
         ensures finds { FindsReceipt self.old.trail receipt.now result }
         ensures keeps { MeansTrail L.roster L.log self.new.segment self.new.trail }
         ensures same { self.new ≡ self.old }

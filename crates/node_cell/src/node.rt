@@ -4,7 +4,7 @@ ghost use Rattle.front_board.specs.FrontWord.{word_of};
 ghost use Rattle.front_board.specs.Seat.{IsNode, Publishes, seen_of};
 ghost use Rattle.node_cell.specs.Node.{IsPassOf};
 ghost use Rattle.node_cell.specs.Retaining.{RunsSection};
-ghost use Rattle.node_cell.specs.Reading.{TellsRead, TellsReadAfter};
+ghost use Rattle.node_cell.specs.Reading.{ReportsRead, ReportsReadAfter};
 ghost use Rattle.node_cell.specs.Folding.{IsFoldOfLog, RefusesFold, CommitsInto, DiscardsInto};
 ghost use Rattle.node_cell.specs.Gossiping.{IsSummaryOfLog, IsMail, IsFrontWithMail, RefusesMail, AbsorbsMail};
 ghost use Rattle.node_cell.specs.Delivering.{IsFrontWith, RefusesDelivery, TakesPlace};
@@ -138,7 +138,7 @@ impl<L: LogName> Node<L> {
     ) -> Result<View<L>, ReadFault>
         requires { IsPassOf self.now pass.old }
         ensures pass { pass.new ≡ pass.old }
-        ensures answer { TellsRead L.roster L.log pass.old.list page point result }
+        ensures answer { ReportsRead L.roster L.log pass.old.list page point result }
     {
         let mut turn = self.lock.take(rt, pass);
         let mut kept = turn.state;
@@ -158,7 +158,7 @@ impl<L: LogName> Node<L> {
         page: u16,
         point: u64,
     ) -> Result<View<L>, ReadAfterFault>
-        ensures { TellsReadAfter L.roster L.log receipt.now page point result }
+        ensures { ReportsReadAfter L.roster L.log receipt.now page point result }
     {
         let mut visit = self.lock.visit(rt);
         let answer = visit.state.read_after(receipt, page, point);

@@ -27,7 +27,7 @@ pub bytes_told : {E : Type 0} (r : Result FrameAnswer E) (word bytes begun items
 bytes_told r word bytes begun items front all h =
     told_as r (fitted (word ++ codes " too long") items) (bytes_frame word bytes) (ap (fitted (word ++ codes " too long")) (all ∙ ap (λ (l : List ℕ). l ++ bytes) front)) h
 
--- the same of a value that has a spelling
+-- the same of a value that has a encoding
 pub value_told : {E : Type 0} (r : Result FrameAnswer E) (word bytes begun items : List ℕ) (is_long : Bool) → begun ≡ word ++ codes " " → items ≡ begun ++ bytes
     → (is_long ≡ true → ⊥) → IfOk r (λ a. bytes_of a ≡ fitted (word ++ codes " too long") items) → IfOk r (λ a. bytes_of a ≡ value_frame word is_long bytes)
 value_told r word bytes begun items is_long front all not_long h =

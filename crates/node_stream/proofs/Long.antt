@@ -1,4 +1,4 @@
--- Lines and frames of values that may have no spelling.
+-- Lines and frames of values that may have no encoding.
 use Rattle.std.proofs.Common.{◌≡◌, ℕ, Bool, true, false, List, ◌++◌, refl}
 use Rattle.std.specs.Prelude.{codes}
 use Rattle.node_stream.specs.Telling.{value_line, bytes_line}

@@ -45,7 +45,7 @@ pub record Answered (old : ReplicaData) (bytes rest out : List ℕ) (left : ℕ)
   pub done : List (List ℕ)
   pub texts : List (List ℕ)
   pub others : List (List ℕ)
-  pub spelled : bytes ≡ concat (map framed done) ++ rest
+  pub encoded : bytes ≡ concat (map framed done) ++ rest
   pub short : All IsShort done
   pub behind : AreInside rest others
   pub many : length others ≡ left
@@ -59,13 +59,13 @@ answered_none old bytes out left frames inside many none few = record {
   done = [];
   texts = [];
   others = frames;
-  spelled = refl;
+  encoded = refl;
   short = All-nil IsShort;
   behind = inside;
   many = many;
   few = omega arith;
   answered = refl;
-  told = record { spelled = none; short = All-nil IsShort };
+  told = record { encoded = none; short = All-nil IsShort };
 }
 
 module _ (old : ReplicaData) (bytes rest out : List ℕ) (left : ℕ) (mid : ReplicaData) (h : Answered old bytes rest out left mid) where
@@ -80,7 +80,7 @@ module _ (old : ReplicaData) (bytes rest out : List ℕ) (left : ℕ) (mid : Rep
         done = h.done ++ frame ∷ [];
         texts = h.texts ++ said ∷ [];
         others = first.0;
-        spelled = h.spelled ∙ ap (λ (l : List ℕ). concat (map framed h.done) ++ l) e ∙ sym (append_assoc (concat (map framed h.done)) (framed frame) behind)
+        encoded = h.encoded ∙ ap (λ (l : List ℕ). concat (map framed h.done) ++ l) e ∙ sym (append_assoc (concat (map framed h.done)) (framed frame) behind)
             ∙ ap (λ (l : List ℕ). l ++ behind) (sym (joined h.done frame));
         short = All-push IsShort h.done frame h.short short;
         behind = first.2;
@@ -88,9 +88,9 @@ module _ (old : ReplicaData) (bytes rest out : List ℕ) (left : ℕ) (mid : Rep
         few = omega (arith, h.few, length-append h.done (frame ∷ []), is);
         answered = in_turn_more by_frames frame said 0 left' old h.done h.texts mid new
             (subst (λ (n : ℕ). AnswersInTurn by_frames 0 n old h.done h.texts mid) (sym is) h.answered)
-            (subst (λ (p : ℕ). AnswersOneOf by_frames p left' mid frame said new) (omega (arith, ap length h.told.spelled)) one);
+            (subst (λ (p : ℕ). AnswersOneOf by_frames p left' mid frame said new) (omega (arith, ap length h.told.encoded)) one);
         told = record {
-          spelled = put ∙ ap (λ (l : List ℕ). l ++ framed said) h.told.spelled ∙ sym (joined h.texts said);
+          encoded = put ∙ ap (λ (l : List ℕ). l ++ framed said) h.told.encoded ∙ sym (joined h.texts said);
           short = All-push IsShort h.texts said h.told.short fits;
         };
       }
@@ -98,10 +98,10 @@ module _ (old : ReplicaData) (bytes rest out : List ℕ) (left : ℕ) (mid : Rep
   pub answered_all : IsBegun rest → length out ≤ 2 ^ 26 → AnswersAll by_frames old bytes out mid
   answered_all begun within =
       let none : h.others ≡ [] = none_inside rest h.others h.behind begun in
-      let empty : rest ≡ [] = h.behind.spelled ∙ ap (λ (l : List (List ℕ)). concat (map framed l)) none in record {
+      let empty : rest ≡ [] = h.behind.encoded ∙ ap (λ (l : List (List ℕ)). concat (map framed l)) none in record {
         frames = h.done;
         texts = h.texts;
-        asked = record { spelled = h.spelled ∙ ap (λ (l : List ℕ). concat (map framed h.done) ++ l) empty ∙ append-nil (concat (map framed h.done)); short = h.short };
+        asked = record { encoded = h.encoded ∙ ap (λ (l : List ℕ). concat (map framed h.done) ++ l) empty ∙ append-nil (concat (map framed h.done)); short = h.short };
         few = omega (arith, h.few);
         answered = subst (λ (n : ℕ). AnswersInTurn by_frames 0 n old h.done h.texts mid) (sym h.many ∙ ap length none) h.answered;
         told = h.told;

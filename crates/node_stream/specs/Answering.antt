@@ -49,7 +49,7 @@ by_frames = record {
 
 -- the replica carries out the request, and the text is that of its reply; a refused read may change which images the cache keeps, and any
 -- other refusal changes nothing
-pub record TellsReply (form : Spoken) (asked : Asked) (old : ReplicaData) (text : List ℕ) (new : ReplicaData) : Type 0 where
+pub record ReportsReply (form : Spoken) (asked : Asked) (old : ReplicaData) (text : List ℕ) (new : ReplicaData) : Type 0 where
   pub told : Reply
   pub replies : IsReply old asked.request told new
   pub refused : IsRefusal told → IsAfterRefusal asked.request old new
@@ -67,13 +67,13 @@ pub record LacksMemory (form : Spoken) (asked : Result Asked LineFault) (old : R
   pub did : (new ≡ old) ⊎ CarriesOut asked old new
 
 -- what was read is carried out and told; what asks for nothing changes nothing
-abbrev pub Tells : Spoken → Result Asked LineFault → ReplicaData → List ℕ → ReplicaData → Type 0
-Tells form (Ok asked) old text new = TellsReply form asked old text new
-Tells form (Err fault) old text new = (text ≡ form.fault fault) × (new ≡ old)
+abbrev pub ReportsAnswer : Spoken → Result Asked LineFault → ReplicaData → List ℕ → ReplicaData → Type 0
+ReportsAnswer form (Ok asked) old text new = ReportsReply form asked old text new
+ReportsAnswer form (Err fault) old text new = (text ≡ form.fault fault) × (new ≡ old)
 
 -- the text answers what was read
 abbrev pub AnswersAsked : Spoken → Result Asked LineFault → ReplicaData → List ℕ → ReplicaData → Type 0
-AnswersAsked form asked old text new = LacksMemory form asked old text new ⊎ Tells form asked old text new
+AnswersAsked form asked old text new = LacksMemory form asked old text new ⊎ ReportsAnswer form asked old text new
 
 -- the text answers the bytes of one request
 abbrev pub AnswersRequest : Spoken → ReplicaData → List ℕ → List ℕ → ReplicaData → Type 0

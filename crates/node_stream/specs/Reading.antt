@@ -102,12 +102,12 @@ hexed None = Err fault.Hex
 unfoldable pub bytes_of_digits : List ℕ → Result (List ℕ) LineFault
 bytes_of_digits digits = hexed (decoded (decode_of digits))
 
--- the value that bytes spell
+-- the value that bytes encode
 abbrev pub wired : {A : Type 0} → Result A WireFault → Result A LineFault
 wired (Ok x) = Ok x
 wired (Err f) = Err (fault.Wire f)
 
--- the values that bytes spell
+-- the values that bytes encode
 abbrev pub fact_in : List ℕ → Result Fact LineFault
 fact_in bytes = wired (decoded_fact bytes)
 
@@ -120,7 +120,7 @@ delta_in bytes = wired (decoded_delta bytes)
 abbrev pub piece_in : List ℕ → Result PieceData LineFault
 piece_in bytes = wired (decoded_piece bytes)
 
--- the values that digits spell
+-- the values that digits encode
 unfoldable pub fact_of_digits : List ℕ → Result Fact LineFault
 fact_of_digits digits = bytes_of_digits digits >>= (λ bytes. fact_in bytes)
 

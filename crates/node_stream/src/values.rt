@@ -21,7 +21,7 @@ fn bytes(alloc: Global, digits: &[u8]) -> Result<Vec<u8>, LineError>
     }
 }
 
-/// The fact that the bytes spell.
+/// The fact that the bytes encode.
 pub fn fact_in(alloc: Global, bytes: &[u8]) -> Result<Fact, LineError>
     ensures { Gives (λ x. x) result (fact_in bytes.now) }
 {
@@ -32,7 +32,7 @@ pub fn fact_in(alloc: Global, bytes: &[u8]) -> Result<Fact, LineError>
     }
 }
 
-/// The fact that the digits spell.
+/// The fact that the digits encode.
 #[tactic(auto, unfolding(crate::specs::Reading::fact_of_digits))]
 pub fn fact(alloc: Global, digits: &[u8]) -> Result<Fact, LineError>
     ensures { Gives (λ x. x) result (fact_of_digits digits.now) }
@@ -41,7 +41,7 @@ pub fn fact(alloc: Global, digits: &[u8]) -> Result<Fact, LineError>
     fact_in(alloc, &bytes)
 }
 
-/// The summary that the bytes spell.
+/// The summary that the bytes encode.
 pub fn summary_in(alloc: Global, bytes: &[u8]) -> Result<Summary, LineError>
     ensures { Gives (λ x. x) result (summary_in bytes.now) }
 {
@@ -52,7 +52,7 @@ pub fn summary_in(alloc: Global, bytes: &[u8]) -> Result<Summary, LineError>
     }
 }
 
-/// The summary that the digits spell.
+/// The summary that the digits encode.
 #[tactic(auto, unfolding(crate::specs::Reading::summary_of_digits))]
 pub fn summary(alloc: Global, digits: &[u8]) -> Result<Summary, LineError>
     ensures { Gives (λ x. x) result (summary_of_digits digits.now) }
@@ -61,7 +61,7 @@ pub fn summary(alloc: Global, digits: &[u8]) -> Result<Summary, LineError>
     summary_in(alloc, &bytes)
 }
 
-/// The delta that the bytes spell.
+/// The delta that the bytes encode.
 pub fn delta_in(alloc: Global, bytes: &[u8]) -> Result<Delta, LineError>
     ensures { Gives (λ x. x) result (delta_in bytes.now) }
 {
@@ -72,7 +72,7 @@ pub fn delta_in(alloc: Global, bytes: &[u8]) -> Result<Delta, LineError>
     }
 }
 
-/// The delta that the digits spell.
+/// The delta that the digits encode.
 #[tactic(auto, unfolding(crate::specs::Reading::delta_of_digits))]
 pub fn delta(alloc: Global, digits: &[u8]) -> Result<Delta, LineError>
     ensures { Gives (λ x. x) result (delta_of_digits digits.now) }
@@ -81,7 +81,7 @@ pub fn delta(alloc: Global, digits: &[u8]) -> Result<Delta, LineError>
     delta_in(alloc, &bytes)
 }
 
-/// The piece that the bytes spell.
+/// The piece that the bytes encode.
 pub fn piece_in(alloc: Global, bytes: &[u8]) -> Result<Piece, LineError>
     ensures { Gives (λ x. x) result (piece_in bytes.now) }
 {
@@ -92,7 +92,7 @@ pub fn piece_in(alloc: Global, bytes: &[u8]) -> Result<Piece, LineError>
     }
 }
 
-/// The piece that the digits spell.
+/// The piece that the digits encode.
 #[tactic(auto, unfolding(crate::specs::Reading::piece_of_digits))]
 pub fn piece(alloc: Global, digits: &[u8]) -> Result<Piece, LineError>
     ensures { Gives (λ x. x) result (piece_of_digits digits.now) }

@@ -2,7 +2,7 @@
 
 ghost use Rattle.std.specs.Prelude.{◌≡◌, ◌++◌, [], ◌∷◌, IfOk, codes};
 ghost use Rattle.line_stream.specs.AnswerText.{text_of};
-ghost use Rattle.script_text.specs.Spelled.{worded_line};
+ghost use Rattle.script_text.specs.Encoded.{worded_line};
 ghost use Rattle.node_stream.specs.Telling.{three_numbers, held_line, refusal_line, shown_line};
 ghost use Rattle.node_stream.specs.Telling.{gap_line, status_start, status_end, fault_line};
 

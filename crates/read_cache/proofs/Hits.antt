@@ -12,13 +12,13 @@ use Rattle.segment_theorems.specs.Shows.{Shows}
 use Rattle.segment_theorems.proofs.Own.{complete_of}
 use Rattle.segment_theorems.proofs.Reading.{pages_law}
 use Rattle.segment_theorems.proofs.Same.{same_min}
-use Rattle.segment_core.specs.Reading.{IsReadResult, IsReadFault, TellsOutside}
+use Rattle.segment_core.specs.Reading.{IsReadResult, IsReadFault, ReportsOutside}
 use Rattle.segment_core.specs.declared.answers.ReadFault.{ReadFault}
 use Rattle.segment_core.specs.declared.answers.ReadFault.TheVariants.{Below, Above, BrokenBlockChain, Memory}
 use Rattle.std.specs.declared.alloc.AllocError.{AllocError}
 use Rattle.read_cache.specs.declared.kept.KeptImage.{KeptImage}
 use Rattle.read_cache.specs.Cached.{Cached, IsShown}
-use Rattle.read_cache.specs.Reading.{IsHit, TellsUnkeptBreak}
+use Rattle.read_cache.specs.Reading.{IsHit, ReportsUnkeptBreak}
 
 pub hit_shows : (c : Cached) (page q : ℕ) (image : List ℕ) → IsHit c page q (Ok image) → Shows c.segment page q image
 hit_shows c page q image h = rw (h.image, ← h.at) h.shown.shown
@@ -43,7 +43,7 @@ not_told : (c : Cached) (page q : ℕ) (result : Result (List ℕ) ReadFault) �
     → result ≡ Err fault → ⊥
 not_told c page q result h fault other e = search rules
 
-pub hit_outside : (c : Cached) (page q : ℕ) (result : Result (List ℕ) ReadFault) → IsHit c page q result → TellsOutside c.segment q result
+pub hit_outside : (c : Cached) (page q : ℕ) (result : Result (List ℕ) ReadFault) → IsHit c page q result → ReportsOutside c.segment q result
 hit_outside c page q result h complete n has =
     let reached : min_of c.segment ≤ q = h.reached in
     let covered : h.kept.point ≤ complete = h.shown.covered complete has in
@@ -52,7 +52,7 @@ hit_outside c page q result h complete n has =
       (λ e. absurd (not_told c page q result h (Above n) (λ (m : Above n ≡ Memory). absurd (cc)) e), λ x. absurd (omega (arith, covered, at, x.2))),
     )
 
-pub hit_broken : (c : Cached) (page q : ℕ) (result : Result (List ℕ) ReadFault) → IsHit c page q result → TellsUnkeptBreak c page q result
+pub hit_broken : (c : Cached) (page q : ℕ) (result : Result (List ℕ) ReadFault) → IsHit c page q result → ReportsUnkeptBreak c page q result
 hit_broken c page q result h = record {
   only = λ g n e. absurd (not_told c page q result h (BrokenBlockChain g n) (λ (m : BrokenBlockChain g n ≡ Memory). absurd (cc)) e);
   unkept = λ none. absurd (none h.kept h.among h.at);
@@ -65,7 +65,7 @@ pub hit_of : (c : Cached) (page q : ℕ) (copied : Result (List ℕ) AllocError)
 hit_of c page q copied result reached found shown ok err = search rules
 
 -- the point of an image that a read answered is not above the complete point
-pub covered_by : (s : State) (q : ℕ) (image : List ℕ) (result : Result (List ℕ) ReadFault) → result ≡ Ok image → TellsOutside s q result → (complete : ℕ)
+pub covered_by : (s : State) (q : ℕ) (image : List ℕ) (result : Result (List ℕ) ReadFault) → result ≡ Ok image → ReportsOutside s q result → (complete : ℕ)
     → HasComplete s complete → q ≤ complete
 covered_by s q image result is out complete has =
     ⊎_elim

@@ -2,16 +2,16 @@
 use Rattle.std.specs.Prelude.{◌≡◌, ℕ, ◌≤◌, List, Result, Err, IfOk, IfErr}
 use Rattle.std.specs.List.{Contains}
 use Rattle.segment_theorems.specs.State.{min_of}
-use Rattle.segment_core.specs.BlockChain.{BreaksAt, IsReadable, TellsBreak}
+use Rattle.segment_core.specs.BlockChain.{BreaksAt, IsReadable, ReportsBreak}
 use Rattle.segment_core.specs.declared.answers.ReadFault.{ReadFault}
 use Rattle.segment_core.specs.declared.answers.ReadFault.TheVariants.{BrokenBlockChain, Memory}
 use Rattle.read_cache.specs.declared.kept.KeptImage.{KeptImage}
 use Rattle.read_cache.specs.Cached.{Cached, IsShown, KeepsNone}
 
 -- only a readable point with a broken block chain has it told, and it has where no image of the page is kept that was read there
-pub record TellsUnkeptBreak (c : Cached) (page q : ℕ) (result : Result (List ℕ) ReadFault) : Type 0 where
+pub record ReportsUnkeptBreak (c : Cached) (page q : ℕ) (result : Result (List ℕ) ReadFault) : Type 0 where
   pub only : (g n : ℕ) → result ≡ Err (BrokenBlockChain g n) → (g ≡ page) × IsReadable c.segment q × BreaksAt c.segment page q n
-  pub unkept : KeepsNone c page q → TellsBreak c.segment page q result
+  pub unkept : KeepsNone c page q → ReportsBreak c.segment page q result
 
 -- a read at a point from the minimum on answers with an image that was kept of it, unless memory is wanting
 pub record IsHit (c : Cached) (page q : ℕ) (result : Result (List ℕ) ReadFault) : Type 0 where

@@ -12,14 +12,14 @@ ghost use Rattle.redo_core.specs.declared.facts.Fact.TheVariants.{Cut as OfCut};
 ghost use Rattle.segment_theorems.specs.Means.{MeansAt};
 ghost use Rattle.segment_theorems.specs.Shows.{Shows};
 ghost use Rattle.segment_theorems.specs.Promises.{KeepsMeaning, KeepsMeaningWith};
-ghost use Rattle.segment_core.specs.BlockChain.{TellsBreak};
+ghost use Rattle.segment_core.specs.BlockChain.{ReportsBreak};
 ghost use Rattle.segment_core.specs.Exactly.{TakesExactly};
 ghost use Rattle.segment_theorems.specs.HasMeaning.{HasAnchor};
 ghost use Rattle.segment_core.specs.Folding.{IsPlanResult, PlansFold, Commits, RefusesCommit, RefusesAhead};
-ghost use Rattle.segment_core.specs.Forgetting.{DiscardsJust, Tidies, HoldsJustKept, IsSoundState, TellsFirstBreak, RefusesTidy};
-ghost use Rattle.segment_core.specs.Reading.{IsFrontAt, IsFrontOf, IsReadResult, TellsOutside};
+ghost use Rattle.segment_core.specs.Forgetting.{DiscardsJust, Tidies, HoldsJustKept, IsSoundState, ReportsFirstBreak, RefusesTidy};
+ghost use Rattle.segment_core.specs.Reading.{IsFrontAt, IsFrontOf, IsReadResult, ReportsOutside};
 ghost use Rattle.segment_core.specs.Refusing.{FitsSoundLog};
-ghost use Rattle.segment_core.specs.Taking.{TellsChange};
+ghost use Rattle.segment_core.specs.Taking.{ReportsChange};
 ghost use Rattle.segment_core.specs.declared.answers.ReadFault.TheVariants.{Memory as OfMemory};
 ghost use Rattle.segment_core.specs.declared.answers.Refusal.TheVariants.{Memory as MemoryOf};
 ghost use Rattle.segment_core.specs.declared.answers.Taken.TheVariants.{Changed as ChangedOf, Unchanged as UnchangedOf};
@@ -27,12 +27,12 @@ ghost use Rattle.redo_core.specs.Book.{roster_of};
 ghost use Rattle.segment_core.specs.declared.answers.Refusal.TheVariants.{OtherRoster as OtherRosterOf};
 ghost use Rattle.gossip_core.specs.declared.absorbing.AbsorbRefusal.TheVariants.{Refused as RefusedFor, Uncovered as UncoveredBy};
 ghost use Rattle.gossip_core.specs.declared.answering.Shown.{Shown as AnyShown};
-ghost use Rattle.gossip_core.specs.Absorbing.{MeansBoth, IsOfOneLog, Answers, AbsorbsInto, RefusesAbsorb, TellsRoster};
+ghost use Rattle.gossip_core.specs.Absorbing.{MeansBoth, IsOfOneLog, Answers, AbsorbsInto, RefusesAbsorb, ReportsRoster};
 ghost use Rattle.segment_join.specs.Joining.{MeansUnion, AreOfOneLog, JoinsInto, TakesTold, RefusesJoin};
 ghost use Rattle.lru.specs.LruCache.{lru_cache};
 ghost use Rattle.read_cache.specs.Cached.{IsCached, IsShown, cached};
 ghost use Rattle.read_cache.specs.Images.{kept_at};
-ghost use Rattle.read_cache.specs.Reading.{TellsUnkeptBreak, IsHit};
+ghost use Rattle.read_cache.specs.Reading.{ReportsUnkeptBreak, IsHit};
 ghost use Rattle.read_cache.specs.UpToDate.{Touches};
 
 use crate::images::Images;
@@ -172,7 +172,7 @@ impl CachedSegment {
     /// Errors: `OtherRoster`, `OtherCut`, `Contradiction`, `OtherRecord`, `Memory`; nothing has changed then, and the fact comes back.
     pub fn take(&mut self, fact: Fact) -> Result<Taken, Refused<Fact, Refusal>>
         // For the facts that the segment means.
-        ensures tells { IfOk result (TellsChange self.old.segment fact) }
+        ensures tells { IfOk result (ReportsChange self.old.segment fact) }
         ensures sound { IfErr result (λ e. FitsSoundLog self.old.segment fact → e.fault ≡ MemoryOf) }
 
         // Over any facts.
@@ -198,8 +198,8 @@ impl CachedSegment {
         ensures result { (roster : ℕ) (log facts : List AnyFact) (p : Position) → IsSound roster log → MeansAt roster log facts p self.old.segment → IsReadResult facts p page point result }
         // Over any facts.
         ensures own { IfOk result (λ image. Shows self.old.segment page point image) }
-        ensures outside { TellsOutside self.old.segment point result }
-        ensures broken { TellsUnkeptBreak self.old page point result }
+        ensures outside { ReportsOutside self.old.segment point result }
+        ensures broken { ReportsUnkeptBreak self.old page point result }
         ensures segment { self.new.segment ≡ self.old.segment }
         ensures pages { self.new.pages ≡ self.old.pages }
     {
@@ -257,7 +257,7 @@ impl CachedSegment {
         ensures kept { OnOk result (HoldsJustKept self.old.segment self.new.segment) }
         ensures tidies { OnOk result (Tidies self.old.segment self.new.segment) }
         ensures sound { IfErr result (λ e. IsSoundState self.old.segment → e ≡ OfMemory) }
-        ensures broken { TellsFirstBreak self.old.segment result }
+        ensures broken { ReportsFirstBreak self.old.segment result }
         ensures refused { IfErr result (RefusesTidy self.old.segment) }
         ensures unchanged { OnErr result (self.new ≡ self.old) }
         ensures pages { self.new.pages ≡ self.old.pages }
@@ -287,7 +287,7 @@ impl CachedSegment {
         ensures absorbs { OnOk result (AbsorbsInto self.old.segment delta.now self.new.segment) }
         ensures answers { OnOk result (Answers self.old.segment summary.now) }
         ensures refused { IfErr result (RefusesAbsorb self.old.segment summary.now delta.now) }
-        ensures roster { TellsRoster self.old.segment delta.now result }
+        ensures roster { ReportsRoster self.old.segment delta.now result }
         ensures drops { OnOk result (self.new.images ≡ []) }
         ensures unchanged { OnErr result (self.new ≡ self.old) }
         ensures pages { self.new.pages ≡ self.old.pages }
@@ -349,8 +349,8 @@ impl CachedSegment {
     fn read_anew(&mut self, page: u16, point: u64) -> Result<Page, ReadFault>
         ensures result { (roster : ℕ) (log facts : List AnyFact) (p : Position) → IsSound roster log → MeansAt roster log facts p self.old.segment → IsReadResult facts p page point result }
         ensures own { IfOk result (λ image. Shows self.old.segment page point image) }
-        ensures outside { TellsOutside self.old.segment point result }
-        ensures broken { TellsBreak self.old.segment page point result }
+        ensures outside { ReportsOutside self.old.segment point result }
+        ensures broken { ReportsBreak self.old.segment page point result }
         ensures segment { self.new.segment ≡ self.old.segment }
         ensures pages { self.new.pages ≡ self.old.pages }
     {

@@ -11,8 +11,8 @@ pub plain_unfilled : (ws : List WriteData) → list_any is_fill (plain ws) ≡ f
 plain_unfilled [] = refl
 plain_unfilled (w ∷ ws) = plain_unfilled ws
 
-pub plain_spelled : (full : Bool) (ws : List WriteData) → flat_map (patch_bytes full) (plain ws) ≡ flat_map (λ (w : WriteData). patch_bytes full (Bytes w)) ws
-plain_spelled full [] = refl
-plain_spelled full (w ∷ ws) =
-    flat_map-cons (patch_bytes full) (Bytes w) (plain ws) ∙ ap (λ (t : List ℕ). patch_bytes full (Bytes w) ++ t) (plain_spelled full ws) ∙ sym
+pub plain_encoded : (full : Bool) (ws : List WriteData) → flat_map (patch_bytes full) (plain ws) ≡ flat_map (λ (w : WriteData). patch_bytes full (Bytes w)) ws
+plain_encoded full [] = refl
+plain_encoded full (w ∷ ws) =
+    flat_map-cons (patch_bytes full) (Bytes w) (plain ws) ∙ ap (λ (t : List ℕ). patch_bytes full (Bytes w) ++ t) (plain_encoded full ws) ∙ sym
     (flat_map-cons (λ (v : WriteData). patch_bytes full (Bytes v)) w ws)

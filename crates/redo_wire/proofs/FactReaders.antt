@@ -1,4 +1,4 @@
--- Facts: what is read is spelled so, and what is spelled so is read.
+-- Facts: what is read is encoded so, and what is encoded so is read.
 use Rattle.std.proofs.Common.{◌≡◌, ℕ, ◌<◌, ◌≤◌, ◌⊎◌, ⊎_elim, Bool, true, false, cond, ltb, leb, eqb, List, [], ◌∷◌, ◌++◌, Ok, None, refl, ap, subst, ◌∙◌, append_assoc, arith, rules}
 use Rattle.std.proofs.lemmas.Grind.{common_steps}
 use Rattle.std.specs.Prelude.{◌||◌}
@@ -148,8 +148,8 @@ fact_takes bytes x fits e =
     let m = mapped_ok Cut (cut_at a.0.1) x g.1 in
     let t = cut_takes a.0.1 (m.0, x.1) t0.0.rest_fits m.1 in
     let both = Takes-then bytes (a.0.0 ∷ []) a.0.1 (cut_bytes m.0) x.1 t0.0 t.0 in
-    let spelled = subst (λ (n : ℕ). Takes bytes ((n ∷ []) ++ cut_bytes m.0) x.1) (eqb-true _ _ g.0) both in
-    subst (λ (f : Fact). Takes bytes (fact_bytes f) x.1 × IsWireFact f) m.2 (spelled, t.1))
+    let encoded = subst (λ (n : ℕ). Takes bytes ((n ∷ []) ++ cut_bytes m.0) x.1) (eqb-true _ _ g.0) both in
+    subst (λ (f : Fact). Takes bytes (fact_bytes f) x.1 × IsWireFact f) m.2 (encoded, t.1))
     (λ (g : (eqb a.0.0 2 ≡ false) × (mapped Advance (tagged_advance_at bytes) ≡ Ok x)).
     let m = mapped_ok Advance (tagged_advance_at bytes) x g.1 in
     let t = tagged_advance_reads.takes bytes (m.0, x.1) fits m.1 in

@@ -1,4 +1,4 @@
--- The fields: what is read is spelled so, and what is spelled so is read.
+-- The fields: what is read is encoded so, and what is encoded so is read.
 use Rattle.std.proofs.Common.{◌≡◌, ℕ, suc, ◌^◌, ◌<◌, List, [], ◌∷◌, ◌++◌, length, drop, Ok, refl, ap, subst, arith, rules}
 use Rattle.std.proofs.lemmas.Grind.{common_steps}
 use Rattle.std.specs.Int.{Width, w16, w32, w64, byte_len, from_be_bytes, to_be_bytes}
@@ -43,8 +43,8 @@ number_takes : (w : Width) (limit : ℕ) → IsWide w limit → (bytes text : Li
     → bytes_at (byte_len w) bytes ≡ Ok (text, rest) → from_be_bytes w text ≡ n → Takes bytes (to_be_bytes w n) rest × (n < limit)
 number_takes w limit wide bytes text n rest fits read is_n =
     let t = bytes_take (byte_len w) bytes (text, rest) fits read in
-    let spelled : to_be_bytes w n ≡ text = rw (← is_n) (wide.back text t.1 t.2) in
-    (rw spelled t.0, rw (← is_n) (wide.below text t.2))
+    let encoded : to_be_bytes w n ≡ text = rw (← is_n) (wide.back text t.1 t.2) in
+    (rw encoded t.0, rw (← is_n) (wide.below text t.2))
 
 number_reads : (w : Width) (limit : ℕ) → IsWide w limit → Reads (number_at w) (number w) (λ n. n < limit)
 unfolding number_at number
@@ -79,8 +79,8 @@ u48_takes : (bytes text : List ℕ) (n : ℕ) (rest : List ℕ) → IsBytes byte
     → Takes bytes (u48 n) rest × (n < 2 ^ 48)
 u48_takes bytes text n rest fits read is_n =
     let t = bytes_take 6 bytes (text, rest) fits read in
-    let spelled : u48 n ≡ text = rw (← is_n) (u48_back text t.1 t.2) in
-    (rw spelled t.0, rw (← is_n) (u48_below text t.2))
+    let encoded : u48 n ≡ text = rw (← is_n) (u48_back text t.1 t.2) in
+    (rw encoded t.0, rw (← is_n) (u48_below text t.2))
 
 pub u48_reads : Reads u48_at u48 (λ n. n < 2 ^ 48)
 unfolding u48_at u48

@@ -1,4 +1,4 @@
--- Tags of two forms, and the bytes that only the second form has: what is read is spelled so, and what is spelled so is read.
+-- Tags of two forms, and the bytes that only the second form has: what is read is encoded so, and what is encoded so is read.
 use Rattle.std.proofs.Common.{◌≡◌, ℕ, ◌≤◌, ◌⊎◌, Bool, true, false, cond, List, ◌++◌, Ok, Err, refl, sym, subst, append_assoc, rules}
 use Rattle.std.specs.Prelude.{◌≢◌}
 use Rattle.redo_wire.specs.declared.faults.WireFault.TheVariants.{UnknownTag}

@@ -1,4 +1,4 @@
--- How many bytes spell each part of a delta.
+-- How many bytes encode each part of a delta.
 use Rattle.std.proofs.Common.{◌≡◌, ℕ, ◌+◌, ◌*◌, Bool, true, false, cond, Bor, List, [], ◌∷◌, ◌++◌, length, map, refl, ap, ◌∙◌, sym, ◌<◌, get_or, take, arith, length-append, length-drop}
 use Rattle.std.proofs.lemmas.List.{append-nil, take_more}
 use Rattle.std.proofs.lemmas.List.Concat.{flat_map-append}

@@ -15,7 +15,7 @@ pub mod BookReaders
 pub mod SummaryReaders
 pub mod DeltaReaders
 pub mod PieceReaders
-pub mod Spellings
+pub mod Encodings
 pub mod ValueReaders
 pub mod Locality
 pub mod ValueLaws

@@ -1,4 +1,4 @@
--- Pieces: what is read is spelled so, and what is spelled so is read.
+-- Pieces: what is read is encoded so, and what is encoded so is read.
 use Rattle.std.proofs.Common.{◌≡◌, ℕ, zero, suc, ◌<◌, ◌≤◌, Bool, true, false, cond, ltb, leb, eqb, List, [], ◌∷◌, ◌++◌, length, Ok, refl, sym, ap, subst, ◌∙◌, append_assoc, arith, rules}
 use Rattle.std.specs.Prelude.{not, ◌&&◌}
 use Rattle.std.specs.List.{flat_map}
@@ -167,10 +167,10 @@ piece_steps many bytes name index total kind content fits e0 e1 e2 below e3 plac
     let p4 = Takes-then bytes (u64 name.0 ++ u32 index.0 ++ u32 total.0 ++ (kind.0 ∷ [])) kind.1 (content_bytes many content.0) content.1 p3 t4.0 in
     let kind_is : kind.0 ≡ kind_of content.0 = sym t4.1.kind_is in
     let placed : is_in_place index.0 (kind_of content.0) ≡ true = subst (λ (n : ℕ). is_in_place index.0 n ≡ true) kind_is place in
-    let spelled = subst (λ (n : ℕ). Takes bytes (u64 name.0 ++ u32 index.0 ++ u32 total.0 ++ (n ∷ []) ++ content_bytes many content.0) content.1) kind_is p4 in
+    let encoded = subst (λ (n : ℕ). Takes bytes (u64 name.0 ++ u32 index.0 ++ u32 total.0 ++ (n ∷ []) ++ content_bytes many content.0) content.1) kind_is p4 in
     let shape : IsPiece (piece_of name.0 index.0 total.0 content.0) = record
     { index = below; first = kind_told content.0 (eqb index.0 0) placed; content = t4.1.shape } in
-    (spelled, (record { shape = shape; name = t0.1; index = t1.1; total = t2.1; content = t4.1.wire }, t4.1.many_is))
+    (encoded, (record { shape = shape; name = t0.1; index = t1.1; total = t2.1; content = t4.1.wire }, t4.1.many_is))
 
 piece_part_takes : (many : Bool) (bytes : List ℕ) (x : PieceData × List ℕ) → IsBytes bytes → piece_part_at many bytes ≡ Ok x
     → Takes bytes (piece_part_bytes many x.0) x.1 × (IsWirePiece x.0 × (is_for_many x.0.content ≡ many))

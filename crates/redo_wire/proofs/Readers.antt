@@ -1,4 +1,4 @@
--- A reader and a spelling that fit: what is read is spelled so, and what is spelled so is read.
+-- A reader and a encoding that fit: what is read is encoded so, and what is encoded so is read.
 use Rattle.std.proofs.Common.{◌≡◌, ℕ, ◌+◌, ◌<◌, Bool, true, false, cond, List, ◌∷◌, ◌++◌, get_or, take, drop, Result, Ok, Err, refl, sym, ap, ◌∙◌, append_assoc, arith, rules}
 use Rattle.std.proofs.lemmas.Grind.{common_steps}
 use Rattle.std.proofs.lemmas.List.{get_or-drop}
@@ -48,26 +48,26 @@ Takes-then a x b y c p q = record { parts = p.parts ∙ ap (λ (t : List ℕ). x
 pub tag_takes : (tag : ℕ) (bytes text rest : List ℕ) → Takes bytes text rest → Takes (tag ∷ bytes) (tag ∷ text) rest
 tag_takes tag bytes text rest t = record { parts = ap (λ (r : List ℕ). tag ∷ r) t.parts; rest_fits = t.rest_fits }
 
--- what is read was spelled so, and what is spelled so is read
-pub record Reads {A : Type 0} (read : List ℕ → Read A) (spell : A → List ℕ) (Fits : A → Type 0) : Type 0 where
-  pub takes : (bytes : List ℕ) (x : A × List ℕ) → IsBytes bytes → read bytes ≡ Ok x → Takes bytes (spell x.0) x.1 × Fits x.0
-  pub again : (a : A) (rest : List ℕ) → Fits a → read (spell a ++ rest) ≡ Ok (a, rest)
+-- what is read was encoded so, and what is encoded so is read
+pub record Reads {A : Type 0} (read : List ℕ → Read A) (encode : A → List ℕ) (Fits : A → Type 0) : Type 0 where
+  pub takes : (bytes : List ℕ) (x : A × List ℕ) → IsBytes bytes → read bytes ≡ Ok x → Takes bytes (encode x.0) x.1 × Fits x.0
+  pub again : (a : A) (rest : List ℕ) → Fits a → read (encode a ++ rest) ≡ Ok (a, rest)
 
 ordered_ok : {A : Type 0} (rule : A → Bool) (r : Read A) (y : A × List ℕ) → ordered rule r ≡ Ok y → (r ≡ Ok y) × (rule y.0 ≡ true)
 ordered_ok rule r y e = search rules
 
 -- the same for an element in its place
-pub ordered_reads : {A : Type 0} (rule : A → Bool) (read : List ℕ → Read A) (spell : A → List ℕ) (Fits : A → Type 0) → Reads read spell Fits
-    → Reads (λ bytes. ordered rule (read bytes)) spell (λ a. (rule a ≡ true) × Fits a)
-ordered_reads rule read spell Fits reads = record {
+pub ordered_reads : {A : Type 0} (rule : A → Bool) (read : List ℕ → Read A) (encode : A → List ℕ) (Fits : A → Type 0) → Reads read encode Fits
+    → Reads (λ bytes. ordered rule (read bytes)) encode (λ a. (rule a ≡ true) × Fits a)
+ordered_reads rule read encode Fits reads = record {
   takes = λ bytes x fits e. let o = ordered_ok rule (read bytes) x e in let t = reads.takes bytes x fits o.0 in (t.0, (o.1, t.1));
   again = λ a rest fits. rw (reads.again a rest fits.1, fits.0) refl;
 }
 
 -- the same of values that are told apart in other words
-pub reads_as : {A : Type 0} (read : List ℕ → Read A) (spell : A → List ℕ) (Fits Told : A → Type 0) → Reads read spell Fits → ((a : A) → Fits a → Told a)
-    → ((a : A) → Told a → Fits a) → Reads read spell Told
-reads_as read spell Fits Told reads there back = record {
+pub reads_as : {A : Type 0} (read : List ℕ → Read A) (encode : A → List ℕ) (Fits Told : A → Type 0) → Reads read encode Fits → ((a : A) → Fits a → Told a)
+    → ((a : A) → Told a → Fits a) → Reads read encode Told
+reads_as read encode Fits Told reads there back = record {
   takes = λ bytes x fits e. let t = reads.takes bytes x fits e in (t.0, there x.0 t.1);
   again = λ a rest told. reads.again a rest (back a told);
 }

@@ -1,4 +1,4 @@
--- Records: what is read is spelled so, and what is spelled so is read.
+-- Records: what is read is encoded so, and what is encoded so is read.
 use Rattle.std.proofs.Common.{◌≡◌, ℕ, ◌^◌, ◌<◌, ◌≤◌, ◌⊎◌, Bool, true, false, cond, ltb, leb, eqb, List, [], ◌∷◌, ◌++◌, length, Ok, None, refl, ap, subst, ◌∙◌, append_assoc, arith, rules}
 use Rattle.std.proofs.lemmas.Grind.{common_steps}
 use Rattle.std.specs.Prelude.{Option, Some, not, ◌||◌}
@@ -39,10 +39,10 @@ pub record IsHead (h : RecordHead) : Type 0 where
   pub page : h.page < 2 ^ 16
   pub block_back : h.block_back ≤ h.back
 
-abbrev pub spelled_head : RecordHead → List ℕ
-spelled_head h = u16 h.epoch ++ u48 h.number ++ u48 h.back ++ u16 h.page ++ u48 h.block_back
+abbrev pub encoded_head : RecordHead → List ℕ
+encoded_head h = u16 h.epoch ++ u48 h.number ++ u48 h.back ++ u16 h.page ++ u48 h.block_back
 
-head_takes : (bytes : List ℕ) (x : RecordHead × List ℕ) → IsBytes bytes → head_at bytes ≡ Ok x → Takes bytes (spelled_head x.0) x.1 × IsHead x.0
+head_takes : (bytes : List ℕ) (x : RecordHead × List ℕ) → IsBytes bytes → head_at bytes ≡ Ok x → Takes bytes (encoded_head x.0) x.1 × IsHead x.0
 unfolding head_at
 head_takes bytes x fits e =
     let a0 = bind_ok (u16_at bytes) _ x e in
@@ -65,13 +65,13 @@ head_takes bytes x fits e =
     let made : RecordHead × List ℕ = (record { epoch = a0.0.0; number = a1.0.0; back = a2.0.0; page = a3.0.0; block_back = a4.0.0 }, a4.0.1) in
     let head : IsHead made.0 = record
     { epoch = t0.1; positive = ltb-true _ _ s1.1; number = t1.1; back = ltb-true _ _ s2.1; page = t3.1; block_back = leb-true _ _ s4.1 } in
-    subst (λ (y : RecordHead × List ℕ). Takes bytes (spelled_head y.0) y.1 × IsHead y.0) (ok_is made x a4.2) (e4, head)
+    subst (λ (y : RecordHead × List ℕ). Takes bytes (encoded_head y.0) y.1 × IsHead y.0) (ok_is made x a4.2) (e4, head)
 
-head_again : (h : RecordHead) (rest : List ℕ) → IsHead h → head_at (spelled_head h ++ rest) ≡ Ok (h, rest)
+head_again : (h : RecordHead) (rest : List ℕ) → IsHead h → head_at (encoded_head h ++ rest) ≡ Ok (h, rest)
 unfolding head_at
 head_again h rest fits = grind (arith, common_steps, u16_reads, u48_reads)
 
-pub head_reads : Reads head_at spelled_head IsHead
+pub head_reads : Reads head_at encoded_head IsHead
 head_reads = record { takes = head_takes; again = head_again }
 
 -- ---- shapes
@@ -123,7 +123,7 @@ record_part_steps full bytes head flags count patches fits e0 e1 e2 few e3 rule 
     let t3 = each_takes (patch_at full) left_after (patch_bytes full) (IsNextPatch full) (patch_reads full) count.0 8192 count.1 patches t2.0.rest_fits e3 in
     let b1 = Takes-then head.1 (byte_in full flags.0) flags.1 (count.0 ∷ []) count.1 t1.0 t2.0 in
     let b2 = Takes-then head.1 (byte_in full flags.0 ++ (count.0 ∷ [])) count.1 (flat_map (patch_bytes full) patches.0) patches.1 b1 t3.0 in
-    let all = Takes-then bytes (spelled_head head.0) head.1 (byte_in full flags.0 ++ (count.0 ∷ []) ++ flat_map (patch_bytes full) patches.0) patches.1 t0.0
+    let all = Takes-then bytes (encoded_head head.0) head.1 (byte_in full flags.0 ++ (count.0 ∷ []) ++ flat_map (patch_bytes full) patches.0) patches.1 t0.0
     b2 in
     let len : length patches.0 ≡ count.0 = t3.1 in
     let flags_are = flag_again full flags.0 t1.1 in
@@ -159,7 +159,7 @@ record_part_again full r rest fits =
     let z2 = flat_map (patch_bytes full) r.patches ++ rest in
     let z1 = length r.patches ∷ z2 in
     let z0 = byte_in full (flags_of r) ++ z1 in
-    let regrouped : record_part_bytes full r ++ rest ≡ spelled_head
+    let regrouped : record_part_bytes full r ++ rest ≡ encoded_head
     (head_of r) ++ (byte_in full (flags_of r) ++ (length r.patches ∷ (flat_map (patch_bytes full) r.patches ++ rest))) = simp append_assoc in
     let each = to_each full 8192 r.patches (fills_told full r.init r.patches fits.1) parts.listed in
     let flags = (within_reads full 0 0 1).again (flags_of r) z1 (flag_within full r.init r.patches fits.1) in

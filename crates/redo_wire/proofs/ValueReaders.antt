@@ -1,4 +1,4 @@
--- Values of any kind: what is read is spelled so, and what is spelled so is read.
+-- Values of any kind: what is read is encoded so, and what is encoded so is read.
 use Rattle.std.proofs.Common.{◌≡◌, ℕ, ◌⊎◌, ⊎_elim, Bool, cond, List, [], ◌∷◌, ◌++◌, Result, Ok, refl, ap, subst, ◌∙◌, rules}
 use Rattle.std.specs.Prelude.{IfOk}
 use Rattle.redo_wire.specs.declared.faults.WireFault.{WireFault}
@@ -17,13 +17,13 @@ use Rattle.redo_wire.specs.Deltas.{IsWireDelta, delta_part_bytes, delta_bytes}
 use Rattle.redo_wire.specs.DeltaReading.{delta_at, decoded_delta}
 use Rattle.redo_wire.specs.Pieces.{IsWirePiece, is_for_many, piece_part_bytes, piece_bytes}
 use Rattle.redo_wire.specs.PieceReading.{piece_at, decoded_piece}
-use Rattle.redo_wire.specs.Values.{SpellsValue, is_summary_tag, is_delta_tag, is_piece_tag, valued, decoded_value}
+use Rattle.redo_wire.specs.Values.{EncodesValue, is_summary_tag, is_delta_tag, is_piece_tag, valued, decoded_value}
 use Rattle.redo_wire.proofs.Readers.{IsBytes}
 use Rattle.redo_wire.proofs.FactReaders.{fact_reads}
 use Rattle.redo_wire.proofs.SummaryReaders.{summary_reads}
 use Rattle.redo_wire.proofs.DeltaReaders.{delta_reads}
 use Rattle.redo_wire.proofs.PieceReaders.{piece_reads}
-use Rattle.redo_wire.proofs.Spellings.{spelled_from_read, read_from_spelled}
+use Rattle.redo_wire.proofs.Encodings.{encoded_from_read, read_from_encoded}
 
 valued_ok : {A : Type 0} (kind : A → WireValue) (r : Result A WireFault) (v : WireValue) → valued kind r ≡ Ok v → (x : A) × (r ≡ Ok x) × (kind x ≡ v)
 valued_ok kind r v e = search rules
@@ -31,8 +31,8 @@ valued_ok kind r v e = search rules
 chosen : {A : Type 0} (b : Bool) (p q : Result A WireFault) (v : A) → cond b p q ≡ Ok v → (p ≡ Ok v) ⊎ (q ≡ Ok v)
 chosen b p q v e = search rules
 
--- what is read from all of the bytes is spelled by them
-pub value_from_read : (bytes : List ℕ) (v : WireValue) → IsBytes bytes → decoded_value bytes ≡ Ok v → SpellsValue v bytes
+-- what is read from all of the bytes is encoded by them
+pub value_from_read : (bytes : List ℕ) (v : WireValue) → IsBytes bytes → decoded_value bytes ≡ Ok v → EncodesValue v bytes
 value_from_read [] v fits e = absurd cc
 value_from_read (tag ∷ rest) v fits e =
     let bytes = tag ∷ rest in
@@ -42,25 +42,25 @@ value_from_read (tag ∷ rest) v fits e =
     ⊎_elim
     (λ (h : valued Summary (decoded_summary bytes) ≡ Ok v).
     let x = valued_ok Summary (decoded_summary bytes) v h in
-    subst (λ (u : WireValue). SpellsValue u bytes) x.2 (spelled_from_read summary_at summary_bytes IsWireSummary summary_reads bytes x.0 fits x.1))
+    subst (λ (u : WireValue). EncodesValue u bytes) x.2 (encoded_from_read summary_at summary_bytes IsWireSummary summary_reads bytes x.0 fits x.1))
     (λ (h : cond (is_delta_tag tag) delta (cond (is_piece_tag tag) piece fact) ≡ Ok v).
     ⊎_elim
     (λ (g : delta ≡ Ok v).
     let x = valued_ok Delta (decoded_delta bytes) v g in
-    subst (λ (u : WireValue). SpellsValue u bytes) x.2 (spelled_from_read delta_at delta_bytes IsWireDelta delta_reads bytes x.0 fits x.1))
+    subst (λ (u : WireValue). EncodesValue u bytes) x.2 (encoded_from_read delta_at delta_bytes IsWireDelta delta_reads bytes x.0 fits x.1))
     (λ (g : cond (is_piece_tag tag) piece fact ≡ Ok v).
     ⊎_elim
     (λ (f : piece ≡ Ok v).
     let x = valued_ok Piece (decoded_piece bytes) v f in
-    subst (λ (u : WireValue). SpellsValue u bytes) x.2 (spelled_from_read piece_at piece_bytes IsWirePiece piece_reads bytes x.0 fits x.1))
+    subst (λ (u : WireValue). EncodesValue u bytes) x.2 (encoded_from_read piece_at piece_bytes IsWirePiece piece_reads bytes x.0 fits x.1))
     (λ (f : fact ≡ Ok v).
     let x = valued_ok Fact (decoded_fact bytes) v f in
-    subst (λ (u : WireValue). SpellsValue u bytes) x.2 (spelled_from_read fact_at fact_bytes IsWireFact fact_reads bytes x.0 fits x.1))
+    subst (λ (u : WireValue). EncodesValue u bytes) x.2 (encoded_from_read fact_at fact_bytes IsWireFact fact_reads bytes x.0 fits x.1))
     (chosen (is_piece_tag tag) piece fact v g))
     (chosen (is_delta_tag tag) delta (cond (is_piece_tag tag) piece fact) v h))
     (chosen (is_summary_tag tag) (valued Summary (decoded_summary bytes)) (cond (is_delta_tag tag) delta (cond (is_piece_tag tag) piece fact)) v e)
 
--- ---- the decoder that the first byte of a spelling names
+-- ---- the decoder that the first byte of a encoding names
 
 summary_first : (many : Bool) (text : List ℕ)
     → decoded_value (form_bytes 16 32 many ++ text) ≡ valued Summary (decoded_summary (form_bytes 16 32 many ++ text))
@@ -81,27 +81,27 @@ advance_first many text = search rules
 fact_first : (f : fact.Fact) → decoded_value (fact_bytes f) ≡ valued Fact (decoded_fact (fact_bytes f))
 fact_first f = search (rules, record_first)
 
--- what all of the bytes spell is read from them
-pub value_from_spelled : (bytes : List ℕ) (v : WireValue) → SpellsValue v bytes → decoded_value bytes ≡ Ok v
-value_from_spelled bytes (Summary s) spelled =
-    let found = read_from_spelled summary_at summary_bytes IsWireSummary summary_reads (summary_bytes s) s (spelled.0, refl) in
-    ap decoded_value spelled.1 ∙ summary_first (has_many s.book) (summary_part_bytes (has_many s.book) s) ∙ ap (valued Summary) found
-value_from_spelled bytes (Delta d) spelled =
-    let found = read_from_spelled delta_at delta_bytes IsWireDelta delta_reads (delta_bytes d) d (spelled.0, refl) in
-    ap decoded_value spelled.1 ∙ delta_first (has_many d.book) (delta_part_bytes (has_many d.book) d) ∙ ap (valued Delta) found
-value_from_spelled bytes (Piece p) spelled =
-    let found = read_from_spelled piece_at piece_bytes IsWirePiece piece_reads (piece_bytes p) p (spelled.0, refl) in
+-- what all of the bytes encode is read from them
+pub value_from_encoded : (bytes : List ℕ) (v : WireValue) → EncodesValue v bytes → decoded_value bytes ≡ Ok v
+value_from_encoded bytes (Summary s) encoded =
+    let found = read_from_encoded summary_at summary_bytes IsWireSummary summary_reads (summary_bytes s) s (encoded.0, refl) in
+    ap decoded_value encoded.1 ∙ summary_first (has_many s.book) (summary_part_bytes (has_many s.book) s) ∙ ap (valued Summary) found
+value_from_encoded bytes (Delta d) encoded =
+    let found = read_from_encoded delta_at delta_bytes IsWireDelta delta_reads (delta_bytes d) d (encoded.0, refl) in
+    ap decoded_value encoded.1 ∙ delta_first (has_many d.book) (delta_part_bytes (has_many d.book) d) ∙ ap (valued Delta) found
+value_from_encoded bytes (Piece p) encoded =
+    let found = read_from_encoded piece_at piece_bytes IsWirePiece piece_reads (piece_bytes p) p (encoded.0, refl) in
     let many = is_for_many p.content in
-    ap decoded_value spelled.1 ∙ piece_first many (piece_part_bytes many p) ∙ ap (valued Piece) found
-value_from_spelled bytes (Fact f) spelled =
-    let found = read_from_spelled fact_at fact_bytes IsWireFact fact_reads (fact_bytes f) f (spelled.0, refl) in
-    ap decoded_value spelled.1 ∙ fact_first f ∙ ap (valued Fact) found
+    ap decoded_value encoded.1 ∙ piece_first many (piece_part_bytes many p) ∙ ap (valued Piece) found
+value_from_encoded bytes (Fact f) encoded =
+    let found = read_from_encoded fact_at fact_bytes IsWireFact fact_reads (fact_bytes f) f (encoded.0, refl) in
+    ap decoded_value encoded.1 ∙ fact_first f ∙ ap (valued Fact) found
 
 -- ---- a call that answers what reading gives
 
-pub value_is_spelled : (bytes : List ℕ) (r : Result WireValue WireError) → IsBytes bytes → GivesRead r (decoded_value bytes) → IfOk r (λ v. SpellsValue v bytes)
-value_is_spelled bytes r fits given = search (rules, value_from_read)
+pub value_is_encoded : (bytes : List ℕ) (r : Result WireValue WireError) → IsBytes bytes → GivesRead r (decoded_value bytes) → IfOk r (λ v. EncodesValue v bytes)
+value_is_encoded bytes r fits given = search (rules, value_from_read)
 
-pub spelled_is_value : (bytes : List ℕ) (r : Result WireValue WireError) → GivesRead r (decoded_value bytes) → (v : WireValue) → SpellsValue v bytes
+pub encoded_is_value : (bytes : List ℕ) (r : Result WireValue WireError) → GivesRead r (decoded_value bytes) → (v : WireValue) → EncodesValue v bytes
     → GivesRead r (Ok v)
-spelled_is_value bytes r given v spelled = subst (λ (q : Result WireValue WireFault). GivesRead r q) (value_from_spelled bytes v spelled) given
+encoded_is_value bytes r given v encoded = subst (λ (q : Result WireValue WireFault). GivesRead r q) (value_from_encoded bytes v encoded) given

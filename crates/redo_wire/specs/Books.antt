@@ -1,4 +1,4 @@
--- Books: the part that summaries, deltas and heads of pieces share. Which have bytes, and the one spelling of each.
+-- Books: the part that summaries, deltas and heads of pieces share. Which have bytes, and the one encoding of each.
 use Rattle.std.specs.Prelude.{ℕ, ◌<◌, ◌^◌, Bool, List, ◌++◌, length, nat_le, ◌||◌}
 use Rattle.std.specs.List.{AllByRecursion, flat_map}
 use Rattle.redo_core.specs.Book.{BookData, IsBook}
@@ -20,7 +20,7 @@ pub record IsWireBook (b : BookData) : Type 0 where
 abbrev pub is_long_book : BookData → Bool
 is_long_book b = nat_le count16_end (length b.cuts) || nat_le count32_end (length b.waits)
 
--- ---- spelling
+-- ---- encoding
 
 -- the points; for several readers their number stands before them
 abbrev pub points_bytes : Bool → List ℕ → List ℕ

@@ -61,6 +61,6 @@ delta_at bytes = do
   many ← form_at delta_tag roster_delta_tag bytes
   delta_part_at many.0 many.1
 
--- the delta that all of the bytes spell, or the first fault
+-- the delta that all of the bytes encode, or the first fault
 abbrev pub decoded_delta : List ℕ → Result DeltaData WireFault
 decoded_delta bytes = whole (delta_at bytes)

@@ -1,4 +1,4 @@
--- Deltas: which have bytes, and the one spelling of each.
+-- Deltas: which have bytes, and the one encoding of each.
 use Rattle.std.specs.Prelude.{◌≡◌, ℕ, ◌<◌, ◌^◌, Bool, List, ◌++◌, length, nat_le, ◌||◌}
 use Rattle.std.specs.List.{AllByRecursion, flat_map}
 use Rattle.redo_core.specs.Meaning.{ImageData}
@@ -29,7 +29,7 @@ pub record IsWireDelta (d : DeltaData) : Type 0 where
 abbrev pub is_long_delta : DeltaData → Bool
 is_long_delta d = is_long_book d.book || nat_le count32_end (length d.pages) || nat_le count32_end (length d.records)
 
--- ---- spelling
+-- ---- encoding
 
 abbrev pub image_bytes : ImageData → List ℕ
 image_bytes p = u16 p.page ++ p.bytes
@@ -42,6 +42,6 @@ delta_part_bytes many d =
 abbrev pub delta_bytes : DeltaData → List ℕ
 delta_bytes d = form_bytes delta_tag roster_delta_tag (has_many d.book) ++ delta_part_bytes (has_many d.book) d
 
--- the bytes spell the delta
-abbrev pub SpellsDelta : DeltaData → List ℕ → Type 0
-SpellsDelta d bytes = IsWireDelta d × (bytes ≡ delta_bytes d)
+-- the bytes encode the delta
+abbrev pub EncodesDelta : DeltaData → List ℕ → Type 0
+EncodesDelta d bytes = IsWireDelta d × (bytes ≡ delta_bytes d)

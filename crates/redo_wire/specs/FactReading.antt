@@ -40,6 +40,6 @@ fact_at bytes = do
       else if tag.0 == cut_tag then mapped Cut (cut_at tag.1)
       else mapped Advance (tagged_advance_at bytes)
 
--- the fact that all of the bytes spell, or the first fault
+-- the fact that all of the bytes encode, or the first fault
 abbrev pub decoded_fact : List ℕ → Result Fact WireFault
 decoded_fact bytes = whole (fact_at bytes)

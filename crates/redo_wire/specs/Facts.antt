@@ -1,4 +1,4 @@
--- Facts: which there are, and the one spelling of each.
+-- Facts: which there are, and the one encoding of each.
 use Rattle.std.specs.Prelude.{◌≡◌, ℕ, ◌<◌, ◌^◌, Bool, List, ◌∷◌, ◌++◌, None, nat_lt}
 use Rattle.redo_core.specs.Data.{CutData, AdvanceData}
 use Rattle.redo_core.specs.Shape.{cut_fault, advance_fault}
@@ -24,7 +24,7 @@ IsWireFact (Record r) = IsWireRecord r
 IsWireFact (Cut c) = IsWireCut c
 IsWireFact (Advance a) = IsWireAdvance a
 
--- ---- spelling
+-- ---- encoding
 
 -- a truncation behind its tag, and as an element of a list
 abbrev pub cut_bytes : CutData → List ℕ
@@ -47,6 +47,6 @@ fact_bytes (Record r) = record_bytes r
 fact_bytes (Cut c) = cut_tag ∷ cut_bytes c
 fact_bytes (Advance a) = tagged_advance_bytes a
 
--- the bytes spell the fact
-abbrev pub SpellsFact : Fact → List ℕ → Type 0
-SpellsFact f bytes = IsWireFact f × (bytes ≡ fact_bytes f)
+-- the bytes encode the fact
+abbrev pub EncodesFact : Fact → List ℕ → Type 0
+EncodesFact f bytes = IsWireFact f × (bytes ≡ fact_bytes f)

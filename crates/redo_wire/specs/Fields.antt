@@ -28,7 +28,7 @@ u64_at bytes = number_at w64 bytes
 unfoldable pub u48_at : List ℕ → Read ℕ
 u48_at bytes = mapped (λ text. from_be_bytes w64 (0 ∷ 0 ∷ text)) (bytes_at 6 bytes)
 
--- ---- spelling
+-- ---- encoding
 
 unfoldable pub number : Width → ℕ → List ℕ
 number w n = to_be_bytes w n

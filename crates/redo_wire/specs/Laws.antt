@@ -1,23 +1,23 @@
--- What spellings are good for, of any relation between values and bytes.
+-- What encodings are good for, of any relation between values and bytes.
 use Rattle.std.specs.Prelude.{◌≡◌, ℕ, ◌<◌, ◌↔◌, List, [], ◌++◌, Result, Ok, Err, All, length}
 use Rattle.redo_wire.specs.declared.faults.WireFault.{WireFault}
 use Rattle.redo_wire.specs.declared.faults.WireFault.TheVariants.{Short, Rest, TooLong}
 
--- a value has one spelling
-abbrev pub HasOneSpelling : {A : Type 0} → (A → List ℕ → Type 0) → Type 0
-HasOneSpelling {A} Spells = (v : A) (x y : List ℕ) → Spells v x → Spells v y → x ≡ y
+-- a value has one encoding
+abbrev pub HasOneEncoding : {A : Type 0} → (A → List ℕ → Type 0) → Type 0
+HasOneEncoding {A} Encodes = (v : A) (x y : List ℕ) → Encodes v x → Encodes v y → x ≡ y
 
--- a spelling has one value
+-- a encoding has one value
 abbrev pub HasOneValue : {A : Type 0} → (A → List ℕ → Type 0) → Type 0
-HasOneValue {A} Spells = (v w : A) (x : List ℕ) → Spells v x → Spells w x → v ≡ w
+HasOneValue {A} Encodes = (v w : A) (x : List ℕ) → Encodes v x → Encodes w x → v ≡ w
 
--- no spelling begins another
+-- no encoding begins another
 abbrev pub BeginsNoOther : {A : Type 0} → (A → List ℕ → Type 0) → Type 0
-BeginsNoOther {A} Spells = (v w : A) (x y rest : List ℕ) → Spells v x → Spells w y → x ++ rest ≡ y → rest ≡ []
+BeginsNoOther {A} Encodes = (v w : A) (x y rest : List ℕ) → Encodes v x → Encodes w y → x ++ rest ≡ y → rest ≡ []
 
--- reading gives a value exactly where all of the bytes spell it
-abbrev pub ReadsSpellings : {A : Type 0} → (A → List ℕ → Type 0) → (List ℕ → Result A WireFault) → Type 0
-ReadsSpellings {A} Spells decoded = (v : A) (bytes : List ℕ) → All (λ b. b < 256) bytes → (decoded bytes ≡ Ok v) ↔ Spells v bytes
+-- reading gives a value exactly where all of the bytes encode it
+abbrev pub ReadsEncodings : {A : Type 0} → (A → List ℕ → Type 0) → (List ℕ → Result A WireFault) → Type 0
+ReadsEncodings {A} Encodes decoded = (v : A) (bytes : List ℕ) → All (λ b. b < 256) bytes → (decoded bytes ≡ Ok v) ↔ Encodes v bytes
 
 -- reading never finds a list too long: that fault is of writing alone
 abbrev pub NeverTooLong : {A : Type 0} → (List ℕ → Result A WireFault) → Type 0
@@ -27,10 +27,10 @@ NeverTooLong decoded = (bytes : List ℕ) → decoded bytes ≡ Err TooLong → 
 abbrev pub FaultsStay : {A : Type 0} → (List ℕ → Result A WireFault) → Type 0
 FaultsStay {A} decoded = (x y : List ℕ) (f : WireFault) → decoded x ≡ Err f → (f ≡ Short → ⊥) → (f ≡ Rest → ⊥) → decoded (x ++ y) ≡ Err f
 
--- each proper beginning of a spelling is short
+-- each proper beginning of a encoding is short
 abbrev pub BeginningsAreShort : {A : Type 0} → (List ℕ → Result A WireFault) → Type 0
 BeginningsAreShort {A} decoded = (x y : List ℕ) (v : A) → 0 < length y → decoded (x ++ y) ≡ Ok v → decoded x ≡ Err Short
 
--- bytes behind a spelling are a rest
+-- bytes behind a encoding are a rest
 abbrev pub RestIsBehind : {A : Type 0} → (List ℕ → Result A WireFault) → Type 0
 RestIsBehind {A} decoded = (x y : List ℕ) (v : A) → 0 < length y → decoded x ≡ Ok v → decoded (x ++ y) ≡ Err Rest

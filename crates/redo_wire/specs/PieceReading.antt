@@ -57,6 +57,6 @@ piece_at bytes = do
   many ← form_at piece_tag roster_piece_tag bytes
   piece_part_at many.0 many.1
 
--- the piece that all of the bytes spell, or the first fault
+-- the piece that all of the bytes encode, or the first fault
 abbrev pub decoded_piece : List ℕ → Result PieceData WireFault
 decoded_piece bytes = whole (piece_at bytes)

@@ -1,4 +1,4 @@
--- Pieces: which have bytes, and the one spelling of each.
+-- Pieces: which have bytes, and the one encoding of each.
 use Rattle.std.specs.Prelude.{◌≡◌, ℕ, ◌<◌, ◌^◌, Bool, false, List, [], ◌∷◌, ◌++◌, length}
 use Rattle.std.specs.List.{AllByRecursion, flat_map}
 use Rattle.messages.specs.declared.pieces.PieceContent.{PieceContent}
@@ -34,7 +34,7 @@ is_long_content (Records rs) = false
 abbrev pub is_long_piece : PieceData → Bool
 is_long_piece p = is_long_content p.content
 
--- ---- spelling
+-- ---- encoding
 
 abbrev pub kind_of : PieceContent → ℕ
 kind_of (Head book anchor) = head_kind
@@ -60,6 +60,6 @@ piece_part_bytes many p = u64 p.name ++ u32 p.index ++ u32 p.total ++ (kind_of p
 abbrev pub piece_bytes : PieceData → List ℕ
 piece_bytes p = form_bytes piece_tag roster_piece_tag (is_for_many p.content) ++ piece_part_bytes (is_for_many p.content) p
 
--- the bytes spell the piece
-abbrev pub SpellsPiece : PieceData → List ℕ → Type 0
-SpellsPiece p bytes = IsWirePiece p × (bytes ≡ piece_bytes p)
+-- the bytes encode the piece
+abbrev pub EncodesPiece : PieceData → List ℕ → Type 0
+EncodesPiece p bytes = IsWirePiece p × (bytes ≡ piece_bytes p)

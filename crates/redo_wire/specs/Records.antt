@@ -1,4 +1,4 @@
--- Records: which there are, and the one spelling of each.
+-- Records: which there are, and the one encoding of each.
 use Rattle.std.specs.Prelude.{◌≡◌, ℕ, ◌<◌, ◌^◌, Bool, true, false, List, [], ◌∷◌, ◌++◌, length, None, ◌||◌, if◌then◌else◌}
 use Rattle.std.specs.List.{list_any, flat_map}
 use Rattle.redo_core.specs.Writes.{WriteData}
@@ -29,7 +29,7 @@ is_full_body init patches = init || list_any is_fill patches
 abbrev pub is_full : RecordData → Bool
 is_full r = is_full_body r.init r.patches
 
--- ---- spelling
+-- ---- encoding
 
 abbrev pub write_bytes : WriteData → List ℕ
 write_bytes w = u16 w.offset ++ u16 (length w.bytes) ++ w.bytes

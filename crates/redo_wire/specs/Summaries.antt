@@ -1,4 +1,4 @@
--- Summaries: which have bytes, and the one spelling of each.
+-- Summaries: which have bytes, and the one encoding of each.
 use Rattle.std.specs.Prelude.{◌≡◌, ℕ, ◌<◌, ◌^◌, Bool, List, ◌++◌, length, nat_le, ◌||◌}
 use Rattle.std.specs.List.{AllByRecursion, flat_map}
 use Rattle.messages.specs.Books.{has_many}
@@ -21,7 +21,7 @@ pub record IsWireSummary (s : SummaryData) : Type 0 where
 abbrev pub is_long_summary : SummaryData → Bool
 is_long_summary s = is_long_book s.book || nat_le count32_end (length s.keys)
 
--- ---- spelling
+-- ---- encoding
 
 abbrev pub key_bytes : Key → List ℕ
 key_bytes k = u16 k.epoch ++ u48 k.number
@@ -33,6 +33,6 @@ summary_part_bytes many s = book_bytes many s.book ++ u48 s.anchor ++ u32 (lengt
 abbrev pub summary_bytes : SummaryData → List ℕ
 summary_bytes s = form_bytes summary_tag roster_summary_tag (has_many s.book) ++ summary_part_bytes (has_many s.book) s
 
--- the bytes spell the summary
-abbrev pub SpellsSummary : SummaryData → List ℕ → Type 0
-SpellsSummary s bytes = IsWireSummary s × (bytes ≡ summary_bytes s)
+-- the bytes encode the summary
+abbrev pub EncodesSummary : SummaryData → List ℕ → Type 0
+EncodesSummary s bytes = IsWireSummary s × (bytes ≡ summary_bytes s)

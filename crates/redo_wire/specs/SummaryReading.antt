@@ -39,6 +39,6 @@ summary_at bytes = do
   many ← form_at summary_tag roster_summary_tag bytes
   summary_part_at many.0 many.1
 
--- the summary that all of the bytes spell, or the first fault
+-- the summary that all of the bytes encode, or the first fault
 abbrev pub decoded_summary : List ℕ → Result SummaryData WireFault
 decoded_summary bytes = whole (summary_at bytes)

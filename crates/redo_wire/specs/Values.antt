@@ -5,21 +5,21 @@ use Rattle.redo_wire.specs.declared.faults.WireFault.TheVariants.{Short}
 use Rattle.redo_wire.specs.declared.values.WireValue.{WireValue}
 use Rattle.redo_wire.specs.declared.values.WireValue.TheVariants.{Fact, Summary, Delta, Piece}
 use Rattle.redo_wire.specs.Tags.{summary_tag, roster_summary_tag, delta_tag, roster_delta_tag, piece_tag, roster_piece_tag}
-use Rattle.redo_wire.specs.Facts.{SpellsFact}
+use Rattle.redo_wire.specs.Facts.{EncodesFact}
 use Rattle.redo_wire.specs.FactReading.{decoded_fact}
-use Rattle.redo_wire.specs.Summaries.{SpellsSummary}
+use Rattle.redo_wire.specs.Summaries.{EncodesSummary}
 use Rattle.redo_wire.specs.SummaryReading.{decoded_summary}
-use Rattle.redo_wire.specs.Deltas.{SpellsDelta}
+use Rattle.redo_wire.specs.Deltas.{EncodesDelta}
 use Rattle.redo_wire.specs.DeltaReading.{decoded_delta}
-use Rattle.redo_wire.specs.Pieces.{SpellsPiece}
+use Rattle.redo_wire.specs.Pieces.{EncodesPiece}
 use Rattle.redo_wire.specs.PieceReading.{decoded_piece}
 
--- the bytes spell the value
-abbrev pub SpellsValue : WireValue → List ℕ → Type 0
-SpellsValue (Fact f) bytes = SpellsFact f bytes
-SpellsValue (Summary s) bytes = SpellsSummary s bytes
-SpellsValue (Delta d) bytes = SpellsDelta d bytes
-SpellsValue (Piece p) bytes = SpellsPiece p bytes
+-- the bytes encode the value
+abbrev pub EncodesValue : WireValue → List ℕ → Type 0
+EncodesValue (Fact f) bytes = EncodesFact f bytes
+EncodesValue (Summary s) bytes = EncodesSummary s bytes
+EncodesValue (Delta d) bytes = EncodesDelta d bytes
+EncodesValue (Piece p) bytes = EncodesPiece p bytes
 
 -- ---- reading
 
@@ -37,7 +37,7 @@ abbrev pub valued : {A : Type 0} → (A → WireValue) → Result A WireFault �
 valued kind (Ok x) = Ok (kind x)
 valued kind (Err f) = Err f
 
--- the value that all of the bytes spell, or the first fault: what the decoder of the first byte answers
+-- the value that all of the bytes encode, or the first fault: what the decoder of the first byte answers
 abbrev pub decoded_value : List ℕ → Result WireValue WireFault
 decoded_value [] = Err Short
 decoded_value (tag ∷ rest) =

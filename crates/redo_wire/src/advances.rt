@@ -64,7 +64,7 @@ impl ListWriter for AdvanceList {
 
     type Item = Advance;
 
-    ghost spell = { λ l. advance_bytes l.has_many };
+    ghost encode = { λ l. advance_bytes l.has_many };
 
     ghost fits = { λ _. IsWireAdvance };
 

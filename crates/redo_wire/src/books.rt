@@ -75,7 +75,7 @@ impl ListWriter for PointList {
 
     type Item = u64;
 
-    ghost spell = { λ _. u48 };
+    ghost encode = { λ _. u48 };
 
     ghost fits = { λ _ _. ⊤ };
 

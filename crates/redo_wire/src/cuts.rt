@@ -43,7 +43,7 @@ impl ListWriter for CutList {
 
     type Item = Cut;
 
-    ghost spell = { λ _. cut_bytes };
+    ghost encode = { λ _. cut_bytes };
 
     ghost fits = { λ _. IsWireCut };
 

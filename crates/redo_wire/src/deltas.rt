@@ -6,7 +6,7 @@ ghost use Rattle.redo_wire.specs.declared.faults.WireFault.TheVariants.{TooLong}
 ghost use Rattle.redo_wire.specs.Outcomes.{Gives, GivesRead};
 ghost use Rattle.messages.specs.Deltas.{DeltaData, delta_of};
 ghost use Rattle.redo_wire.specs.BookReading.{book_at};
-ghost use Rattle.redo_wire.specs.Deltas.{IsWireDelta, is_long_delta, delta_bytes, SpellsDelta};
+ghost use Rattle.redo_wire.specs.Deltas.{IsWireDelta, is_long_delta, delta_bytes, EncodesDelta};
 ghost use Rattle.redo_wire.specs.DeltaReading.{may_have, delta_part_at, delta_at, decoded_delta};
 
 use crate::books::{is_long_book, put_book, read_book};
@@ -26,28 +26,28 @@ use std::mem::size_of;
 
 const IMAGE_SIZE: usize = size_of::<PageImage>();
 
-/// The delta that the bytes spell, all of them.
+/// The delta that the bytes encode, all of them.
 ///
 /// Errors: the first fault from front to back (never `TooLong`), or `Memory`.
 pub fn decode_delta(alloc: Global, bytes: &[u8]) -> Result<Delta, WireError>
-    // What is read is what the bytes spell.
-    ensures found { IfOk result (λ d. SpellsDelta d bytes.now) }
+    // What is read is what the bytes encode.
+    ensures found { IfOk result (λ d. EncodesDelta d bytes.now) }
 
-    // What the bytes spell is read, unless memory runs out.
-    ensures spelled { (d : DeltaData) → SpellsDelta d bytes.now → GivesRead result (Ok d) }
+    // What the bytes encode is read, unless memory runs out.
+    ensures encoded { (d : DeltaData) → EncodesDelta d bytes.now → GivesRead result (Ok d) }
 
-    // Which fault comes where they spell nothing.
+    // Which fault comes where they encode nothing.
     ensures fault { GivesRead result (decoded_delta bytes.now) }
 {
     whole_delta(alloc, bytes)
 }
 
-/// Appends the one spelling of the delta.
+/// Appends the one encoding of the delta.
 ///
 /// Errors: `TooLong`, exactly where a list is longer than its count field holds, or `Memory`. Nothing has changed then.
 pub fn encode_delta(out: &mut BytesMut, delta: &Delta) -> Result<(), WireError>
     ensures ok { OnOk result (out.new.items ≡ out.old.items ++ delta_bytes delta.now) }
-    ensures spelled { OnOk result (SpellsDelta delta.now (delta_bytes delta.now)) }
+    ensures encoded { OnOk result (EncodesDelta delta.now (delta_bytes delta.now)) }
     ensures err { OnErr result (out.new.items ≡ out.old.items) }
     ensures too_long { IsErrOf result (WireError.Fault TooLong) ↔ (is_long_delta delta.now ≡ true) }
     ensures only { IfErr result (λ e. (e ≡ WireError.Fault TooLong) ⊎ (e ≡ WireError.Memory)) }

@@ -3,7 +3,7 @@
 ghost use Rattle.std.specs.Prelude.{◌≡◌, ◌++◌, IfOk, OnOk, OnErr, Ok};
 ghost use Rattle.redo_core.specs.declared.facts.Fact.{Fact};
 ghost use Rattle.redo_wire.specs.Outcomes.{Gives, GivesRead};
-ghost use Rattle.redo_wire.specs.Facts.{IsWireFact, fact_bytes, SpellsFact};
+ghost use Rattle.redo_wire.specs.Facts.{IsWireFact, fact_bytes, EncodesFact};
 ghost use Rattle.redo_wire.specs.FactReading.{fact_at, decoded_fact};
 
 use crate::advances::{put_tagged_advance, read_tagged_advance};
@@ -16,26 +16,26 @@ use bytes::{BufMut, BytesMut};
 use redo_core::Fact;
 use std::alloc::{AllocError, Global};
 
-/// The fact that the bytes spell, all of them.
+/// The fact that the bytes encode, all of them.
 ///
 /// Errors: the first fault from front to back (never `TooLong`), or `Memory`.
 pub fn decode_fact(alloc: Global, bytes: &[u8]) -> Result<Fact, WireError>
-    // What is read is what the bytes spell.
-    ensures found { IfOk result (λ f. SpellsFact f bytes.now) }
+    // What is read is what the bytes encode.
+    ensures found { IfOk result (λ f. EncodesFact f bytes.now) }
 
-    // What the bytes spell is read, unless memory runs out.
-    ensures spelled { (f : Fact) → SpellsFact f bytes.now → GivesRead result (Ok f) }
+    // What the bytes encode is read, unless memory runs out.
+    ensures encoded { (f : Fact) → EncodesFact f bytes.now → GivesRead result (Ok f) }
 
-    // Which fault comes where they spell nothing.
+    // Which fault comes where they encode nothing.
     ensures fault { GivesRead result (decoded_fact bytes.now) }
 {
     whole_fact(alloc, bytes)
 }
 
-/// Appends the one spelling of the fact. It fails only if memory runs out, and then nothing has changed.
+/// Appends the one encoding of the fact. It fails only if memory runs out, and then nothing has changed.
 pub fn encode_fact(out: &mut BytesMut, fact: &Fact) -> Result<(), AllocError>
     ensures ok { OnOk result (out.new.items ≡ out.old.items ++ fact_bytes fact.now) }
-    ensures spelled { OnOk result (SpellsFact fact.now (fact_bytes fact.now)) }
+    ensures encoded { OnOk result (EncodesFact fact.now (fact_bytes fact.now)) }
     ensures err { OnErr result (out.new.items ≡ out.old.items) }
 {
     let mut text = BytesMut::new(*out.allocator());

@@ -48,7 +48,7 @@ impl ListWriter for ImageList {
 
     type Item = PageImage;
 
-    ghost spell = { λ _. image_bytes };
+    ghost encode = { λ _. image_bytes };
 
     ghost fits = { λ _. IsWireImage };
 

@@ -44,7 +44,7 @@ impl ListWriter for KeyList {
 
     type Item = Key;
 
-    ghost spell = { λ _. key_bytes };
+    ghost encode = { λ _. key_bytes };
 
     ghost fits = { λ _ k. k.epoch < 2 ^ 16 };
 

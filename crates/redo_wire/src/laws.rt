@@ -1,30 +1,30 @@
-//! What the spellings are good for. Each law is the contract of a function that does nothing.
+//! What the encodings are good for. Each law is the contract of a function that does nothing.
 
 ghost use Rattle.redo_core.specs.Data.{CutData};
 ghost use Rattle.redo_core.specs.Order.{IsRising, CutBefore};
 ghost use Rattle.redo_core.specs.CompleteEpoch.{IsCompleteEpoch};
 ghost use Rattle.std.specs.Prelude.{List, ◌<◌};
 ghost use Rattle.std.specs.List.{AllByRecursion};
-ghost use Rattle.redo_wire.specs.Facts.{SpellsFact};
+ghost use Rattle.redo_wire.specs.Facts.{EncodesFact};
 ghost use Rattle.redo_wire.specs.FactReading.{decoded_fact};
-ghost use Rattle.redo_wire.specs.Summaries.{SpellsSummary};
+ghost use Rattle.redo_wire.specs.Summaries.{EncodesSummary};
 ghost use Rattle.redo_wire.specs.SummaryReading.{decoded_summary};
-ghost use Rattle.redo_wire.specs.Deltas.{SpellsDelta};
+ghost use Rattle.redo_wire.specs.Deltas.{EncodesDelta};
 ghost use Rattle.redo_wire.specs.DeltaReading.{decoded_delta};
-ghost use Rattle.redo_wire.specs.Pieces.{SpellsPiece};
+ghost use Rattle.redo_wire.specs.Pieces.{EncodesPiece};
 ghost use Rattle.redo_wire.specs.PieceReading.{decoded_piece};
-ghost use Rattle.redo_wire.specs.Values.{SpellsValue, decoded_value};
+ghost use Rattle.redo_wire.specs.Values.{EncodesValue, decoded_value};
 ghost use Rattle.redo_wire.specs.BookReading.{complete};
-ghost use Rattle.redo_wire.specs.Laws.{HasOneSpelling, HasOneValue, BeginsNoOther, ReadsSpellings, NeverTooLong, FaultsStay, BeginningsAreShort, RestIsBehind};
+ghost use Rattle.redo_wire.specs.Laws.{HasOneEncoding, HasOneValue, BeginsNoOther, ReadsEncodings, NeverTooLong, FaultsStay, BeginningsAreShort, RestIsBehind};
 
-/// A fact has one spelling and a spelling one fact, none begins another, reading finds just what is spelled, and
-/// never a list that is too long. A fault other than short or rest stays whatever follows, a proper beginning of a spelling
-/// is short, and what stands behind a spelling is a rest.
+/// A fact has one encoding and a encoding one fact, none begins another, reading finds just what is encoded, and
+/// never a list that is too long. A fault other than short or rest stays whatever follows, a proper beginning of a encoding
+/// is short, and what stands behind a encoding is a rest.
 pub fn fact_encodings()
-    ensures one_spelling { HasOneSpelling SpellsFact }
-    ensures one_value { HasOneValue SpellsFact }
-    ensures none_begins { BeginsNoOther SpellsFact }
-    ensures reads { ReadsSpellings SpellsFact decoded_fact }
+    ensures one_encoding { HasOneEncoding EncodesFact }
+    ensures one_value { HasOneValue EncodesFact }
+    ensures none_begins { BeginsNoOther EncodesFact }
+    ensures reads { ReadsEncodings EncodesFact decoded_fact }
     ensures never_too_long { NeverTooLong decoded_fact }
     ensures stays { FaultsStay decoded_fact }
     ensures short { BeginningsAreShort decoded_fact }
@@ -32,11 +32,11 @@ pub fn fact_encodings()
 {}
 
 /// The same of summaries.
-pub fn summary_spellings()
-    ensures one_spelling { HasOneSpelling SpellsSummary }
-    ensures one_value { HasOneValue SpellsSummary }
-    ensures none_begins { BeginsNoOther SpellsSummary }
-    ensures reads { ReadsSpellings SpellsSummary decoded_summary }
+pub fn summary_encodings()
+    ensures one_encoding { HasOneEncoding EncodesSummary }
+    ensures one_value { HasOneValue EncodesSummary }
+    ensures none_begins { BeginsNoOther EncodesSummary }
+    ensures reads { ReadsEncodings EncodesSummary decoded_summary }
     ensures never_too_long { NeverTooLong decoded_summary }
     ensures stays { FaultsStay decoded_summary }
     ensures short { BeginningsAreShort decoded_summary }
@@ -45,10 +45,10 @@ pub fn summary_spellings()
 
 /// The same of deltas.
 pub fn delta_encodings()
-    ensures one_spelling { HasOneSpelling SpellsDelta }
-    ensures one_value { HasOneValue SpellsDelta }
-    ensures none_begins { BeginsNoOther SpellsDelta }
-    ensures reads { ReadsSpellings SpellsDelta decoded_delta }
+    ensures one_encoding { HasOneEncoding EncodesDelta }
+    ensures one_value { HasOneValue EncodesDelta }
+    ensures none_begins { BeginsNoOther EncodesDelta }
+    ensures reads { ReadsEncodings EncodesDelta decoded_delta }
     ensures never_too_long { NeverTooLong decoded_delta }
     ensures stays { FaultsStay decoded_delta }
     ensures short { BeginningsAreShort decoded_delta }
@@ -56,11 +56,11 @@ pub fn delta_encodings()
 {}
 
 /// The same of pieces.
-pub fn piece_spellings()
-    ensures one_spelling { HasOneSpelling SpellsPiece }
-    ensures one_value { HasOneValue SpellsPiece }
-    ensures none_begins { BeginsNoOther SpellsPiece }
-    ensures reads { ReadsSpellings SpellsPiece decoded_piece }
+pub fn piece_encodings()
+    ensures one_encoding { HasOneEncoding EncodesPiece }
+    ensures one_value { HasOneValue EncodesPiece }
+    ensures none_begins { BeginsNoOther EncodesPiece }
+    ensures reads { ReadsEncodings EncodesPiece decoded_piece }
     ensures never_too_long { NeverTooLong decoded_piece }
     ensures stays { FaultsStay decoded_piece }
     ensures short { BeginningsAreShort decoded_piece }
@@ -68,11 +68,11 @@ pub fn piece_spellings()
 {}
 
 /// The same of values of any kind.
-pub fn value_spellings()
-    ensures one_spelling { HasOneSpelling SpellsValue }
-    ensures one_value { HasOneValue SpellsValue }
-    ensures none_begins { BeginsNoOther SpellsValue }
-    ensures reads { ReadsSpellings SpellsValue decoded_value }
+pub fn value_encodings()
+    ensures one_encoding { HasOneEncoding EncodesValue }
+    ensures one_value { HasOneValue EncodesValue }
+    ensures none_begins { BeginsNoOther EncodesValue }
+    ensures reads { ReadsEncodings EncodesValue decoded_value }
     ensures never_too_long { NeverTooLong decoded_value }
     ensures stays { FaultsStay decoded_value }
     ensures short { BeginningsAreShort decoded_value }

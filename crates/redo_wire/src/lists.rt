@@ -41,12 +41,12 @@ pub trait ListWriter: Copy {
 
     type Item;
 
-    ghost spell: { Self → Self.Item → List ℕ };
+    ghost encode: { Self → Self.Item → List ℕ };
 
     ghost fits: { Self → Self.Item → Type 0 };
 
     fn put(self, out: &mut BytesMut, item: &Self::Item) -> Result<(), AllocError>
-        ensures ok { OnOk result (out.new.items ≡ out.old.items ++ spell self item.now) }
+        ensures ok { OnOk result (out.new.items ≡ out.old.items ++ encode self item.now) }
         ensures wire { OnOk result (fits self item.now) };
 }
 
@@ -80,7 +80,7 @@ pub fn put_list<W: ListWriter>(
     out: &mut BytesMut,
     items: &[W::Item],
 ) -> Result<(), AllocError>
-    ensures ok { OnOk result (out.new.items ≡ out.old.items ++ flat_map (W.spell writer) items.now) }
+    ensures ok { OnOk result (out.new.items ≡ out.old.items ++ flat_map (W.encode writer) items.now) }
     ensures wire { OnOk result (AllByRecursion (W.fits writer) items.now) }
 {
     for item in items {

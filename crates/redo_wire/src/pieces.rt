@@ -11,7 +11,7 @@ ghost use Rattle.redo_wire.specs.Records.{IsWireRecord, record_bytes};
 ghost use Rattle.messages.specs.Books.{has_many};
 ghost use Rattle.messages.specs.Pieces.{PieceData, IsContent, max_batch};
 ghost use Rattle.redo_wire.specs.Books.{IsWireBook, is_long_book, book_bytes};
-ghost use Rattle.redo_wire.specs.Pieces.{IsWireContent, IsWirePiece, kind_of, is_for_many, is_long_content, is_long_piece, content_bytes, piece_bytes, SpellsPiece};
+ghost use Rattle.redo_wire.specs.Pieces.{IsWireContent, IsWirePiece, kind_of, is_for_many, is_long_content, is_long_piece, content_bytes, piece_bytes, EncodesPiece};
 ghost use Rattle.redo_wire.specs.PieceReading.{last_kind, is_in_place, head_content_at, records_content_at, content_at, piece_part_at, piece_at, decoded_piece};
 
 use crate::books::{is_long_book, put_book, read_book};
@@ -27,28 +27,28 @@ use messages::{Book, MAX_BATCH, Piece, PieceContent, RecordBatch};
 use redo_core::{Key, Record};
 use std::alloc::{AllocError, Global};
 
-/// The piece that the bytes spell, all of them.
+/// The piece that the bytes encode, all of them.
 ///
 /// Errors: the first fault from front to back (never `TooLong`), or `Memory`.
 pub fn decode_piece(alloc: Global, bytes: &[u8]) -> Result<Piece, WireError>
-    // What is read is what the bytes spell.
-    ensures found { IfOk result (λ p. SpellsPiece p bytes.now) }
+    // What is read is what the bytes encode.
+    ensures found { IfOk result (λ p. EncodesPiece p bytes.now) }
 
-    // What the bytes spell is read, unless memory runs out.
-    ensures spelled { (p : PieceData) → SpellsPiece p bytes.now → GivesRead result (Ok p) }
+    // What the bytes encode is read, unless memory runs out.
+    ensures encoded { (p : PieceData) → EncodesPiece p bytes.now → GivesRead result (Ok p) }
 
-    // Which fault comes where they spell nothing.
+    // Which fault comes where they encode nothing.
     ensures fault { GivesRead result (decoded_piece bytes.now) }
 {
     whole_piece(alloc, bytes)
 }
 
-/// Appends the one spelling of the piece.
+/// Appends the one encoding of the piece.
 ///
 /// Errors: `TooLong`, exactly where a list is longer than its count field holds, or `Memory`. Nothing has changed then.
 pub fn encode_piece(out: &mut BytesMut, piece: &Piece) -> Result<(), WireError>
     ensures ok { OnOk result (out.new.items ≡ out.old.items ++ piece_bytes piece.now) }
-    ensures spelled { OnOk result (SpellsPiece piece.now (piece_bytes piece.now)) }
+    ensures encoded { OnOk result (EncodesPiece piece.now (piece_bytes piece.now)) }
     ensures err { OnErr result (out.new.items ≡ out.old.items) }
     ensures too_long { IsErrOf result (WireError.Fault TooLong) ↔ (is_long_piece piece.now ≡ true) }
     ensures only { IfErr result (λ e. (e ≡ WireError.Fault TooLong) ⊎ (e ≡ WireError.Memory)) }

@@ -50,7 +50,7 @@ impl ListWriter for RecordList {
 
     type Item = Record;
 
-    ghost spell = { λ _. record_bytes };
+    ghost encode = { λ _. record_bytes };
 
     ghost fits = { λ _. IsWireRecord };
 

@@ -6,7 +6,7 @@ ghost use Rattle.redo_wire.specs.declared.faults.WireFault.TheVariants.{TooLong}
 ghost use Rattle.redo_wire.specs.Outcomes.{Gives, GivesRead};
 ghost use Rattle.messages.specs.Summaries.{SummaryData, summary_of};
 ghost use Rattle.redo_wire.specs.BookReading.{book_at};
-ghost use Rattle.redo_wire.specs.Summaries.{IsWireSummary, is_long_summary, summary_bytes, SpellsSummary};
+ghost use Rattle.redo_wire.specs.Summaries.{IsWireSummary, is_long_summary, summary_bytes, EncodesSummary};
 ghost use Rattle.redo_wire.specs.SummaryReading.{summary_part_at, summary_at, decoded_summary};
 
 use crate::books::{is_long_book, put_book, read_book};
@@ -25,28 +25,28 @@ use std::mem::size_of;
 
 const KEY_SIZE: usize = size_of::<Key>();
 
-/// The summary that the bytes spell, all of them.
+/// The summary that the bytes encode, all of them.
 ///
 /// Errors: the first fault from front to back (never `TooLong`), or `Memory`.
 pub fn decode_summary(alloc: Global, bytes: &[u8]) -> Result<Summary, WireError>
-    // What is read is what the bytes spell.
-    ensures found { IfOk result (λ s. SpellsSummary s bytes.now) }
+    // What is read is what the bytes encode.
+    ensures found { IfOk result (λ s. EncodesSummary s bytes.now) }
 
-    // What the bytes spell is read, unless memory runs out.
-    ensures spelled { (s : SummaryData) → SpellsSummary s bytes.now → GivesRead result (Ok s) }
+    // What the bytes encode is read, unless memory runs out.
+    ensures encoded { (s : SummaryData) → EncodesSummary s bytes.now → GivesRead result (Ok s) }
 
-    // Which fault comes where they spell nothing.
+    // Which fault comes where they encode nothing.
     ensures fault { GivesRead result (decoded_summary bytes.now) }
 {
     whole_summary(alloc, bytes)
 }
 
-/// Appends the one spelling of the summary.
+/// Appends the one encoding of the summary.
 ///
 /// Errors: `TooLong`, exactly where a list is longer than its count field holds, or `Memory`. Nothing has changed then.
 pub fn encode_summary(out: &mut BytesMut, summary: &Summary) -> Result<(), WireError>
     ensures ok { OnOk result (out.new.items ≡ out.old.items ++ summary_bytes summary.now) }
-    ensures spelled { OnOk result (SpellsSummary summary.now (summary_bytes summary.now)) }
+    ensures encoded { OnOk result (EncodesSummary summary.now (summary_bytes summary.now)) }
     ensures err { OnErr result (out.new.items ≡ out.old.items) }
     ensures too_long { IsErrOf result (WireError.Fault TooLong) ↔ (is_long_summary summary.now ≡ true) }
     ensures only { IfErr result (λ e. (e ≡ WireError.Fault TooLong) ⊎ (e ≡ WireError.Memory)) }

@@ -3,7 +3,7 @@
 ghost use Rattle.std.specs.Prelude.{IfOk, Ok};
 ghost use Rattle.redo_wire.specs.declared.values.WireValue.{WireValue};
 ghost use Rattle.redo_wire.specs.Outcomes.{GivesRead};
-ghost use Rattle.redo_wire.specs.Values.{SpellsValue, decoded_value};
+ghost use Rattle.redo_wire.specs.Values.{EncodesValue, decoded_value};
 
 use crate::deltas::decode_delta;
 use crate::facts::decode_fact;
@@ -24,18 +24,18 @@ pub enum WireValue {
     Piece(Piece),
 }
 
-/// The value that the bytes spell, all of them: what the decoder of the first byte's form answers. A byte of no form, or none
+/// The value that the bytes encode, all of them: what the decoder of the first byte's form answers. A byte of no form, or none
 /// at all, goes to the decoder of facts.
 ///
 /// Errors: the first fault from front to back (never `TooLong`), or `Memory`.
 pub fn decode_value(alloc: Global, bytes: &[u8]) -> Result<WireValue, WireError>
-    // What is read is what the bytes spell.
-    ensures found { IfOk result (λ v. SpellsValue v bytes.now) }
+    // What is read is what the bytes encode.
+    ensures found { IfOk result (λ v. EncodesValue v bytes.now) }
 
-    // What the bytes spell is read, unless memory runs out.
-    ensures spelled { (v : WireValue) → SpellsValue v bytes.now → GivesRead result (Ok v) }
+    // What the bytes encode is read, unless memory runs out.
+    ensures encoded { (v : WireValue) → EncodesValue v bytes.now → GivesRead result (Ok v) }
 
-    // Which fault comes where they spell nothing.
+    // Which fault comes where they encode nothing.
     ensures fault { GivesRead result (decoded_value bytes.now) }
 {
     value_by_tag(alloc, bytes)

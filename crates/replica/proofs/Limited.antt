@@ -16,8 +16,8 @@ use Rattle.replica.specs.Replying.{delta_reply, fault_reply}
 use Rattle.replica.specs.Gossiping.{RepliesTo, RepliesWithin, limited_reply}
 
 -- a broken chain is told exactly where pages are to be sent and there is one
-abbrev pub TellsBroken : (A : Type 0) → State → SummaryData → Result A ReadFault → Type 0
-TellsBroken A s summary answer =
+abbrev pub ReportsBroken : (A : Type 0) → State → SummaryData → Result A ReadFault → Type 0
+ReportsBroken A s summary answer =
     (page n : ℕ) → (answer ≡ Err (fault.BrokenBlockChain page n)) ↔ ((summary.anchor < s.base) × IsFirstBreak s page n)
 
 is_large : (most : ℕ) (d : DeltaData) → most < delta_len d → reply.Large ≡ limited_reply most (reply.Delta d)
@@ -34,7 +34,7 @@ no_delta most fault.Memory = refl
 
 -- the delta has more bytes than it may have
 pub too_large : (s : State) (summary : SummaryData) (most size : ℕ) → IsReplySize s summary size → (summary.anchor < s.base → IsWhole s)
-    → TellsBroken ℕ s summary (Ok size) → most < size → RepliesWithin s summary most reply.Large
+    → ReportsBroken ℕ s summary (Ok size) → most < size → RepliesWithin s summary most reply.Large
 too_large s summary most size is whole broken lt = record {
   whole = reply.Delta is.delta;
   replies = record {
@@ -74,7 +74,7 @@ not_large s summary most size told is le replies = record {
 
 -- there is no delta
 pub unsized : (s : State) (summary : SummaryData) (most : ℕ) (f : ReadFault) → (IsSoundState s → f ≡ fault.Memory)
-    → ((f ≡ fault.Memory) ⊎ ((summary.anchor < s.base) × IsLeastBreak s f)) → TellsBroken ℕ s summary (Err f)
+    → ((f ≡ fault.Memory) ⊎ ((summary.anchor < s.base) × IsLeastBreak s f)) → ReportsBroken ℕ s summary (Err f)
     → RepliesWithin s summary most (fault_reply f)
 unsized s summary most f sound refused broken = record {
   whole = fault_reply f;

@@ -16,11 +16,11 @@ use Rattle.segment_theorems.specs.Shows.{Shows}
 use Rattle.segment_theorems.specs.Promises.{KeepsMeaning}
 use Rattle.segment_core.specs.Exactly.{TakesExactly}
 use Rattle.segment_core.specs.Folding.{PlansFold, Commits}
-use Rattle.segment_core.specs.Forgetting.{DiscardsJust, Tidies, HoldsJustKept, IsSoundState, TellsFirstBreak, RefusesTidy}
+use Rattle.segment_core.specs.Forgetting.{DiscardsJust, Tidies, HoldsJustKept, IsSoundState, ReportsFirstBreak, RefusesTidy}
 use Rattle.segment_core.specs.Gaps.{IsGapOf, IsGapAt}
-use Rattle.segment_core.specs.Reading.{IsFrontOf, IsFrontAt, IsReadResult, TellsOutside}
+use Rattle.segment_core.specs.Reading.{IsFrontOf, IsFrontAt, IsReadResult, ReportsOutside}
 use Rattle.segment_core.specs.Refusing.{FitsSoundLog}
-use Rattle.segment_core.specs.Taking.{TellsChange}
+use Rattle.segment_core.specs.Taking.{ReportsChange}
 use Rattle.segment_core.specs.declared.answers.Front.{Front}
 use Rattle.segment_core.specs.declared.answers.Gap.{Gap}
 use Rattle.segment_core.specs.declared.answers.ReadFault.{ReadFault}
@@ -31,7 +31,7 @@ use Rattle.segment_core.specs.declared.answers.Taken.{Taken}
 use Rattle.segment_core.specs.declared.answers.Taken.TheVariants as taken
 use Rattle.segment_core.specs.declared.fold_plan.Folded.{Folded}
 use Rattle.read_cache.specs.Cached.{Cached, cached}
-use Rattle.read_cache.specs.Reading.{TellsUnkeptBreak}
+use Rattle.read_cache.specs.Reading.{ReportsUnkeptBreak}
 use Rattle.replica.specs.declared.replies.Reply.{Reply}
 use Rattle.replica.specs.declared.replies.Reply.TheVariants as reply
 use Rattle.replica.specs.declared.replies.Status.{Status}
@@ -49,7 +49,7 @@ Opens old roster told new = LacksMemory old told new ⊎ ((told ≡ reply.Opened
 pub record Takes (old : Cached) (fact : Fact) (told : Reply) (new : Cached) : Type 0 where
   pub answer : Result Taken (Refused Fact Refusal)
   pub takes : TakesExactly old.segment fact answer new.segment
-  pub tells : IfOk answer (TellsChange old.segment fact)
+  pub tells : IfOk answer (ReportsChange old.segment fact)
   pub sound : IfErr answer (λ e. FitsSoundLog old.segment fact → e.fault ≡ refusal.Memory)
   pub drops : (cut : CutData) → fact ≡ Cut cut → answer ≡ Ok taken.Changed → new.images ≡ []
   pub idle : IfOk answer (λ t. t ≡ taken.Unchanged → new ≡ old)
@@ -65,7 +65,7 @@ pub record Fronts (s : State) (told : Reply) : Type 0 where
   pub is : told ≡ reply.Front front
 
 -- the segment tells what its own complete point waits for, which is what the facts that it means lack
-pub record TellsGap (s : State) (told : Reply) : Type 0 where
+pub record ReportsGap (s : State) (told : Reply) : Type 0 where
   pub gap : Option Gap
   pub own : IsGapOf s gap
   pub facts : (roster : ℕ) (log facts : List Fact) (p : Position) → IsSound roster log → MeansAt roster log facts p s → IsGapAt log facts p gap
@@ -84,16 +84,16 @@ pub record IsStatusOf (s : State) (status : Status) : Type 0 where
   pub truncations : status.truncations ≡ length s.book.cuts
   pub waiting : status.waiting ≡ length s.book.waits
 
-abbrev pub TellsStatus : State → Reply → Type 0
-TellsStatus s told = (told ≡ reply.Memory) ⊎ ((status : Status) × IsStatusOf s status × (told ≡ reply.State status))
+abbrev pub ReportsStatus : State → Reply → Type 0
+ReportsStatus s told = (told ≡ reply.Memory) ⊎ ((status : Status) × IsStatusOf s status × (told ≡ reply.State status))
 
 -- the segment reads the page; over a sound log as the facts that it means have it
 pub record Reads (old : Cached) (page point : ℕ) (told : Reply) (new : Cached) : Type 0 where
   pub answer : Result (List ℕ) ReadFault
   pub facts : (roster : ℕ) (log facts : List Fact) (p : Position) → IsSound roster log → MeansAt roster log facts p old.segment → IsReadResult facts p page point answer
   pub own : IfOk answer (Shows old.segment page point)
-  pub outside : TellsOutside old.segment point answer
-  pub broken : TellsUnkeptBreak old page point answer
+  pub outside : ReportsOutside old.segment point answer
+  pub broken : ReportsUnkeptBreak old page point answer
   pub segment : new.segment ≡ old.segment
   pub pages : new.pages ≡ old.pages
   pub is : told ≡ read_reply answer
@@ -128,18 +128,18 @@ pub record TidiesUp (old : Cached) (told : Reply) (new : Cached) : Type 0 where
   pub keeps : OnOk answer (KeepsMeaning old.segment new.segment)
   pub kept : OnOk answer (HoldsJustKept old.segment new.segment)
   pub sound : IfErr answer (λ f. IsSoundState old.segment → f ≡ fault.Memory)
-  pub broken : TellsFirstBreak old.segment answer
+  pub broken : ReportsFirstBreak old.segment answer
   pub refused : IfErr answer (RefusesTidy old.segment)
   pub unchanged : OnErr answer (new ≡ old)
   pub pages : new.pages ≡ old.pages
   pub is : told ≡ tidied_reply answer
 
 -- the record is told, or there was no memory for a copy
-abbrev pub TellsRecord : State → Key → Reply → Type 0
-TellsRecord s key told = (r : RecordData) × IsRecordAt s.held key (Some r) × ((told ≡ reply.Next r) ⊎ (told ≡ reply.Memory))
+abbrev pub ReportsRecord : State → Key → Reply → Type 0
+ReportsRecord s key told = (r : RecordData) × IsRecordAt s.held key (Some r) × ((told ≡ reply.Next r) ⊎ (told ≡ reply.Memory))
 
 -- the held record of the least key above the one given
-pub record TellsNext (s : State) (after : Option Key) (told : Reply) : Type 0 where
+pub record ReportsNext (s : State) (after : Option Key) (told : Reply) : Type 0 where
   pub key : Option Key
   pub least : IsKeyAfter s.held after key
-  pub is : MatchOption key (told ≡ reply.NoNext) (λ k. TellsRecord s k told)
+  pub is : MatchOption key (told ≡ reply.NoNext) (λ k. ReportsRecord s k told)

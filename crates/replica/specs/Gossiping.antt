@@ -12,7 +12,7 @@ use Rattle.segment_core.specs.declared.answers.Refusal.TheVariants as refusal
 use Rattle.gossip_core.specs.Summarizing.{Summarizes, IsSummaryOf}
 use Rattle.gossip_core.specs.Sizes.{delta_len}
 use Rattle.gossip_core.specs.Replying.{AnswersSummary, FillsSummary, IsLeastBreak}
-use Rattle.gossip_core.specs.Absorbing.{MeansBoth, IsOfOneLog, Answers, AbsorbsInto, RefusesAbsorb, TellsRoster}
+use Rattle.gossip_core.specs.Absorbing.{MeansBoth, IsOfOneLog, Answers, AbsorbsInto, RefusesAbsorb, ReportsRoster}
 use Rattle.gossip_core.specs.declared.absorbing.AbsorbRefusal.{AbsorbRefusal}
 use Rattle.gossip_core.specs.declared.absorbing.AbsorbRefusal.TheVariants as absorb
 use Rattle.gossip_core.specs.declared.answering.Shown.{Shown}
@@ -61,7 +61,7 @@ pub record Absorbs (old : Cached) (summary : SummaryData) (delta : DeltaData) (t
   pub absorbs : OnOk answer (AbsorbsInto old.segment delta new.segment)
   pub answers : OnOk answer (Answers old.segment summary)
   pub refused : IfErr answer (RefusesAbsorb old.segment summary delta)
-  pub roster : TellsRoster old.segment delta answer
+  pub roster : ReportsRoster old.segment delta answer
   pub drops : OnOk answer (new.images ≡ [])
   pub unchanged : OnErr answer (new ≡ old)
   pub pages : new.pages ≡ old.pages

@@ -41,13 +41,13 @@ abbrev pub FreezesAs : State → ℕ → Option SnapshotData → Reply → Optio
 FreezesAs s name old told new = LacksMemory old told new ⊎ (HasTooMany s old told new ⊎ Keeps s name told new)
 
 -- the snapshot's piece of the index, or there was no memory
-abbrev pub TellsPiece : SnapshotData → ℕ → Reply → Type 0
-TellsPiece d index told = (told ≡ reply.Memory) ⊎ ((p : PieceData) × IsPieceOf d p × (p.index ≡ index) × (told ≡ reply.Piece p))
+abbrev pub ReportsPiece : SnapshotData → ℕ → Reply → Type 0
+ReportsPiece d index told = (told ≡ reply.Memory) ⊎ ((p : PieceData) × IsPieceOf d p × (p.index ≡ index) × (told ≡ reply.Piece p))
 
 -- whether there is a snapshot is asked first, and then whether it has such a piece
 abbrev pub Pieces : Option SnapshotData → ℕ → Reply → Type 0
 Pieces None index told = told ≡ reply.NoSnapshot
-Pieces (Some d) index told = (d.total ≤ index → told ≡ reply.NoPiece) × (index < d.total → TellsPiece d index told)
+Pieces (Some d) index told = (d.total ≤ index → told ≡ reply.NoPiece) × (index < d.total → ReportsPiece d index told)
 
 -- ---- stagings
 -- an empty staging stands in place of an older one

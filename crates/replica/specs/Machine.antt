@@ -4,7 +4,7 @@ use Rattle.replica.specs.declared.requests.Request.{Request}
 use Rattle.replica.specs.declared.requests.Request.TheVariants as request
 use Rattle.replica.specs.declared.replies.Reply.{Reply}
 use Rattle.replica.specs.Parts.{ReplicaData, SameBeside}
-use Rattle.replica.specs.AtSegment.{Opens, Takes, Fronts, TellsGap, TellsStatus, Reads, Folds, Discards, TidiesUp, TellsNext}
+use Rattle.replica.specs.AtSegment.{Opens, Takes, Fronts, ReportsGap, ReportsStatus, Reads, Folds, Discards, TidiesUp, ReportsNext}
 use Rattle.replica.specs.Gossiping.{Asks, RepliesTo, RepliesWithin, Absorbs}
 use Rattle.replica.specs.Hydrating.{FreezesAs, Pieces, Stages, AddsTo, Finishes, EndsInUnion}
 
@@ -12,8 +12,8 @@ abbrev pub IsReply : ReplicaData → Request → Reply → ReplicaData → Type 
 IsReply old (request.Open roster) told new = Opens old.cached roster told new.cached × SameBeside old new
 IsReply old (request.Take fact) told new = Takes old.cached fact told new.cached × SameBeside old new
 IsReply old request.Front told new = Fronts old.cached.segment told × (new ≡ old)
-IsReply old request.Gap told new = TellsGap old.cached.segment told × (new ≡ old)
-IsReply old request.State told new = TellsStatus old.cached.segment told × (new ≡ old)
+IsReply old request.Gap told new = ReportsGap old.cached.segment told × (new ≡ old)
+IsReply old request.State told new = ReportsStatus old.cached.segment told × (new ≡ old)
 IsReply old (request.Read page point) told new = Reads old.cached page point told new.cached × SameBeside old new
 IsReply old request.Ask told new = Asks old.cached.segment told × (new ≡ old)
 IsReply old (request.Answer summary) told new = RepliesTo old.cached.segment summary told × (new ≡ old)
@@ -31,4 +31,4 @@ IsReply old (request.Add piece) told new =
     AddsTo old.staging piece told new.staging × (new.cached ≡ old.cached) × (new.snapshot ≡ old.snapshot)
 IsReply old request.Finish told new = Finishes old.cached old.staging told new.cached new.staging × (new.snapshot ≡ old.snapshot)
 IsReply old request.Unite told new = EndsInUnion old.cached old.staging told new.cached new.staging × (new.snapshot ≡ old.snapshot)
-IsReply old (request.Next after) told new = TellsNext old.cached.segment after told × (new ≡ old)
+IsReply old (request.Next after) told new = ReportsNext old.cached.segment after told × (new ≡ old)

@@ -3,8 +3,8 @@ ghost use Rattle.std.specs.Prelude.{◌≡◌, [], IfOk};
 ghost use Rattle.read_cache.specs.Cached.{cached as cached_of};
 ghost use Rattle.replica.specs.Refused.{IsRefusal};
 ghost use Rattle.hot_log.specs.Held.{HoldsKey};
-ghost use Rattle.replica.specs.AtSegment.{Opens, Takes, Fronts, TellsGap, IsStatusOf, TellsStatus, Reads, Folds, Discards, TidiesUp};
-ghost use Rattle.replica.specs.AtSegment.{TellsRecord, TellsNext};
+ghost use Rattle.replica.specs.AtSegment.{Opens, Takes, Fronts, ReportsGap, IsStatusOf, ReportsStatus, Reads, Folds, Discards, TidiesUp};
+ghost use Rattle.replica.specs.AtSegment.{ReportsRecord, ReportsNext};
 
 use crate::replies::{Reply, Status};
 use crate::replying::{fault_reply, gap_reply, read_reply, taken_reply, tidied_reply};
@@ -53,14 +53,14 @@ pub fn front(segment: &Segment) -> Reply
 
 /// Tells what the complete point waits for.
 pub fn gap(segment: &Segment) -> Reply
-    ensures tells { TellsGap segment.now result }
+    ensures tells { ReportsGap segment.now result }
 {
     gap_reply(segment.gap())
 }
 
 /// Tells what is stored.
 pub fn state(segment: &Segment) -> Reply
-    ensures tells { TellsStatus segment.now result }
+    ensures tells { ReportsStatus segment.now result }
 {
     match status_of(segment) {
         Ok(status) => Reply::State { status },
@@ -133,7 +133,7 @@ pub fn tidy(cached: &mut CachedSegment) -> Reply
 
 /// Tells the held record of the least key above the one given.
 pub fn next(segment: &Segment, after: Option<Key>) -> Reply
-    ensures tells { TellsNext segment.now after result }
+    ensures tells { ReportsNext segment.now after result }
 {
     match segment.key_after(after) {
         Some(key) => tell(segment, key),
@@ -144,7 +144,7 @@ pub fn next(segment: &Segment, after: Option<Key>) -> Reply
 /// Tells the held record of a key.
 fn tell(segment: &Segment, key: Key) -> Reply
     requires { HoldsKey segment.now.held key }
-    ensures { TellsRecord segment.now key result }
+    ensures { ReportsRecord segment.now key result }
 {
     let Some(redo) = segment.get(key) else {
         unreachable!();

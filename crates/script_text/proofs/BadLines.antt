@@ -11,10 +11,10 @@ use Rattle.script_text.specs.StepLine.{step_of}
 use Rattle.script_text.specs.Parts.{parts_at}
 use Rattle.script_text.specs.Script.{ScriptData, rostered, most, or_bad, within, asking, with_fact, nodes_in_line, roster_in_line, lines_from, nodes_from, script_from, opened, script_of, facts_of}
 use Rattle.script_text.specs.Laws.{BadScriptLineIsLeast, BadFactLineIsLeast}
-use Rattle.script_text.specs.Spelled.{AreFacts, AsksSteps, IsLog, IsScript, Spells, Begins, IsLeastBadLine}
+use Rattle.script_text.specs.Encoded.{AreFacts, AsksSteps, IsLog, IsScript, Encodes, Begins, IsLeastBadLine}
 use Rattle.script_text.proofs.Results.{end, bad_is, refused, one_of, found, within_ok, within_bad, some_left, room_is, ended}
 use Rattle.script_text.proofs.Scripts.{lines_next, script_next}
-use Rattle.script_text.proofs.Rosters.{Reader, facts_reader, steps_reader, opened_plain, opened_named, opened_last, opened_read, rostered_is_spelled, rostered_is_read, scripts_are_spelled, logs_are_spelled}
+use Rattle.script_text.proofs.Rosters.{Reader, facts_reader, steps_reader, opened_plain, opened_named, opened_last, opened_read, rostered_is_encoded, rostered_is_read, scripts_are_encoded, logs_are_encoded}
 use Rattle.script_text.proofs.Split.{some_parts}
 
 -- Where a reader stops: behind the lines before, which more lines would complete, at a line that no others complete.
@@ -277,7 +277,7 @@ least : {A : Type 0} (Is : List (List ℕ) → A → Type 0) (read : List (List 
     → ((parts : List (List ℕ)) (x : A) → 0 < length parts → read parts ≡ Ok x → (lines : List (List ℕ)) × (parts ≡ lines ++ end) × Is lines x)
     → ((lines : List (List ℕ)) (x : A) → Is lines x → read (lines ++ end) ≡ Ok x)
     → read (parts_at 10 text) ≡ Err stop → Stops read 1 (parts_at 10 text) stop → IsLeastBadLine Is text stop
-least {A} Is read text stop spelled is_read err s =
+least {A} Is read text stop encoded is_read err s =
     let parts : List (List ℕ) = parts_at 10 text in
     let size : length parts ≡ length s.before + length (s.here ∷ s.after) = ap length s.all ∙ length-append s.before (s.here ∷ s.after) in
     let place : 1 + length s.before ≡ stop = s.place in
@@ -286,7 +286,7 @@ least {A} Is read text stop spelled is_read err s =
     let split : s.before ++ s.here ∷ s.after ≡ (s.before ++ s.here ∷ []) ++ s.after = sym (append_assoc s.before (s.here ∷ []) s.after) in
     let one_more : length (s.before ++ s.here ∷ []) ≡ stop = omega (arith, length-append s.before (s.here ∷ [])) in
     let through_is : take stop parts ≡ s.before ++ s.here ∷ [] = rw (← one_more, s.all, split) (take-append_seam (s.before ++ s.here ∷ []) s.after) in
-    let whole = spelled (s.before ++ (s.more ++ end)) s.said (omega (arith, length-append s.before (s.more ++ end), ended s.more)) s.good in
+    let whole = encoded (s.before ++ (s.more ++ end)) s.said (omega (arith, length-append s.before (s.more ++ end), ended s.more)) s.good in
     let lines_are : s.before ++ s.more ≡ whole.0 = append_cancel_right (s.before ++ s.more) whole.0 end (append_assoc s.before s.more end ∙ whole.1) in
     let begins : Begins Is s.before = (s.more, s.said, subst (λ (t : List (List ℕ)). Is t s.said) (sym lines_are) whole.2) in
     let no_more : Begins Is (s.before ++ s.here ∷ []) → stop < length parts → ⊥ = λ b within.
@@ -304,13 +304,13 @@ least {A} Is read text stop spelled is_read err s =
 
 least_script_line : (text : List ℕ) (stop : ℕ) → script_of text ≡ Err stop → IsLeastBadLine IsScript text stop
 least_script_line text stop h =
-    least IsScript (opened (script_from 0)) text stop (rostered_is_spelled AsksSteps (script_from 0) steps_reader)
+    least IsScript (opened (script_from 0)) text stop (rostered_is_encoded AsksSteps (script_from 0) steps_reader)
     (rostered_is_read AsksSteps (script_from 0) steps_reader) h
     (opened_stop AsksSteps (script_from 0) steps_reader (script_stop 0) (parts_at 10 text) stop (some_parts 10 text) h)
 
 least_fact_line : (text : List ℕ) (stop : ℕ) → facts_of text ≡ Err stop → IsLeastBadLine IsLog text stop
 least_fact_line text stop h =
-    least IsLog (opened (lines_from fact_of 0)) text stop (rostered_is_spelled AreFacts (lines_from fact_of 0) facts_reader)
+    least IsLog (opened (lines_from fact_of 0)) text stop (rostered_is_encoded AreFacts (lines_from fact_of 0) facts_reader)
     (rostered_is_read AreFacts (lines_from fact_of 0) facts_reader) h
     (opened_stop AreFacts (lines_from fact_of 0) facts_reader (lines_stop fact_of 0) (parts_at 10 text) stop (some_parts 10 text) h)
 
@@ -335,21 +335,21 @@ apart n m p q = omega (arith, p, q)
 one_line : {A : Type 0} (Is : List (List ℕ) → A → Type 0) (text : List ℕ) (n m : ℕ) → IsLeastBadLine Is text n → IsLeastBadLine Is text m → n ≡ m
 one_line Is text n m p q = apart n m (not_below Is text n m p q) (not_below Is text m n q p)
 
-reported : {A : Type 0} (Is : List (List ℕ) → A → Type 0) (text : List ℕ) (stop : ℕ) (r : Result A ℕ) → ((x : A) → r ≡ Ok x → Spells Is text x)
+reported : {A : Type 0} (Is : List (List ℕ) → A → Type 0) (text : List ℕ) (stop : ℕ) (r : Result A ℕ) → ((x : A) → r ≡ Ok x → Encodes Is text x)
     → ((n : ℕ) → r ≡ Err n → IsLeastBadLine Is text n) → IsLeastBadLine Is text stop → r ≡ Err stop
-reported Is text stop (Ok x) spelled found h = absurd (h.none x (spelled x refl))
-reported Is text stop (Err n) spelled found h = ap (λ (k : ℕ). Err k) (one_line Is text n stop (found n refl) h)
+reported Is text stop (Ok x) encoded found h = absurd (h.none x (encoded x refl))
+reported Is text stop (Err n) encoded found h = ap (λ (k : ℕ). Err k) (one_line Is text n stop (found n refl) h)
 
 pub bad_script_line_is_least : BadScriptLineIsLeast
 bad_script_line_is_least text stop = (
   least_script_line text stop,
-  reported IsScript text stop (script_of text) (λ s. (scripts_are_spelled text s).0)
+  reported IsScript text stop (script_of text) (λ s. (scripts_are_encoded text s).0)
       (least_script_line text),
 )
 
 pub bad_fact_line_is_least : BadFactLineIsLeast
 bad_fact_line_is_least text stop = (
   least_fact_line text stop,
-  reported IsLog text stop (facts_of text) (λ log. (logs_are_spelled text log).0)
+  reported IsLog text stop (facts_of text) (λ log. (logs_are_encoded text log).0)
       (least_fact_line text),
 )

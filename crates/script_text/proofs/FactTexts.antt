@@ -1,4 +1,4 @@
--- The lines that are written of facts spell them.
+-- The lines that are written of facts encode them.
 use Rattle.std.proofs.Common.{◌≡◌, ℕ, ◌≤◌, ◌<◌, Bool, ◌||◌, false, List, [], ◌∷◌, ◌++◌, map, length, None, refl, ap, ◌∙◌, append-nil, append_assoc, arith, rules}
 use Rattle.std.proofs.lemmas.Grind.{common_steps}
 use Rattle.std.specs.Prelude.{codes}
@@ -9,30 +9,30 @@ use Rattle.redo_core.specs.Data.{RecordData}
 use Rattle.redo_core.specs.Shape.{is_empty_patch, is_patch_off_page, record_fault}
 use Rattle.redo_core.specs.declared.patches.Patch.{Patch}
 use Rattle.script_text.specs.FactText.{patch_text, between_commas, contents_text, record_text, IsReadBack}
-use Rattle.script_text.specs.Spelled.{SpellsPatch, SpellsContents, SpellsRecord, worded, worded_line, labelled}
+use Rattle.script_text.specs.Encoded.{EncodesPatch, EncodesContents, EncodesRecord, worded, worded_line, labelled}
 
-patch_spelled : (p : Patch) → is_empty_patch p ≡ false → is_patch_off_page p ≡ false → IsReadBack p → SpellsPatch (patch_text p) p
-patch_spelled p some inside back = grind (arith, common_steps)
+patch_encoded : (p : Patch) → is_empty_patch p ≡ false → is_patch_off_page p ≡ false → IsReadBack p → EncodesPatch (patch_text p) p
+patch_encoded p some inside back = grind (arith, common_steps)
 
 -- the first of some tests that all fail
 neither : (b c : Bool) → (b || c) ≡ false → (b ≡ false) × (c ≡ false)
 neither b c h = search rules
 
-each_spelled : (ps : List Patch) → list_any is_empty_patch ps ≡ false → list_any is_patch_off_page ps ≡ false → AllByRecursion IsReadBack ps
-    → AllZip SpellsPatch (map patch_text ps) ps
-each_spelled [] some inside back = tt
-each_spelled (p ∷ ps) some inside back =
+each_encoded : (ps : List Patch) → list_any is_empty_patch ps ≡ false → list_any is_patch_off_page ps ≡ false → AllByRecursion IsReadBack ps
+    → AllZip EncodesPatch (map patch_text ps) ps
+each_encoded [] some inside back = tt
+each_encoded (p ∷ ps) some inside back =
     let full = neither (is_empty_patch p) (list_any is_empty_patch ps) some in
     let on = neither (is_patch_off_page p) (list_any is_patch_off_page ps) inside in
-    (patch_spelled p full.0 on.0 back.0, each_spelled ps full.1 on.1 back.1)
+    (patch_encoded p full.0 on.0 back.0, each_encoded ps full.1 on.1 back.1)
 
-contents_spelled : (init : Bool) (ps : List Patch) → list_any is_empty_patch ps ≡ false → list_any is_patch_off_page ps ≡ false → AllByRecursion IsReadBack ps
-    → SpellsContents (contents_text init ps) init ps
-contents_spelled init ps some inside back = search (rules, each_spelled)
+contents_encoded : (init : Bool) (ps : List Patch) → list_any is_empty_patch ps ≡ false → list_any is_patch_off_page ps ≡ false → AllByRecursion IsReadBack ps
+    → EncodesContents (contents_text init ps) init ps
+contents_encoded init ps some inside back = search (rules, each_encoded)
 
-pub record_spelled : (r : RecordData) → record_fault r ≡ None → r.epoch ≤ 65535 → r.page ≤ 65535 → AllByRecursion IsReadBack r.patches
-    → SpellsRecord (record_text r) r
-record_spelled r shape epoch page back = search (rules, contents_spelled)
+pub record_encoded : (r : RecordData) → record_fault r ≡ None → r.epoch ≤ 65535 → r.page ≤ 65535 → AllByRecursion IsReadBack r.patches
+    → EncodesRecord (record_text r) r
+record_encoded r shape epoch page back = search (rules, contents_encoded)
 
 -- ---- joined texts
 

@@ -7,7 +7,7 @@ use Rattle.redo_core.specs.Shape.{max_number}
 use Rattle.script_text.specs.Number.{digits_of, decimal_value}
 use Rattle.script_text.specs.Parts.{◌>>=◌, parts_at}
 use Rattle.script_text.specs.Fields.{numbers_of, of_two, of_three, of_five, Form, read_by}
-use Rattle.script_text.specs.Spelled.{worded, SpellsForm, SpellsBy}
+use Rattle.script_text.specs.Encoded.{worded, EncodesForm, EncodesBy}
 use Rattle.script_text.proofs.Numbers.{numbers_are_decimals, decimal_is_read, lacks_space}
 use Rattle.script_text.proofs.Options.{here, some_is, bind_some, either, true_is}
 use Rattle.script_text.proofs.Split.{AllLack, parts_joined, joined_parts, lacks}
@@ -32,7 +32,7 @@ numbers_apart (limit ∷ limits) [] ne = refl
 numbers_apart (limit ∷ limits) (word ∷ words) ne = none_left (decimal_value limit word) (numbers_of limits words)
     (numbers_apart limits words (λ e. ne (omega (arith, e))))
 
--- ---- what is read is spelled
+-- ---- what is read is encoded
 
 pub both_same : (x y : List ℕ) (xs ys : List (List ℕ)) → x ≡ y → xs ≡ ys → x ∷ xs ≡ y ∷ ys
 both_same x y xs ys p q = cc
@@ -51,7 +51,7 @@ numbers_are (limit ∷ limits) (word ∷ words) ns small h =
     subst (λ (t : List ℕ). (word ∷ words ≡ map decimal t) × AreWithin t (limit ∷ limits)) (some_is (one.0 ∷ more.0) ns more.2)
     (both_same word (decimal one.0) words (map decimal more.0) n.0 others.0, (n.1, others.1))
 
--- ---- what is spelled is read
+-- ---- what is encoded is read
 
 pub numbers_are_read : (limits ns : List ℕ) → AreLimits limits → AreWithin ns limits → numbers_of limits (map decimal ns) ≡ Some ns
 numbers_are_read [] [] small h = refl
@@ -127,27 +127,27 @@ numbers_within (limit ∷ limits) (word ∷ words) ns h =
 
 -- ---- a line of a form
 
-pub formed : (line word limits ns ms : List ℕ) → ns ≡ ms → line ≡ worded word ns → AreWithin ns limits → SpellsForm line word limits ms
-formed line word limits ns ms e all h = subst (SpellsForm line word limits) e (record { all = all; limited = h })
+pub formed : (line word limits ns ms : List ℕ) → ns ≡ ms → line ≡ worded word ns → AreWithin ns limits → EncodesForm line word limits ms
+formed line word limits ns ms e all h = subst (EncodesForm line word limits) e (record { all = all; limited = h })
 
--- its fields, and the numbers that they spell
+-- its fields, and the numbers that they encode
 pub record FormFields (line word limits ns : List ℕ) : Type 0 where
   pub fields : parts_at 32 line ≡ word ∷ map decimal ns
   pub numbers : numbers_of limits (map decimal ns) ≡ Some ns
 
-pub form_fields : (line word limits ns : List ℕ) → AreLimits limits → SpellsForm line word limits ns → lacks 32 word ≡ true → FormFields line word limits ns
+pub form_fields : (line word limits ns : List ℕ) → AreLimits limits → EncodesForm line word limits ns → lacks 32 word ≡ true → FormFields line word limits ns
 form_fields line word limits ns small s space = search (rules, worded_fields, numbers_are_read)
 
-pub formed_by : {A : Type 0} (f : Form A) (line ns ms : List ℕ) → ns ≡ ms → line ≡ worded f.word ns → AreWithin ns f.limits → SpellsBy f line ms
+pub formed_by : {A : Type 0} (f : Form A) (line ns ms : List ℕ) → ns ≡ ms → line ≡ worded f.word ns → AreWithin ns f.limits → EncodesBy f line ms
 formed_by f line ns ms e all h = formed line f.word f.limits ns ms e all h
 
-pub fields_by : {A : Type 0} (f : Form A) (line ns : List ℕ) → AreLimits f.limits → SpellsBy f line ns → lacks 32 f.word ≡ true
+pub fields_by : {A : Type 0} (f : Form A) (line ns : List ℕ) → AreLimits f.limits → EncodesBy f line ns → lacks 32 f.word ≡ true
     → FormFields line f.word f.limits ns
 fields_by f line ns small s space = form_fields line f.word f.limits ns small s space
 
 -- the numbers of a line's fields
 pub said_form : (line word limits : List ℕ) (fields : List (List ℕ)) (ns : List ℕ) → AreLimits limits → parts_at 32 line ≡ word ∷ fields
-    → numbers_of limits fields ≡ Some ns → SpellsForm line word limits ns
+    → numbers_of limits fields ≡ Some ns → EncodesForm line word limits ns
 said_form line word limits fields ns small e h =
     let is = numbers_are limits fields ns small h in
     record { all = parts_joined 32 line (word ∷ map decimal ns) (e ∙ ap (λ (t : List (List ℕ)). word ∷ t) is.0); limited = is.1 }

@@ -10,10 +10,10 @@ pub mod Words
 pub mod RecordLine
 pub mod AdvanceLine
 pub mod Loops
-pub mod PatchSpelling
+pub mod PatchEncoding
 pub mod RecordContents
-pub mod StepSpelling
-pub mod FactSpelling
+pub mod StepEncoding
+pub mod FactEncoding
 pub mod FactTexts
 pub mod Scripts
 pub mod Lines

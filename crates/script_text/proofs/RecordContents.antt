@@ -92,7 +92,7 @@ no_write place bytes e = search rules
 then_none : (o : Option (List ℕ)) (f : List ℕ → Option Patch) → ((bytes : List ℕ) → f bytes ≡ None) → (o >>= f) ≡ None
 then_none o f none = search rules
 
--- a place with neither a number nor a star spells nothing
+-- a place with neither a number nor a star encodes nothing
 pub no_place : (text place digits : List ℕ) → field_of 65535 (parts_at 58 text) ≡ None → parts_at 58 text ≡ place ∷ parts_at 58 digits
     → parts_at 42 place ≡ place ∷ [] → patch_of text ≡ None
 no_place text place digits none e whole =

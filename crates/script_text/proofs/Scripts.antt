@@ -1,4 +1,4 @@
--- Logs and scripts below the roster are read exactly where their lines are spelled.
+-- Logs and scripts below the roster are read exactly where their lines are encoded.
 use Rattle.std.proofs.Common.{◌≡◌, ℕ, ◌+◌, ◌<◌, ◌≤◌, inl, inr, true, false, cond, eqb, leb, List, [], ◌∷◌, ◌++◌, length, Option, Some, Result, Ok, Err, codes, refl, sym, ap, ◌∙◌, subst, arith, append_assoc, length-append, rules}
 use Rattle.std.proofs.lemmas.Grind.{common_steps}
 use Rattle.std.specs.Prelude.{bytes_eq}
@@ -13,13 +13,13 @@ use Rattle.script_text.specs.Fields.{Form, form, of_one, read_by}
 use Rattle.script_text.specs.FactLine.{fact_line, fact_of}
 use Rattle.script_text.specs.StepLine.{step_of}
 use Rattle.script_text.specs.Script.{ScriptData, most, most_nodes, positive, nodes_in_line, or_bad, within, asking, with_fact, lines_from, nodes_from, script_from}
-use Rattle.script_text.specs.Spelled.{worded, SpellsFact, SpellsStep, AreFacts, AsksSteps}
-use Rattle.script_text.proofs.FactSpelling.{fact_lines_are_spelled}
+use Rattle.script_text.specs.Encoded.{worded, EncodesFact, EncodesStep, AreFacts, AsksSteps}
+use Rattle.script_text.proofs.FactEncoding.{fact_lines_are_encoded}
 use Rattle.script_text.proofs.Forms.{Reads, form_fields, read_has, both_same}
 use Rattle.script_text.proofs.Options.{true_is, no_test}
 use Rattle.script_text.proofs.Results.{end, not_good, past, one_of, or_bad_ok, within_ok, some_left, room, room_is, ended}
 use Rattle.script_text.proofs.Split.{lacks}
-use Rattle.script_text.proofs.StepSpelling.{step_lines_are_spelled}
+use Rattle.script_text.proofs.StepEncoding.{step_lines_are_encoded}
 
 pub AllZip-with : {A B : Type 0} (R S : A → B → Type 0) (xs : List A) (ys : List B) → ((a : A) (b : B) → R a b → S a b) → AllZip R xs ys → AllZip S xs ys
 AllZip-with R S [] [] f h = tt
@@ -38,9 +38,9 @@ counting word limit = form word (limit ∷ []) (of_one positive)
 count_reads : (word : List ℕ) (limit : ℕ) → limit ≤ max_number → Reads (Counts word limit) (counting word limit)
 count_reads word limit small = search rules
 
-pub count_is_spelled : (word line : List ℕ) (limit n : ℕ) → limit ≤ max_number → read_by (counting word limit ∷ []) (parts_at 32 line) ≡ Some n
+pub count_is_encoded : (word line : List ℕ) (limit n : ℕ) → limit ≤ max_number → read_by (counting word limit ∷ []) (parts_at 32 line) ≡ Some n
     → Counts word limit line n
-count_is_spelled word line limit n small h = read_has (Counts word limit) (counting word limit ∷ []) line (parts_at 32 line) n
+count_is_encoded word line limit n small h = read_has (Counts word limit) (counting word limit ∷ []) line (parts_at 32 line) n
     (count_reads word limit small, tt) refl h
 
 pub count_is_read : (word line : List ℕ) (limit n : ℕ) → limit ≤ max_number → bytes_eq word word ≡ true → lacks 32 word ≡ true → Counts word limit line n
@@ -50,14 +50,14 @@ count_is_read word line limit n small same space c =
     let more : eqb n 0 ≡ false = grind (arith, nat_tests, c.1) in
     ap (read_by (counting word limit ∷ [])) f.fields ∙ rw same (ap (λ (o : Option (List ℕ)). o >>= of_one positive) f.numbers ∙ rw more refl)
 
-abbrev SpellsNodes : List ℕ → ℕ → Type 0
-SpellsNodes line nodes = Counts (codes "nodes") most_nodes line nodes
+abbrev EncodesNodes : List ℕ → ℕ → Type 0
+EncodesNodes line nodes = Counts (codes "nodes") most_nodes line nodes
 
-nodes_are_spelled : (line : List ℕ) (nodes : ℕ) → nodes_in_line line ≡ Some nodes → SpellsNodes line nodes
+nodes_are_encoded : (line : List ℕ) (nodes : ℕ) → nodes_in_line line ≡ Some nodes → EncodesNodes line nodes
 unfolding nodes_in_line
-nodes_are_spelled line nodes h = count_is_spelled (codes "nodes") line most_nodes nodes (omega arith) h
+nodes_are_encoded line nodes h = count_is_encoded (codes "nodes") line most_nodes nodes (omega arith) h
 
-nodes_are_read : (line : List ℕ) (nodes : ℕ) → SpellsNodes line nodes → nodes_in_line line ≡ Some nodes
+nodes_are_read : (line : List ℕ) (nodes : ℕ) → EncodesNodes line nodes → nodes_in_line line ≡ Some nodes
 unfolding nodes_in_line
 nodes_are_read line nodes h = count_is_read (codes "nodes") line most_nodes nodes (omega arith) refl refl h
 
@@ -110,14 +110,14 @@ lines_read said count at (l ∷ ls) (x ∷ xs) h le =
 
 pub facts_are_read : (at : ℕ) (lines : List (List ℕ)) (facts : List Fact) → AreFacts lines facts → lines_from fact_of 0 at (lines ++ end) ≡ Ok facts
 facts_are_read at lines facts h =
-    let each = AllZip-with SpellsFact (λ l f. fact_of l ≡ Some f) lines facts (λ l f. (fact_lines_are_spelled l f).1) h.0 in
+    let each = AllZip-with EncodesFact (λ l f. fact_of l ≡ Some f) lines facts (λ l f. (fact_lines_are_encoded l f).1) h.0 in
     lines_read fact_of 0 at lines facts each (omega (arith, h.1))
 
-pub facts_are_spelled : (at : ℕ) (parts : List (List ℕ)) (facts : List Fact) → 0 < length parts → lines_from fact_of 0 at parts ≡ Ok facts
+pub facts_are_encoded : (at : ℕ) (parts : List (List ℕ)) (facts : List Fact) → 0 < length parts → lines_from fact_of 0 at parts ≡ Ok facts
     → (lines : List (List ℕ)) × (parts ≡ lines ++ end) × AreFacts lines facts
-facts_are_spelled at parts facts some h =
+facts_are_encoded at parts facts some h =
     let s = lines_said fact_of 0 at parts facts some (omega arith) h in
-    (s.lines, s.all, (AllZip-with (λ l f. fact_of l ≡ Some f) SpellsFact s.lines facts (λ l f. (fact_lines_are_spelled l f).0) s.each, omega (arith, s.few)))
+    (s.lines, s.all, (AllZip-with (λ l f. fact_of l ≡ Some f) EncodesFact s.lines facts (λ l f. (fact_lines_are_encoded l f).0) s.each, omega (arith, s.few)))
 
 -- ---- the line of the nodes, and the steps
 
@@ -125,7 +125,7 @@ record Tail (facts : ℕ) (parts : List (List ℕ)) (s : ScriptData) : Type 0 wh
   nodes : List ℕ
   lines : List (List ℕ)
   all : parts ≡ nodes ∷ (lines ++ end)
-  named : SpellsNodes nodes s.nodes
+  named : EncodesNodes nodes s.nodes
   each : AllZip (λ l a. step_of facts l ≡ Some a) lines s.steps
   none : s.facts ≡ []
   few : length lines ≤ most
@@ -138,7 +138,7 @@ nodes_said facts at (x ∷ y ∷ more) s h =
     let one = or_bad_ok at (nodes_in_line x) next s (rw (some_left (length (y ∷ more)) (omega arith)) at h) in
     let steps = within_ok (asking one.0) (lines_from (step_of facts) 0 (at + 1) (y ∷ more)) s one.2 in
     let rest = lines_said (step_of facts) 0 (at + 1) (y ∷ more) steps.0 (omega arith) (omega arith) steps.1 in
-    let named : SpellsNodes x s.nodes = subst (λ (t : ScriptData). SpellsNodes x t.nodes) (sym steps.2) (nodes_are_spelled x one.0 one.1) in
+    let named : EncodesNodes x s.nodes = subst (λ (t : ScriptData). EncodesNodes x t.nodes) (sym steps.2) (nodes_are_encoded x one.0 one.1) in
     let each : AllZip (λ l a. step_of facts l ≡ Some a) rest.lines s.steps = subst
     (λ (t : ScriptData). AllZip (λ l a. step_of facts l ≡ Some a) rest.lines t.steps) (sym steps.2) rest.each in
     let none : s.facts ≡ [] = ap (λ (t : ScriptData). t.facts) steps.2 in
@@ -152,7 +152,7 @@ nodes_said facts at (x ∷ y ∷ more) s h =
       few = omega (arith, rest.few);
     }
 
-nodes_read : (facts at nodes : ℕ) (line : List ℕ) (lines : List (List ℕ)) (steps : List (Step ℕ)) → SpellsNodes line nodes
+nodes_read : (facts at nodes : ℕ) (line : List ℕ) (lines : List (List ℕ)) (steps : List (Step ℕ)) → EncodesNodes line nodes
     → AllZip (λ l a. step_of facts l ≡ Some a) lines steps → length lines ≤ most
     → nodes_from facts at (line ∷ (lines ++ end)) ≡ Ok (asking nodes steps)
 nodes_read facts at nodes line lines steps n h le =
@@ -184,7 +184,7 @@ record Whole (count : ℕ) (parts : List (List ℕ)) (s : ScriptData) : Type 0 w
   nodes : List ℕ
   steps : List (List ℕ)
   all : parts ≡ facts ++ (codes "go" ∷ nodes ∷ (steps ++ end))
-  named : SpellsNodes nodes s.nodes
+  named : EncodesNodes nodes s.nodes
   said : AllZip (λ l f. fact_of l ≡ Some f) facts s.facts
   asked : AllZip (λ l a. step_of (count + length facts) l ≡ Some a) steps s.steps
   few_facts : count + length facts ≤ most
@@ -221,7 +221,7 @@ whole_more count x rest f others s one e w =
     (λ (k : ℕ). AllZip (λ l a. step_of k l ≡ Some a) w.steps others.steps) n w.asked in
     let asked : AllZip (λ l a. step_of (count + length (x ∷ w.facts)) l ≡ Some a) w.steps s.steps =
     subst (λ (t : ScriptData). AllZip (λ l a. step_of (count + length (x ∷ w.facts)) l ≡ Some a) w.steps t.steps) (sym e) moved in
-    let named : SpellsNodes w.nodes s.nodes = subst (λ (t : ScriptData). SpellsNodes w.nodes t.nodes) (sym e) w.named in
+    let named : EncodesNodes w.nodes s.nodes = subst (λ (t : ScriptData). EncodesNodes w.nodes t.nodes) (sym e) w.named in
     record {
       facts = x ∷ w.facts;
       nodes = w.nodes;
@@ -250,9 +250,9 @@ whole_said count at (x ∷ y ∷ more) s le h =
           whole_more count x (y ∷ more) one.0 others.0 s one.1 others.2 (whole_said (count + 1) (at + 1) (y ∷ more) others.0 (omega arith) others.1)
     ]
 
-pub steps_are_spelled : (at : ℕ) (parts : List (List ℕ)) (s : ScriptData) → 0 < length parts → script_from 0 at parts ≡ Ok s
+pub steps_are_encoded : (at : ℕ) (parts : List (List ℕ)) (s : ScriptData) → 0 < length parts → script_from 0 at parts ≡ Ok s
     → (lines : List (List ℕ)) × (parts ≡ lines ++ end) × AsksSteps lines s
-steps_are_spelled at parts s some h =
+steps_are_encoded at parts s some h =
     let w = whole_said 0 at parts s (omega arith) h in
     let nodes : w.nodes ≡ worded (codes "nodes") (s.nodes ∷ []) = (w.named).0 in
     let lines : List (List ℕ) = w.facts ++ (codes "go" ∷ w.nodes ∷ w.steps) in
@@ -261,11 +261,11 @@ steps_are_spelled at parts s some h =
     (λ (t : List ℕ). w.facts ++ (codes "go" ∷ t ∷ w.steps)) nodes in
     let n : 0 + length w.facts ≡ length w.facts = omega arith in
     let few : length w.facts ≤ most = omega (arith, w.few_facts) in
-    let said = AllZip-with (λ l f. fact_of l ≡ Some f) SpellsFact w.facts s.facts (λ l f. (fact_lines_are_spelled l f).0) w.said in
+    let said = AllZip-with (λ l f. fact_of l ≡ Some f) EncodesFact w.facts s.facts (λ l f. (fact_lines_are_encoded l f).0) w.said in
     let own : AllZip (λ l a. step_of (length w.facts) l ≡ Some a) w.steps s.steps = subst
     (λ (k : ℕ). AllZip (λ l a. step_of k l ≡ Some a) w.steps s.steps) n w.asked in
-    let asked = AllZip-with (λ l a. step_of (length w.facts) l ≡ Some a) (SpellsStep (length w.facts)) w.steps s.steps
-    (λ l a. (step_lines_are_spelled (length w.facts) l a few).0) own in (
+    let asked = AllZip-with (λ l a. step_of (length w.facts) l ≡ Some a) (EncodesStep (length w.facts)) w.steps s.steps
+    (λ l a. (step_lines_are_encoded (length w.facts) l a few).0) own in (
       lines,
       all,
       record {
@@ -281,7 +281,7 @@ steps_are_spelled at parts s some h =
       },
     )
 
-whole_read : (count at nodes : ℕ) (line : List ℕ) (facts steps : List (List ℕ)) (fs : List Fact) (ss : List (Step ℕ)) → SpellsNodes line nodes
+whole_read : (count at nodes : ℕ) (line : List ℕ) (facts steps : List (List ℕ)) (fs : List Fact) (ss : List (Step ℕ)) → EncodesNodes line nodes
     → AllZip (λ l f. fact_of l ≡ Some f) facts fs
     → AllZip (λ l a. step_of (count + length facts) l ≡ Some a) steps ss → count + length facts ≤ most → length steps ≤ most
     → script_from count at (facts ++ (codes "go" ∷ line ∷ (steps ++ end))) ≡ Ok (record { facts = fs; nodes = nodes; steps = ss })
@@ -302,12 +302,12 @@ whole_read count at nodes line (x ∷ xs) steps (f ∷ fs) ss named p q le few =
 pub steps_are_read : (at : ℕ) (lines : List (List ℕ)) (s : ScriptData) → AsksSteps lines s → script_from 0 at (lines ++ end) ≡ Ok s
 steps_are_read at lines s i =
     let line : List ℕ = worded (codes "nodes") (s.nodes ∷ []) in
-    let named : SpellsNodes line s.nodes = (refl, i.some_nodes, i.few_nodes) in
+    let named : EncodesNodes line s.nodes = (refl, i.some_nodes, i.few_nodes) in
     let n : length i.facts ≡ 0 + length i.facts = omega arith in
     let parts : lines ++ end ≡ i.facts ++ (codes "go" ∷ line ∷ (i.steps ++ end)) = ap (λ (t : List (List ℕ)). t ++ end) i.all ∙ append_assoc i.facts
     (codes "go" ∷ line ∷ i.steps) end in
-    let said = AllZip-with SpellsFact (λ l f. fact_of l ≡ Some f) i.facts s.facts (λ l f. (fact_lines_are_spelled l f).1) i.said in
-    let asked = AllZip-with (SpellsStep (length i.facts)) (λ l a. step_of (length i.facts) l ≡ Some a) i.steps s.steps
-    (λ l a. (step_lines_are_spelled (length i.facts) l a i.few_facts).1) i.asked in
+    let said = AllZip-with EncodesFact (λ l f. fact_of l ≡ Some f) i.facts s.facts (λ l f. (fact_lines_are_encoded l f).1) i.said in
+    let asked = AllZip-with (EncodesStep (length i.facts)) (λ l a. step_of (length i.facts) l ≡ Some a) i.steps s.steps
+    (λ l a. (step_lines_are_encoded (length i.facts) l a i.few_facts).1) i.asked in
     ap (script_from 0 at) parts ∙ whole_read 0 at s.nodes line i.facts i.steps s.facts s.steps named said
     (subst (λ (k : ℕ). AllZip (λ l a. step_of k l ≡ Some a) i.steps s.steps) n asked) (omega (arith, i.few_facts)) i.few_steps

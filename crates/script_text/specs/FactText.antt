@@ -1,4 +1,4 @@
--- The line of a fact in one spelling: digits in lower case, numbers in decimal.
+-- The line of a fact in one encoding: digits in lower case, numbers in decimal.
 use Rattle.std.specs.Prelude.{◌≡◌, ℕ, ◌≤◌, ◌==◌, Bool, true, false, List, [], ◌∷◌, ◌++◌, map, Ok, codes, if◌then◌else◌}
 use Rattle.std.specs.List.{join_with_byte}
 use Rattle.std.specs.Fmt.{decimal}

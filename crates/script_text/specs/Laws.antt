@@ -7,27 +7,27 @@ use Rattle.script_text.specs.Number.{decimal_value}
 use Rattle.script_text.specs.FactLine.{fact_of}
 use Rattle.script_text.specs.StepLine.{step_of}
 use Rattle.script_text.specs.Script.{ScriptData, Rostered, most, script_of, facts_of}
-use Rattle.script_text.specs.Spelled.{SpellsFact, SpellsStep, IsLog, IsScript, Spells, IsLeastBadLine}
+use Rattle.script_text.specs.Encoded.{EncodesFact, EncodesStep, IsLog, IsScript, Encodes, IsLeastBadLine}
 
 -- The words that are numbers are just those that decimal writes.
 abbrev pub NumbersAreDecimals : Type 0
 NumbersAreDecimals = (limit n : ℕ) (word : List ℕ) → limit < 2 ^ 64 → (decimal_value limit word ≡ Some n) ↔ ((word ≡ decimal n) × (n ≤ limit))
 
--- A line is read as a fact exactly where it spells it.
-abbrev pub FactLinesAreSpelled : Type 0
-FactLinesAreSpelled = (line : List ℕ) (fact : Fact) → (fact_of line ≡ Some fact) ↔ SpellsFact line fact
+-- A line is read as a fact exactly where it encodes it.
+abbrev pub FactLinesAreEncoded : Type 0
+FactLinesAreEncoded = (line : List ℕ) (fact : Fact) → (fact_of line ≡ Some fact) ↔ EncodesFact line fact
 
--- A line is read as a step exactly where it spells it.
-abbrev pub StepLinesAreSpelled : Type 0
-StepLinesAreSpelled = (facts : ℕ) (line : List ℕ) (step : Step ℕ) → facts ≤ most → (step_of facts line ≡ Some step) ↔ SpellsStep facts line step
+-- A line is read as a step exactly where it encodes it.
+abbrev pub StepLinesAreEncoded : Type 0
+StepLinesAreEncoded = (facts : ℕ) (line : List ℕ) (step : Step ℕ) → facts ≤ most → (step_of facts line ≡ Some step) ↔ EncodesStep facts line step
 
 -- A text is read as a script exactly where its lines are that script.
-abbrev pub ScriptsAreSpelled : Type 0
-ScriptsAreSpelled = (text : List ℕ) (script : Rostered ScriptData) → (script_of text ≡ Ok script) ↔ Spells IsScript text script
+abbrev pub ScriptsAreEncoded : Type 0
+ScriptsAreEncoded = (text : List ℕ) (script : Rostered ScriptData) → (script_of text ≡ Ok script) ↔ Encodes IsScript text script
 
 -- A text is read as a log exactly where its lines are that log.
-abbrev pub LogsAreSpelled : Type 0
-LogsAreSpelled = (text : List ℕ) (log : Rostered (List Fact)) → (facts_of text ≡ Ok log) ↔ Spells IsLog text log
+abbrev pub LogsAreEncoded : Type 0
+LogsAreEncoded = (text : List ℕ) (log : Rostered (List Fact)) → (facts_of text ≡ Ok log) ↔ Encodes IsLog text log
 
 -- A bad line of a script is reported exactly where it is the least.
 abbrev pub BadScriptLineIsLeast : Type 0

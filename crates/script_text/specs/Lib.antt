@@ -6,5 +6,5 @@ pub mod FactText
 pub mod StepLine
 pub mod Script
 pub mod Outcome
-pub mod Spelled
+pub mod Encoded
 pub mod Laws

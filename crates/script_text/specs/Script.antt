@@ -119,10 +119,10 @@ below read o lines = within (rostered o.roster) (read (o.lines + 1) (drop o.line
 abbrev pub opened : {A : Type 0} → (ℕ → List (List ℕ) → Result A ℕ) → List (List ℕ) → Result (Rostered A) ℕ
 opened read lines = below read (opening_of lines) lines
 
--- the script that the text spells, or its least bad line
+-- the script that the text encodes, or its least bad line
 abbrev pub script_of : List ℕ → Result (Rostered ScriptData) ℕ
 script_of text = opened (script_from 0) (parts_at 10 text)
 
--- the facts that the text spells, a fact a line, or its least bad line
+-- the facts that the text encodes, a fact a line, or its least bad line
 abbrev pub facts_of : List ℕ → Result (Rostered (List Fact)) ℕ
 facts_of text = opened (lines_from fact_of 0) (parts_at 10 text)

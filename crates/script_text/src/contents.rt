@@ -99,7 +99,7 @@ fn offset_before(text: &[u8]) -> Option<(u16, &[u8])>
     }
 }
 
-/// The patch that a place and hexadecimal digits spell; None where they spell none. It fails only if memory runs out.
+/// The patch that a place and hexadecimal digits encode; None where they encode none. It fails only if memory runs out.
 #[tactic(auto, using(crate::proofs::RecordContents::write_is, crate::proofs::RecordContents::no_place), unfolding(crate::specs::FactLine::patch_from))]
 pub fn patch(alloc: Global, text: &[u8]) -> Result<Option<Patch>, AllocError>
     ensures { IfOk result (λ o. o ≡ patch_of text.now) }

@@ -104,7 +104,7 @@ fn fact_line(alloc: Global, word: &[u8], fields: &[u8]) -> Result<Option<Fact>, 
     }
 }
 
-/// The fact that a line spells; None where it spells none. It fails only if memory runs out.
+/// The fact that a line encodes; None where it encodes none. It fails only if memory runs out.
 #[tactic(auto, using(crate::proofs::Words::no_fact, crate::proofs::Words::record_first))]
 pub fn fact(alloc: Global, line: &[u8]) -> Result<Option<Fact>, AllocError>
     ensures { IfOk result (λ o. o ≡ fact_of line.now) }

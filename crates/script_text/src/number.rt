@@ -25,7 +25,7 @@ fn digits(word: &[u8], limit: u64) -> Option<u64>
     Some(value)
 }
 
-/// The number that the word spells, if it is at most `limit`.
+/// The number that the word encodes, if it is at most `limit`.
 pub fn number(word: &[u8], limit: u64) -> Option<u64>
     requires { limit < 2 ^ 60 }
     ensures value { result ≡ decimal_value limit word.now }
@@ -37,7 +37,7 @@ pub fn number(word: &[u8], limit: u64) -> Option<u64>
     }
 }
 
-/// The numbers that the fields spell: as many as there are limits, each at most its limit.
+/// The numbers that the fields encode: as many as there are limits, each at most its limit.
 pub fn numbers<const N: usize>(limits: [u64; N], fields: &[&[u8]]) -> Option<[u64; N]>
     requires { All (λ limit. limit < 2 ^ 60) limits }
     ensures value { result ≡ numbers_of limits.entry (map (λ x. x.now) fields.now) }

@@ -192,7 +192,7 @@ fn facts(alloc: Global, text: &[u8], at: usize) -> Result<Vec<Fact>, ScriptError
     Err(ScriptError::BadLine(at + facts.len()))
 }
 
-/// The script that the text spells: a roster or none, fact lines, `go`, a line like `nodes 2`, step lines; or its least bad line.
+/// The script that the text encodes: a roster or none, fact lines, `go`, a line like `nodes 2`, step lines; or its least bad line.
 pub fn read_script(alloc: Global, text: &[u8]) -> Result<Script, ScriptError>
     ensures script { Gives script_data result (script_of text.now) }
     ensures range { IfOk result (λ s. All (IsInRange (length s.facts.items)) s.steps.items) }
@@ -211,7 +211,7 @@ pub fn read_script(alloc: Global, text: &[u8]) -> Result<Script, ScriptError>
     })
 }
 
-/// The log that the text spells: a roster or none, and fact lines; or its least bad line.
+/// The log that the text encodes: a roster or none, and fact lines; or its least bad line.
 pub fn read_facts(alloc: Global, text: &[u8]) -> Result<Log, ScriptError>
     ensures { Gives log_data result (facts_of text.now) }
 {

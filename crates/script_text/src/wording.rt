@@ -1,7 +1,7 @@
 //! Words and numbers, as the texts have them.
 
 ghost use Rattle.std.specs.Prelude.{◌≡◌, IfOk, string_bytes};
-ghost use Rattle.script_text.specs.Spelled.{worded, worded_line, labelled};
+ghost use Rattle.script_text.specs.Encoded.{worded, worded_line, labelled};
 
 use std::alloc::{AllocError, Global};
 use std::fmt::Write;

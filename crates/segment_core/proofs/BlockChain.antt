@@ -25,7 +25,7 @@ use Rattle.segment_core.specs.Reading.{IsFrontAt, IsFrontOf}
 use Rattle.segment_core.specs.declared.answers.Front.{Front}
 use Rattle.segment_core.specs.declared.answers.ReadFault.{ReadFault}
 use Rattle.segment_core.specs.declared.answers.ReadFault.TheVariants.{BrokenBlockChain, Memory}
-use Rattle.segment_core.specs.BlockChain.{IsKnownLinked, IsLinkedOf, IsLinkedUpTo, OnBlockChain, BreaksFrom, BreaksAt, TellsBreak}
+use Rattle.segment_core.specs.BlockChain.{IsKnownLinked, IsLinkedOf, IsLinkedUpTo, OnBlockChain, BreaksFrom, BreaksAt, ReportsBreak}
 use Rattle.segment_core.specs.BlockChain.OnBlockChain.{start, down}
 
 -- ---- steps of the walk
@@ -262,11 +262,11 @@ answers_here s page q r m is here same n = (
 pub answers_none : (s : State) (page q : ℕ) → ((n : ℕ) → BreaksAt s page q n → ⊥) → (n : ℕ) → (None ≡ Some n) ↔ BreaksAt s page q n
 answers_none s page q none n = (λ (e : None ≡ Some n). absurd (cc), λ h. absurd (none n h))
 
-abbrev pub TellsLink : State → ℕ → ℕ → Option ℕ → Type 0
-TellsLink s page q link = (n : ℕ) → (link ≡ Some n) ↔ BreaksAt s page q n
+abbrev pub ReportsLink : State → ℕ → ℕ → Option ℕ → Type 0
+ReportsLink s page q link = (n : ℕ) → (link ≡ Some n) ↔ BreaksAt s page q n
 
 pub tells_broken : (s : State) (front : Front) (page q m : ℕ) (link : Option ℕ) → IsFrontOf s front → front.min ≤ q → q ≤ front.complete
-    → TellsLink s page q link → link ≡ Some m → TellsBreak s page q (Err (BrokenBlockChain page m))
+    → ReportsLink s page q link → link ≡ Some m → ReportsBreak s page q (Err (BrokenBlockChain page m))
 tells_broken s front page q m link own low high tells is = λ g n. (
   λ (e : Err (BrokenBlockChain page m) ≡ Err (BrokenBlockChain g n)).
       let same : m ≡ n = cc in
@@ -281,7 +281,7 @@ tells_broken s front page q m link own low high tells is = λ g n. (
 )
 
 pub tells_whole : (s : State) (page q : ℕ) (link : Option ℕ) (answer : Result (List ℕ) ReadFault)
-    → ((g n : ℕ) → answer ≡ Err (BrokenBlockChain g n) → ⊥) → TellsLink s page q link → link ≡ None → TellsBreak s page q answer
+    → ((g n : ℕ) → answer ≡ Err (BrokenBlockChain g n) → ⊥) → ReportsLink s page q link → link ≡ None → ReportsBreak s page q answer
 tells_whole s page q link answer not tells is = λ g n. (
   λ e. absurd (not g n e),
   λ h. let found : link ≡ Some n = (tells n).1 h.2 in absurd (cc),
@@ -297,7 +297,7 @@ not_memory g n e = cc
 pub no_link : (link : Option ℕ) → ((n : ℕ) → link ≡ Some n → ⊥) → link ≡ None
 no_link link not = search rules
 
-pub sound_link : (s : State) (page q : ℕ) (link : Option ℕ) → TellsLink s page q link → (roster : ℕ) (log facts : List Fact) (p : Position)
+pub sound_link : (s : State) (page q : ℕ) (link : Option ℕ) → ReportsLink s page q link → (roster : ℕ) (log facts : List Fact) (p : Position)
     → IsSound roster log → MeansAt roster log facts p s → q ≤ p.complete → link ≡ None
 sound_link s page q link tells roster log facts p sound means le =
     no_link link (λ n is. no_break log facts p s page q n sound means le ((tells n).0 is))

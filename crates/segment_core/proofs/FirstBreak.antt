@@ -7,12 +7,12 @@ use Rattle.segment_theorems.specs.State.{State}
 use Rattle.segment_theorems.specs.HasMeaning.{HasAnchor}
 use Rattle.segment_core.specs.BlockChain.{BreaksAt}
 use Rattle.segment_core.specs.Folding.{BreaksBelowAnchor}
-use Rattle.segment_core.specs.Forgetting.{IsWhole, IsFirstBreak, TellsFirstBreak, IsSoundState}
+use Rattle.segment_core.specs.Forgetting.{IsWhole, IsFirstBreak, ReportsFirstBreak, IsSoundState}
 use Rattle.segment_core.specs.declared.answers.ReadFault.{ReadFault}
 use Rattle.segment_core.specs.declared.answers.ReadFault.TheVariants.{BrokenBlockChain}
 use Rattle.segment_core.proofs.OneView.{one_anchor}
 use Rattle.segment_core.proofs.Pages.{IsPassed, none_passed, passed_to}
-use Rattle.segment_core.proofs.BlockChain.{TellsLink, no_break}
+use Rattle.segment_core.proofs.BlockChain.{ReportsLink, no_break}
 use Rattle.segment_core.proofs.PlanFold.{anchor_complete}
 use Rattle.log_theorems.proofs.Log.{log_of_sound}
 use Rattle.segment_theorems.proofs.Same.{anchor_as}
@@ -32,7 +32,7 @@ at_anchor : (s : State) (page n anchor : ℕ) → HasAnchor s anchor → BreaksB
 at_anchor s page n anchor own b = subst (λ a. BreaksAt s page a n) (one_anchor s b.0 anchor b.1 own) b.2
 
 pub whole_more : (s : State) (anchor page : ℕ) (next : Option ℕ) (link : Option ℕ) → HasAnchor s anchor → IsPageAfter s.held (Some page) next
-    → TellsLink s page anchor link → link ≡ None → IsWholeTo s (Some page) → IsWholeTo s next
+    → ReportsLink s page anchor link → link ≡ None → IsWholeTo s (Some page) → IsWholeTo s next
 whole_more s anchor page next link own after tells none before g n b passed =
     let r = broken_page s g n b in
     let le : r.0.page ≤ page = passed_to s.held page next r.0 after r.1 (subst (IsPassed next) (sym r.2) passed) in
@@ -48,15 +48,15 @@ pub whole_all : (s : State) → IsWholeTo s None → IsWhole s
 whole_all s done page n b = done page n b tt
 
 -- what a search for the first break answers
-abbrev pub TellsFirst : State → Option (ℕ × ℕ) → Type 0
-TellsFirst s found = (page n : ℕ) → (let at : ℕ × ℕ = (page, n) in found ≡ Some at) ↔ IsFirstBreak s page n
+abbrev pub ReportsFirst : State → Option (ℕ × ℕ) → Type 0
+ReportsFirst s found = (page n : ℕ) → (let at : ℕ × ℕ = (page, n) in found ≡ Some at) ↔ IsFirstBreak s page n
 
 pair_of : (x : ℕ × ℕ) (a b : ℕ) → x.0 ≡ a → x.1 ≡ b → (let y : ℕ × ℕ = (a, b) in x ≡ y)
 pair_of x a b e f = subst (λ m. let y : ℕ × ℕ = (m, b) in x ≡ y) e (subst (λ m. let y : ℕ × ℕ = (x.0, m) in x ≡ y) f refl)
 
 -- the first that is found is the first
-pub first_found : (s : State) (anchor : ℕ) (x : ℕ × ℕ) (link : Option ℕ) → HasAnchor s anchor → TellsLink s x.0 anchor link → link ≡ Some x.1
-    → IsWholeTo s (Some x.0) → TellsFirst s (Some x)
+pub first_found : (s : State) (anchor : ℕ) (x : ℕ × ℕ) (link : Option ℕ) → HasAnchor s anchor → ReportsLink s x.0 anchor link → link ≡ Some x.1
+    → IsWholeTo s (Some x.0) → ReportsFirst s (Some x)
 first_found s anchor x link own tells is before g n =
     let found : BreaksBelowAnchor s x.0 x.1 = (anchor, own, (tells x.1).0 is) in
     let least : (other m : ℕ) → BreaksBelowAnchor s other m → x.0 ≤ other = λ other m b.
@@ -74,13 +74,13 @@ first_found s anchor x link own tells is before g n =
     )
 
 -- where none is found there is none
-pub first_none : (s : State) (found : Option (ℕ × ℕ)) → found ≡ None → IsWhole s → TellsFirst s found
+pub first_none : (s : State) (found : Option (ℕ × ℕ)) → found ≡ None → IsWhole s → ReportsFirst s found
 first_none s found none whole g n =
     let y : ℕ × ℕ = (g, n) in
     (λ (e : found ≡ Some y). absurd (cc), λ h. absurd (whole g n h.breaks))
 
 -- ---- what a tidy answers
-pub tells_first : (s : State) (found : Option (ℕ × ℕ)) (x : ℕ × ℕ) → found ≡ Some x → TellsFirst s found → TellsFirstBreak s (Err (BrokenBlockChain x.0 x.1))
+pub tells_first : (s : State) (found : Option (ℕ × ℕ)) (x : ℕ × ℕ) → found ≡ Some x → ReportsFirst s found → ReportsFirstBreak s (Err (BrokenBlockChain x.0 x.1))
 tells_first s found x is first g n =
     let y : ℕ × ℕ = (g, n) in (
       λ (e : Err (BrokenBlockChain x.0 x.1) ≡ Err (BrokenBlockChain g n)).
@@ -93,7 +93,7 @@ tells_first s found x is first g n =
           ap (λ (z : ℕ × ℕ). Err (BrokenBlockChain z.0 z.1)) p,
     )
 
-pub tells_whole : (s : State) (result : Result Unit ReadFault) → IsWhole s → ((g n : ℕ) → result ≡ Err (BrokenBlockChain g n) → ⊥) → TellsFirstBreak s result
+pub tells_whole : (s : State) (result : Result Unit ReadFault) → IsWhole s → ((g n : ℕ) → result ≡ Err (BrokenBlockChain g n) → ⊥) → ReportsFirstBreak s result
 tells_whole s result whole not g n = (λ e. absurd (not g n e), λ h. absurd (whole g n h.breaks))
 
 -- a state that means facts of a sound log has none

@@ -9,7 +9,7 @@ use Rattle.hot_log.specs.Alive.{IsHeldOf}
 use Rattle.hot_log.specs.Found.{IsLeastRecord}
 use Rattle.segment_theorems.specs.State.{State, state_of, Store, version_of, image_of}
 use Rattle.segment_theorems.specs.Shows.{IsApplied, Shows}
-use Rattle.segment_core.specs.Comparing.{TellsSamePage}
+use Rattle.segment_core.specs.Comparing.{ReportsSamePage}
 
 -- a state shows one page at a point
 pub shows_one : (s : State) (page q : ℕ) (i j : List ℕ) → Shows s page q i → Shows s page q j → i ≡ j
@@ -31,7 +31,7 @@ shows_image b hs base store page version q same none =
 -- a test of the shown pages tells whether they are one
 pub tells_same : (s t : State) (point other_point page : ℕ) (own others : List ℕ) (same : Bool)
     → Shows s page point own → Shows t page other_point others
-    → IsTrue same ↔ (own ≡ others) → TellsSamePage s point t other_point page same
+    → IsTrue same ↔ (own ≡ others) → ReportsSamePage s point t other_point page same
 tells_same s t point other_point page own others same first second test image shown a b =
     let one : own ≡ image = shows_one s page point own image first a in
     let two : others ≡ shown = shows_one t page other_point others shown second b in

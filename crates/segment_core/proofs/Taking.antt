@@ -31,7 +31,7 @@ use Rattle.segment_theorems.specs.Learning.{StoresCut, StoresAdvance}
 use Rattle.segment_theorems.specs.Promises.{TakesFact}
 use Rattle.segment_theorems.specs.Laws.{TakesRecord, TakesCut, TakesAdvance, TakesKnown, UnchangedExactly, NoConflict}
 use Rattle.segment_core.specs.Answering.{refusal_of, AnswersBook, put_refusal_of, AnswersPut}
-use Rattle.segment_core.specs.Taking.{TellsKnown, TellsChange, Stores, IsNew}
+use Rattle.segment_core.specs.Taking.{ReportsKnown, ReportsChange, Stores, IsNew}
 use Rattle.segment_core.specs.Refusing.{Refuses, IsDeadOrSettled, FitsSoundLog}
 use Rattle.segment_core.specs.Exactly.{TakesExactly}
 use Rattle.segment_core.specs.declared.answers.Taken.{Taken}
@@ -298,7 +298,7 @@ put_exact takes knows b hs hs' base store r (Err e) result held compared puts re
 
 -- ---- what a take tells of the facts that the segment means
 pub tells_change : UnchangedExactly → (old : State) (fact : Fact) (t : Taken)
-    → TellsKnown old fact t → TellsChange old fact t
+    → ReportsKnown old fact t → ReportsChange old fact t
 tells_change law old fact Unchanged known = λ roster log facts m sound among means is.
     (λ e. (law old fact).0 (known.0 refl) roster log facts m sound among means is, λ it. refl)
 tells_change law old fact Changed known = λ roster log facts m sound among means is. (
@@ -333,7 +333,7 @@ refused_soundly law old fact why it fits = ⊎_elim (λ (m : why ≡ Memory). m)
     (λ r. absurd (law fits.0 fits.1 fits.2 old fact fits.3 fits.4 fits.5 (refuses_conflicts old fact why r))) it
 
 pub take_tells : UnchangedExactly → (old : State) (fact : Fact) (result : Result Taken (Refused Fact Refusal))
-    → IfOk result (TellsKnown old fact) → IfOk result (TellsChange old fact)
+    → IfOk result (ReportsKnown old fact) → IfOk result (ReportsChange old fact)
 take_tells law old fact (Ok t) known = tells_change law old fact t known
 take_tells law old fact (Err e) known = tt
 

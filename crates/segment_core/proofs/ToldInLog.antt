@@ -77,7 +77,7 @@ taken_parts (fact ∷ F) G s t takes =
     (rest.0, (takes.0, takes.1, rest.1), rest.2)
 
 -- a book and records tell nothing but what facts of the log, which stand at p, have
-pub record TellsPart (roster : ℕ) (log G : List Fact) (p : Position) (b : BookData) (rs : List RecordData) : Type 0 where
+pub record ReportsPart (roster : ℕ) (log G : List Fact) (p : Position) (b : BookData) (rs : List RecordData) : Type 0 where
   pub part : IsPart G log
   pub position : IsPosition roster G p
   pub complete : IsCompleteEpoch b.cuts b.complete
@@ -300,7 +300,7 @@ module _ (roster : ℕ) (log : List Fact) (sound : IsSound roster log) where
         mat)
 
   -- each reader's point is that of an advance of the log
-  point_of_part : (G : List Fact) (p : Position) (b : BookData) (rs : List RecordData) → TellsPart roster log G p b rs
+  point_of_part : (G : List Fact) (p : Position) (b : BookData) (rs : List RecordData) → ReportsPart roster log G p b rs
       → (a : AdvanceData) → IsPointIn b.complete b.points a → (of : AdvanceData) × StandsFor a of
   point_of_part G p b rs t a at =
       let same : point_of b.points a.reader ≡ point_of p.points a.reader = ap (λ ps. point_of ps a.reader) t.points in
@@ -318,7 +318,7 @@ module _ (roster : ℕ) (log : List Fact) (sound : IsSound roster log) where
       ))
       (t.position.points.each a.reader (subst (λ n. IsReader n a.reader) count at.reader)).0
 
-  of_part : (G : List Fact) (p : Position) (b : BookData) (rs : List RecordData) → TellsPart roster log G p b rs → AreOfLog b rs
+  of_part : (G : List Fact) (p : Position) (b : BookData) (rs : List RecordData) → ReportsPart roster log G p b rs → AreOfLog b rs
   of_part G p b rs t = record {
     epoch = t.complete;
     cuts = λ c h. t.part (Cut c) (t.cuts c h);
@@ -328,14 +328,14 @@ module _ (roster : ℕ) (log : List Fact) (sound : IsSound roster log) where
   }
 
   -- nothing that they tell is refused
-  pub none_of_part : (s : State) (F G : List Fact) (p : Position) (b : BookData) (rs : List RecordData) → Means roster log F s → TellsPart roster log G p b rs
+  pub none_of_part : (s : State) (F G : List Fact) (p : Position) (b : BookData) (rs : List RecordData) → Means roster log F s → ReportsPart roster log G p b rs
       → (why : Refusal) → RefusesOne s (exported_facts b rs) why → ⊥
   unfolding InLog
   none_of_part s F G p b rs m t why r = none_refused b rs (exported_facts b rs) refl (of_part G p b rs t) s why (F, m) r
 
   -- and what they tell is kept
   pub kept_of_part : (s t : State) (F G : List Fact) (p : Position) (b : BookData) (rs : List RecordData) → Means roster log F s
-      → TellsPart roster log G p b rs → TakesEach s (exported_facts b rs) t → (r : RecordData) → Contains rs r → Matters t.book.cuts t.book.complete r
+      → ReportsPart roster log G p b rs → TakesEach s (exported_facts b rs) t → (r : RecordData) → Contains rs r → Matters t.book.cuts t.book.complete r
       → Contains t.held r ⊎ IsInImage t r
   unfolding InLog
   kept_of_part s t F G p b rs m of takes = kept_of_told b rs (exported_facts b rs) refl (of_part G p b rs of) s t (F, m) takes

@@ -43,8 +43,8 @@ abbrev pub IsReadable : State → ℕ → Type 0
 IsReadable s q = (min_of s ≤ q) × ((complete : ℕ) × HasComplete s complete × (q ≤ complete))
 
 -- a broken block chain is answered exactly where a readable point has one, over any facts
-abbrev pub TellsBreak : State → ℕ → ℕ → Result (List ℕ) ReadFault → Type 0
-TellsBreak s page q result =
+abbrev pub ReportsBreak : State → ℕ → ℕ → Result (List ℕ) ReadFault → Type 0
+ReportsBreak s page q result =
     (g n : ℕ)
     → (result ≡ Err (BrokenBlockChain g n)) ↔ ((g ≡ page) × IsReadable s q × BreaksAt s page q n)
 

@@ -4,6 +4,6 @@ use Rattle.segment_theorems.specs.State.{State}
 use Rattle.segment_theorems.specs.Shows.{Shows}
 
 -- the two states show one page at their points, whatever images and records they show it from
-abbrev pub TellsSamePage : State → ℕ → State → ℕ → ℕ → Bool → Type 0
-TellsSamePage s point t other_point page same =
+abbrev pub ReportsSamePage : State → ℕ → State → ℕ → ℕ → Bool → Type 0
+ReportsSamePage s point t other_point page same =
     (image shown : List ℕ) → Shows s page point image → Shows t page other_point shown → IsTrue same ↔ (image ≡ shown)

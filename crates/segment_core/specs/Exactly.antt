@@ -5,7 +5,7 @@ use Rattle.redo_core.specs.declared.refusal.Refused.{Refused}
 use Rattle.segment_theorems.specs.State.{State}
 use Rattle.segment_theorems.specs.Promises.{TakesFact}
 use Rattle.segment_core.specs.Answering.{FaultAlone}
-use Rattle.segment_core.specs.Taking.{TellsKnown, Stores, IsNew}
+use Rattle.segment_core.specs.Taking.{ReportsKnown, Stores, IsNew}
 use Rattle.segment_core.specs.Refusing.{Refuses}
 use Rattle.segment_core.specs.declared.answers.Taken.{Taken}
 use Rattle.segment_core.specs.declared.answers.Taken.TheVariants.{Changed, Unchanged}
@@ -14,7 +14,7 @@ use Rattle.segment_core.specs.declared.answers.Refusal.TheVariants.{Memory}
 
 pub record TakesExactly (old : State) (fact : Fact) (result : Result Taken (Refused Fact Refusal)) (new : State) : Type 0 where
   pub means : OnOk result (TakesFact old fact new)
-  pub known : IfOk result (TellsKnown old fact)
+  pub known : IfOk result (ReportsKnown old fact)
   pub stores : IfOk result (λ taken. taken ≡ Changed → Stores old fact new)
   pub idle : IfOk result (λ taken. taken ≡ Unchanged → new ≡ old)
   pub refuses : (why : Refusal) → Refuses old fact why → IsErrAnd result (λ e. e.fault ≡ why)

@@ -80,8 +80,8 @@ pub record IsFirstBreak (s : State) (page n : ℕ) : Type 0 where
   pub least : (other m : ℕ) → BreaksBelowAnchor s other m → page ≤ other
 
 -- a broken block chain is answered exactly where there is one, and then of the least page, over any facts
-abbrev pub TellsFirstBreak : State → Result Unit ReadFault → Type 0
-TellsFirstBreak s result =
+abbrev pub ReportsFirstBreak : State → Result Unit ReadFault → Type 0
+ReportsFirstBreak s result =
     (page n : ℕ)
     → (result ≡ Err (BrokenBlockChain page n)) ↔ IsFirstBreak s page n
 

@@ -35,8 +35,8 @@ IsReadResult facts p page q (Ok image) = IsReadAnswer facts p page q (OfImage im
 IsReadResult facts p page q (Err fault) = IsReadFault facts p page q fault
 
 -- Below and Above are answered exactly where the state's own minimum and complete point have the point outside, over any facts
-abbrev pub TellsOutside : State → ℕ → Result (List ℕ) ReadFault → Type 0
-TellsOutside s q result =
+abbrev pub ReportsOutside : State → ℕ → Result (List ℕ) ReadFault → Type 0
+ReportsOutside s q result =
     (complete n : ℕ) → HasComplete s complete
     → ((result ≡ Err (Below n)) ↔ ((n ≡ min_of s) × (q < min_of s)))
     × ((result ≡ Err (Above n)) ↔ ((n ≡ complete) × (min_of s ≤ q) × (complete < q)))

@@ -13,14 +13,14 @@ use Rattle.segment_core.specs.declared.answers.Taken.{Taken}
 use Rattle.segment_core.specs.declared.answers.Taken.TheVariants.{Unchanged}
 
 -- Unchanged is answered exactly where the facts, and the facts with the new one, have one meaning.
-abbrev pub TellsChange : State → Fact → Taken → Type 0
-TellsChange old fact taken =
+abbrev pub ReportsChange : State → Fact → Taken → Type 0
+ReportsChange old fact taken =
     (roster : ℕ) (log facts : List Fact) (m : Meaning) → IsSound roster log → Contains log fact → Means roster log facts old → IsMeaning roster facts m
     → (taken ≡ Unchanged) ↔ IsMeaning roster (facts ++ fact ∷ []) m
 
 -- It is answered exactly where what is stored tells the fact already, over any facts.
-abbrev pub TellsKnown : State → Fact → Taken → Type 0
-TellsKnown old fact taken = (taken ≡ Unchanged) ↔ IsKnown old fact
+abbrev pub ReportsKnown : State → Fact → Taken → Type 0
+ReportsKnown old fact taken = (taken ≡ Unchanged) ↔ IsKnown old fact
 
 -- The fact has joined what is stored: the record is held, the truncation is learnt, or the advance counts or waits.
 abbrev pub Stores : State → Fact → State → Type 0

@@ -1,7 +1,7 @@
 ghost use Rattle.std.specs.Prelude.{◌≡◌, ℕ, ◌↔◌, IsTrue, IfOk};
 ghost use Rattle.segment_theorems.specs.State.{image_of};
 ghost use Rattle.segment_theorems.specs.Shows.{Shows};
-ghost use Rattle.segment_core.specs.Comparing.{TellsSamePage};
+ghost use Rattle.segment_core.specs.Comparing.{ReportsSamePage};
 
 use crate::segment::Segment;
 use hot_log::View;
@@ -18,7 +18,7 @@ impl Segment {
         other: &Segment,
         other_point: u64,
     ) -> Result<bool, AllocError>
-        ensures { IfOk result (TellsSamePage self.now point other.now other_point page) }
+        ensures { IfOk result (ReportsSamePage self.now point other.now other_point page) }
     {
         if self.shows_its_image(page, point) && other.shows_its_image(page, other_point) {
             return Ok(self.has_same_image(page, other));

@@ -11,7 +11,7 @@ ghost use Rattle.segment_theorems.specs.HasMeaning.{HasAnchor, IsStable};
 ghost use Rattle.redo_core.specs.Writing.{after_records};
 ghost use Rattle.segment_theorems.specs.Shows.{Shows};
 ghost use Rattle.segment_theorems.specs.Promises.{TakesFact};
-ghost use Rattle.segment_core.specs.Taking.{TellsChange, TellsKnown, Stores, IsNew};
+ghost use Rattle.segment_core.specs.Taking.{ReportsChange, ReportsKnown, Stores, IsNew};
 ghost use Rattle.redo_core.specs.Linked.{IsLinked};
 ghost use Rattle.segment_core.specs.Form.{IsSegment};
 ghost use Rattle.segment_core.specs.Standing.{StandsAt};
@@ -21,10 +21,10 @@ ghost use Rattle.hot_log.specs.Alive.{IsLinkedHeld};
 ghost use Rattle.hot_log.specs.Found.{IsOnlyRecord};
 ghost use Rattle.hot_log.specs.Kept.{KeepsKey};
 ghost use Rattle.hot_log.specs.Putting.{Puts, RefusesPut};
-ghost use Rattle.segment_core.specs.BlockChain.{BreaksAt, TellsBreak};
+ghost use Rattle.segment_core.specs.BlockChain.{BreaksAt, ReportsBreak};
 ghost use Rattle.segment_core.specs.Answering.{AnswersBook, AnswersPut, refusal_of, put_refusal_of};
 ghost use Rattle.segment_core.specs.Exactly.{TakesExactly};
-ghost use Rattle.segment_core.specs.Reading.{IsFrontAt, IsFrontOf, IsReadResult, TellsOutside};
+ghost use Rattle.segment_core.specs.Reading.{IsFrontAt, IsFrontOf, IsReadResult, ReportsOutside};
 ghost use Rattle.segment_core.specs.declared.answers.Refusal.{Refusal as AnyRefusal};
 ghost use Rattle.segment_core.specs.declared.answers.Refusal.TheVariants.{Memory as MemoryOf};
 ghost use Rattle.segment_core.specs.declared.answers.Taken.TheVariants.{Changed as ChangedOf, Unchanged as UnchangedOf};
@@ -122,11 +122,11 @@ impl Segment {
     pub fn take(&mut self, fact: Fact) -> Result<Taken, Refused<Fact, Refusal>>
         // For the facts that the segment means.
         ensures means { OnOk result (TakesFact self.old fact self.new) }
-        ensures tells { IfOk result (TellsChange self.old fact) }
+        ensures tells { IfOk result (ReportsChange self.old fact) }
         ensures sound { IfErr result (λ e. FitsSoundLog self.old fact → e.fault ≡ MemoryOf) }
 
         // Over any facts.
-        ensures known { IfOk result (TellsKnown self.old fact) }
+        ensures known { IfOk result (ReportsKnown self.old fact) }
         ensures stores { IfOk result (λ taken. taken ≡ ChangedOf → Stores self.old fact self.new) }
         ensures idle { IfOk result (λ taken. taken ≡ UnchangedOf → self.new ≡ self.old) }
         ensures refuses { (why : AnyRefusal) → Refuses self.old fact why → IsErrAnd result (λ e. e.fault ≡ why) }
@@ -227,8 +227,8 @@ impl Segment {
         ensures result { (roster : ℕ) (log facts : List AnyFact) (p : Position) → IsSound roster log → MeansAt roster log facts p self.now → IsReadResult facts p page point result }
         // Over any facts.
         ensures own { IfOk result (λ image. Shows self.now page point image) }
-        ensures outside { TellsOutside self.now point result }
-        ensures broken { TellsBreak self.now page point result }
+        ensures outside { ReportsOutside self.now point result }
+        ensures broken { ReportsBreak self.now page point result }
     {
         let front = self.front();
         if point < front.min {

@@ -13,7 +13,7 @@ ghost use Rattle.segment_theorems.specs.Means.{MeansAt};
 ghost use Rattle.segment_theorems.specs.Shows.{IsApplied, Shows};
 ghost use Rattle.segment_theorems.specs.Promises.{KeepsMeaning, KeepsMeaningWith};
 ghost use Rattle.segment_core.specs.Folding.{IsPlanResult, PlansFold, Commits, RefusesCommit, RefusesAhead};
-ghost use Rattle.segment_core.specs.Forgetting.{RemovesInImages, DiscardsJust, FoldsAll, Tidies, HoldsJustKept, IsSoundState, IsWhole, IsFirstBreak, TellsFirstBreak, RefusesTidy};
+ghost use Rattle.segment_core.specs.Forgetting.{RemovesInImages, DiscardsJust, FoldsAll, Tidies, HoldsJustKept, IsSoundState, IsWhole, IsFirstBreak, ReportsFirstBreak, RefusesTidy};
 ghost use Rattle.segment_core.specs.declared.answers.ReadFault.TheVariants.{Memory as MemoryOf};
 ghost use Rattle.segment_core.specs.declared.fold_plan.CommitFault.TheVariants.{Memory as OfMemory};
 
@@ -126,7 +126,7 @@ impl Segment {
         ensures kept { OnOk result (HoldsJustKept self.old self.new) }
         ensures tidies { OnOk result (Tidies self.old self.new) }
         ensures sound { IfErr result (λ e. IsSoundState self.old → e ≡ MemoryOf) }
-        ensures broken { TellsFirstBreak self.old result }
+        ensures broken { ReportsFirstBreak self.old result }
         ensures refused { IfErr result (RefusesTidy self.old) }
         ensures unchanged { OnErr result (self.new ≡ self.old) }
     {

@@ -18,7 +18,7 @@ use Rattle.segment_theorems.specs.Shows.{Shows}
 use Rattle.segment_theorems.specs.HasMeaning.{HasAnchor, HasMeaning}
 use Rattle.segment_theorems.specs.Laws.{SameMeaning}
 use Rattle.segment_core.specs.Form.{IsSegment}
-use Rattle.segment_join.specs.Sameness.{ShowOne, TellsPages, TellsSame, SameByParts}
+use Rattle.segment_join.specs.Sameness.{ShowOne, ReportsPages, ReportsSame, SameByParts}
 use Rattle.segment_core.proofs.StoredCuts.{same_cuts}
 use Rattle.segment_core.proofs.Scanning.{of_member}
 use Rattle.segment_core.proofs.BarePages.{shows_some}
@@ -162,22 +162,22 @@ same_by_pages s t y x form other_form hy hx up down =
 pub tells_same : (s t : State) (point other : ℕ) (same : Bool) → IsSegment s → IsSegment t
     → HasAnchor s point → HasAnchor t other
     → ((y x : Meaning) → HasMeaning s y → HasMeaning t x → Covers y x × Covers x y)
-    → TellsPages s point t other (λ P. (page : ℕ) → P page) same → TellsSame s t same
+    → ReportsPages s point t other (λ P. (page : ℕ) → P page) same → ReportsSame s t same
 tells_same s t point other same form other_form anchor other_anchor both tells y x hy hx =
     let covers = both y x hy hx in
     let a : point ≡ y.anchor = one_anchor s point y.anchor anchor hy.anchor in
     let b : other ≡ x.anchor = one_anchor t other x.anchor other_anchor hx.anchor in
-    let shown = subst (λ m. TellsPages s y.anchor t m (λ P. (page : ℕ) → P page) same) b
-    (subst (λ n. TellsPages s n t other (λ P. (page : ℕ) → P page) same) a tells) in
+    let shown = subst (λ m. ReportsPages s y.anchor t m (λ P. (page : ℕ) → P page) same) b
+    (subst (λ n. ReportsPages s n t other (λ P. (page : ℕ) → P page) same) a tells) in
     let one = same_by_pages s t y x form other_form hy hx covers.0 covers.1 in
     (λ h. one.0 (shown.0 h), λ e. shown.1 (one.1 e))
 
 -- one does not cover the other, so the two are not the same
 pub not_covered : (s t : State) (covered : Bool) → IsSegment s
-    → ((y x : Meaning) → HasMeaning s y → HasMeaning t x → IsTrue covered ↔ Covers y x) → covered ≡ false → TellsSame s t false
+    → ((y x : Meaning) → HasMeaning s y → HasMeaning t x → IsTrue covered ↔ Covers y x) → covered ≡ false → ReportsSame s t false
 not_covered s t covered form tells fails y x hy hx = search (rules, covers_itself)
 
 -- inside one sound log the meanings that two states tell are those of the parts
-pub by_parts : SameMeaning → (s t : State) (answer : Bool) → TellsSame s t answer → SameByParts s t answer
+pub by_parts : SameMeaning → (s t : State) (answer : Bool) → ReportsSame s t answer → SameByParts s t answer
 by_parts law s t answer tells roster log F G y x sound mf mg my mx =
     tells y x ((law roster log F s y sound mf).1 my) ((law roster log G t x sound mg).1 mx)

@@ -14,7 +14,7 @@ use Rattle.segment_core.specs.declared.answers.Refusal.TheVariants.{OtherRoster}
 use Rattle.segment_core.specs.Exported.{AreExported}
 use Rattle.segment_core.specs.InOrder.{RefusesOne}
 use Rattle.segment_join.specs.Joining.{MeansUnion, AreOfOneLog, RefusesJoin, JoinsInto}
-use Rattle.segment_core.proofs.ToldInLog.{TellsPart, none_of_part}
+use Rattle.segment_core.proofs.ToldInLog.{ReportsPart, none_of_part}
 use Rattle.segment_join.proofs.JoinedStates.{HaveOneRecordAKey, joins_whole}
 
 module _ (roster : ℕ) (log : List Fact) (sound : IsSound roster log) where
@@ -23,7 +23,7 @@ module _ (roster : ℕ) (log : List Fact) (sound : IsSound roster log) where
     m : MeansAt roster log G means.0 other
     m = means.1
 
-    part_of : TellsPart roster log G means.0 other.book told.kept
+    part_of : ReportsPart roster log G means.0 other.book told.kept
     unfolding m
     part_of = record {
       part = m.part;

@@ -6,8 +6,8 @@ use Rattle.log_theorems.proofs.Deciding.{settled_eq, some_or_none}
 use Rattle.segment_theorems.specs.State.{State, StoredImage}
 use Rattle.segment_theorems.specs.Shows.{Shows}
 use Rattle.segment_core.specs.Form.{IsSegment}
-use Rattle.segment_core.specs.Comparing.{TellsSamePage}
-use Rattle.segment_join.specs.Sameness.{ShowOne, TellsPages, IsUnwritten}
+use Rattle.segment_core.specs.Comparing.{ReportsSamePage}
+use Rattle.segment_join.specs.Sameness.{ShowOne, ReportsPages, IsUnwritten}
 use Rattle.segment_core.proofs.BarePages.{shows_some, IsBare, bare_is_zeros, bare_or_not}
 
 -- a property of pages that holds of those with an image or a held record
@@ -47,7 +47,7 @@ all_pages s point t other form other_form own others page =
 
 -- a comparison of what is shown tells whether the two show the same
 pub tells_page : (s : State) (point : ℕ) (t : State) (other page : ℕ) (same : Bool) → IsSegment s → IsSegment t
-    → TellsSamePage s point t other page same → TellsPages s point t other (λ P. P page) same
+    → ReportsSamePage s point t other page same → ReportsPages s point t other (λ P. P page) same
 tells_page s point t other page same form other_form tells =
     let one = shows_some s page point form in
     let two = shows_some t page other other_form in (

@@ -11,8 +11,8 @@ use Rattle.segment_theorems.specs.Shows.{Shows}
 use Rattle.segment_theorems.specs.HasMeaning.{HasMeaning}
 
 -- By the meanings that the two tell by themselves, over any facts.
-abbrev pub TellsSame : State → State → Bool → Type 0
-TellsSame s t answer = (y x : Meaning) → HasMeaning s y → HasMeaning t x → IsTrue answer ↔ (y ≡ x)
+abbrev pub ReportsSame : State → State → Bool → Type 0
+ReportsSame s t answer = (y x : Meaning) → HasMeaning s y → HasMeaning t x → IsTrue answer ↔ (y ≡ x)
 
 -- Inside one sound log: the parts that the two mean have one meaning.
 abbrev pub SameByParts : State → State → Bool → Type 0
@@ -30,5 +30,5 @@ abbrev pub IsUnwritten : State → State → ℕ → Type 0
 IsUnwritten s t page = (r : RecordData) → Contains (s.held ++ t.held) r → r.page ≡ page → ⊥
 
 -- They show the same of just these pages.
-abbrev pub TellsPages : State → ℕ → State → ℕ → ((ℕ → Type 0) → Type 0) → Bool → Type 0
-TellsPages s point t other ThesePages answer = IsTrue answer ↔ ThesePages (ShowOne s point t other)
+abbrev pub ReportsPages : State → ℕ → State → ℕ → ((ℕ → Type 0) → Type 0) → Bool → Type 0
+ReportsPages s point t other ThesePages answer = IsTrue answer ↔ ThesePages (ShowOne s point t other)

@@ -4,7 +4,7 @@ ghost use Rattle.redo_core.specs.Data.{RecordData};
 ghost use Rattle.hot_log.specs.Found.{IsPageAfter};
 ghost use Rattle.segment_theorems.specs.HasMeaning.{HasAnchor};
 ghost use Rattle.segment_core.specs.declared.answers.ReadFault.TheVariants.{Memory as MemoryOf};
-ghost use Rattle.segment_join.specs.Sameness.{TellsSame, SameByParts, TellsPages, IsUnwritten};
+ghost use Rattle.segment_join.specs.Sameness.{ReportsSame, SameByParts, ReportsPages, IsUnwritten};
 
 use crate::covering::covers;
 use segment_core::{BaseImage, ReadFault, Segment};
@@ -16,7 +16,7 @@ use std::alloc::AllocError;
 /// Its only error is `Memory`.
 pub fn same(one: &Segment, other: &Segment) -> Result<bool, ReadFault>
     // By the two meanings, over any facts.
-    ensures meanings { IfOk result (TellsSame one.now other.now) }
+    ensures meanings { IfOk result (ReportsSame one.now other.now) }
     // Inside one sound log: the parts that the two mean have one meaning.
     ensures parts { IfOk result (SameByParts one.now other.now) }
     ensures memory { IfErr result (λ e. e ≡ MemoryOf) }
@@ -30,7 +30,7 @@ pub fn same(one: &Segment, other: &Segment) -> Result<bool, ReadFault>
 
 /// Two meanings are one where each covers the other and their pages at the anchors are the same.
 fn has_same_meaning(one: &Segment, other: &Segment) -> Result<bool, AllocError>
-    ensures { IfOk result (TellsSame one.now other.now) }
+    ensures { IfOk result (ReportsSame one.now other.now) }
 {
     one.opens_form();
     other.opens_form();
@@ -50,7 +50,7 @@ fn has_same_pages(
     other: &Segment,
     other_point: u64,
 ) -> Result<bool, AllocError>
-    ensures { IfOk result (TellsPages one.now point other.now other_point (λ P. (page : ℕ) → P page)) }
+    ensures { IfOk result (ReportsPages one.now point other.now other_point (λ P. (page : ℕ) → P page)) }
 {
     one.opens_form();
     other.opens_form();
@@ -71,7 +71,7 @@ fn has_same_images(
     other_point: u64,
     images: &[BaseImage],
 ) -> Result<bool, AllocError>
-    ensures { IfOk result (TellsPages one.now point other.now other_point (λ P. All (λ i. IsUnwritten one.now other.now i.page → P i.page) images.now)) }
+    ensures { IfOk result (ReportsPages one.now point other.now other_point (λ P. All (λ i. IsUnwritten one.now other.now i.page → P i.page) images.now)) }
 {
     for image in images {
         if !has_same_unwritten(one, point, other, other_point, image.page())? {
@@ -89,7 +89,7 @@ fn has_same_unwritten(
     other_point: u64,
     page: u16,
 ) -> Result<bool, AllocError>
-    ensures { IfOk result (TellsPages one.now point other.now other_point (λ P. IsUnwritten one.now other.now page → P page)) }
+    ensures { IfOk result (ReportsPages one.now point other.now other_point (λ P. IsUnwritten one.now other.now page → P page)) }
 {
     if is_written(one, other, page) {
         return Ok(true);
@@ -104,7 +104,7 @@ fn has_same_written(
     other: &Segment,
     other_point: u64,
 ) -> Result<bool, AllocError>
-    ensures { IfOk result (TellsPages one.now point other.now other_point (λ P. (r : RecordData) → Contains (one.now.held ++ other.now.held) r → P r.page)) }
+    ensures { IfOk result (ReportsPages one.now point other.now other_point (λ P. (r : RecordData) → Contains (one.now.held ++ other.now.held) r → P r.page)) }
 {
     let mut next = written_after(one, other, None);
     while let Some(page) = next {
@@ -146,7 +146,7 @@ fn has_same_page(
     other_point: u64,
     page: u16,
 ) -> Result<bool, AllocError>
-    ensures { IfOk result (TellsPages one.now point other.now other_point (λ P. P page)) }
+    ensures { IfOk result (ReportsPages one.now point other.now other_point (λ P. P page)) }
 {
     one.opens_form();
     other.opens_form();

@@ -40,15 +40,15 @@ fn put(out: &mut BytesMut, value: &WireValue) -> Result<(), WireError> {
     }
 }
 
-fn spelled(alloc: Global, value: &WireValue) -> Result<BytesMut, WireError> {
+fn encoded(alloc: Global, value: &WireValue) -> Result<BytesMut, WireError> {
     let mut out = BytesMut::new(alloc);
     put(&mut out, value)?;
     Ok(out)
 }
 
-// Whether the value is spelled again as it was, and how long that is.
+// Whether the value is encoded again as it was, and how long that is.
 fn again(row: &Row, bytes: &[u8], value: &WireValue) -> Result<Answer, AllocError> {
-    match spelled(row.alloc, value) {
+    match encoded(row.alloc, value) {
         Ok(out) => Answer::parts(row.alloc, "Again", &(out.as_slice() == bytes, out.len())),
         Err(error) => fault(row.alloc, error),
     }
@@ -85,7 +85,7 @@ fn told_book(row: &Row, book: &Book, anchor: u64) -> Result<Answer, AllocError> 
     )
 }
 
-// The value as it is spelled again, or else a fact's line, or the numbers of a value's book.
+// The value as it is encoded again, or else a fact's line, or the numbers of a value's book.
 fn of_value(row: &Row, bytes: &[u8], value: &WireValue) -> Result<Answer, AllocError> {
     if row.name == "again" {
         return again(row, bytes, value);

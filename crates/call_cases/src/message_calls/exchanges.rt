@@ -16,7 +16,7 @@ use segment_core::{ReadFault, Segment};
 use snapshot::Staging;
 use std::alloc::{AllocError, Global};
 
-/// The summary that the message of a number spells.
+/// The summary that the message of a number encodes.
 fn summary_of(alloc: Global, messages: &[BytesMut], number: u64) -> Option<Summary> {
     decode_summary(alloc, nth(messages, number)?.as_slice()).ok()
 }
@@ -29,7 +29,7 @@ fn piece_of(alloc: Global, messages: &[BytesMut], number: u64) -> Option<Piece> 
     decode_piece(alloc, nth(messages, number)?.as_slice()).ok()
 }
 
-/// Keeps the message that words spell.
+/// Keeps the message that words encode.
 fn take_in(messages: &mut Vec<BytesMut>, row: &Row) -> Result<Answer, AllocError> {
     match given::bytes(row.alloc, row.words)? {
         Some(bytes) => add("Message", messages, bytes),
@@ -38,7 +38,7 @@ fn take_in(messages: &mut Vec<BytesMut>, row: &Row) -> Result<Answer, AllocError
 }
 
 /// The hexadecimal digits of a message.
-fn spell(messages: &[BytesMut], row: &Row) -> Result<Answer, AllocError> {
+fn encode(messages: &[BytesMut], row: &Row) -> Result<Answer, AllocError> {
     match nth(messages, row.number(0)) {
         Some(bytes) => hex::encode(row.alloc, bytes.as_slice()).map(Answer::Text),
         None => Ok(Answer::Unknown),
@@ -173,7 +173,7 @@ fn told_absorbed(
 pub fn answer(bench: &mut Fixture, row: &Row) -> Result<Answer, AllocError> {
     match row.name {
         "message" => take_in(&mut bench.messages, row),
-        "spell" => spell(&bench.messages, row),
+        "encode" => encode(&bench.messages, row),
         "tell" => tell(&bench.messages, row),
         "stage" => stage_one(&mut bench.staging, &bench.messages, row),
         "ask" | "freeze" => send(&bench.segments, &mut bench.messages, row),

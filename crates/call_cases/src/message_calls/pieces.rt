@@ -7,14 +7,14 @@ use segment_core::Segment;
 use snapshot::{AddFault, FinishFault, Snapshot, Staging, freeze};
 use std::alloc::{AllocError, Global};
 
-fn spelled(alloc: Global, piece: &Piece) -> Result<BytesMut, WireError> {
+fn encoded(alloc: Global, piece: &Piece) -> Result<BytesMut, WireError> {
     let mut bytes = BytesMut::new(alloc);
     encode_piece(&mut bytes, piece)?;
     Ok(bytes)
 }
 
 fn put_piece(alloc: Global, pieces: &mut Vec<BytesMut>, piece: &Piece) -> Result<(), AllocError> {
-    match spelled(alloc, piece) {
+    match encoded(alloc, piece) {
         Ok(bytes) => Ok(pieces.push(bytes)?),
         Err(_) => Err(AllocError),
     }

@@ -77,7 +77,7 @@ fn roll_back(
     }
 }
 
-/// Takes the fact that the row spells, where it spells one.
+/// Takes the fact that the row encodes, where it encodes one.
 fn take(bench: &mut Fixture, row: &Row) -> Result<Answer, AllocError> {
     match fact(row, row.name)? {
         Some(fact) => taken(row, bench.segment.take(fact)),

@@ -1,6 +1,6 @@
 use Rattle.std.proofs.Common.{◌≡◌, inr, refl, ap, ◌∙◌, subst, unwrap_or}
 use Rattle.std.specs.Option.{option_copied}
-use Rattle.fleet_core.specs.Calls.{TellsCovers}
+use Rattle.fleet_core.specs.Calls.{ReportsCovers}
 use Rattle.fleet_core.proofs.Merging.{follows_covers}
 use Rattle.fleet_core.proofs.Pairing.{unwrap_now}
 use Rattle.fleet_core.proofs.pairs.covers_beside.Goals as goal
@@ -11,11 +11,11 @@ returns-in-Ok-clause-follows c = λ readers node than.
     let beside = unwrap_or (option_copied c.args.other) own in
     let same : c.unwrap_or.result.now ≡ beside = ap (λ s. s.now) c.unwrap_or.ensures ∙ unwrap_now c.args.other c.args.segment in
     follows_covers readers own (option_copied c.args.other) node than c.in-Ok.answer
-    (subst (λ s. TellsCovers own s c.in-Ok.answer) same c.in-Ok.ensures.meanings)
+    (subst (λ s. ReportsCovers own s c.in-Ok.answer) same c.in-Ok.ensures.meanings)
 
 pub returns-in-Ok-clause-calls : goal.returns-in-Ok-clause-calls
 returns-in-Ok-clause-calls c =
     let own = c.args.segment.now in
     let beside = unwrap_or (option_copied c.args.other) own in
     let same : c.unwrap_or.result.now ≡ beside = ap (λ s. s.now) c.unwrap_or.ensures ∙ unwrap_now c.args.other c.args.segment in
-    inr (c.in-Ok.answer, subst (λ s. TellsCovers own s c.in-Ok.answer) same c.in-Ok.ensures.meanings, refl)
+    inr (c.in-Ok.answer, subst (λ s. ReportsCovers own s c.in-Ok.answer) same c.in-Ok.ensures.meanings, refl)

@@ -4,7 +4,7 @@ use Rattle.fleet_tool.specs.CommandLine.{line_faults}
 use Rattle.fleet_tool.proofs.TakenWords.{words_taken, explained_taken}
 use Rattle.fleet_tool.proofs.Whys.{line_fails, bad_why, only_memory}
 use Rattle.fleet_tool.proofs.DrillWords.{none_is_some}
-use Rattle.fleet_tool.proofs.Entered.{entered_is, no_drill_entered, no_drill_explained, drill_entered, drill_spelled, drill_asked, same_drill, out_of_range, mark_is, true_is_false}
+use Rattle.fleet_tool.proofs.Entered.{entered_is, no_drill_entered, no_drill_explained, drill_entered, drill_encoded, drill_asked, same_drill, out_of_range, mark_is, true_is_false}
 use Rattle.fleet_tool.proofs.job.job_of.Goals.{then-not-is_in_range-via-then-not-is_in_range, then-not-is_in_range-via-else-not-is_in_range+then-has_mark}
 use Rattle.fleet_tool.proofs.job.job_of.Goals as goal
 
@@ -47,7 +47,7 @@ returns-in_default-drill_in-clause-explained_taken g c = λ task names.
 pub returns-in_default-drill_in-clause-drilled : goal.returns-in_default-drill_in-clause-drilled
 returns-in_default-drill_in-clause-drilled g c = λ task asks range.
     let entered = entered_is _ _ (app_of c.in-Ok.command) c.in-Ok.ensures c.in-Ok-try_get_matches_from.ensures.matches in
-    let read = c.drill_in.ensures.known task range (drill_spelled _ _ task _ entered asks c.in-Some.ensures.rows) in
+    let read = c.drill_in.ensures.known task range (drill_encoded _ _ task _ entered asks c.in-Some.ensures.rows) in
     absurd (none_is_some c.drill_in.result task c.in_default-drill_in.is read)
 
 pub returns-in_default-drill_in-clause-why : goal.returns-in_default-drill_in-clause-why
@@ -67,7 +67,7 @@ returns-then-not-is_in_range-clause-explained_taken g c = λ task names.
 pub returns-then-not-is_in_range-clause-drilled : goal.returns-then-not-is_in_range-clause-drilled
 returns-then-not-is_in_range-clause-drilled g c = λ task asks range.
     let entered = entered_is _ _ (app_of c.in-Ok.command) c.in-Ok.ensures c.in-Ok-try_get_matches_from.ensures.matches in
-    let read = c.in-Some-drill_in.ensures.known task range (drill_spelled _ _ task _ entered asks c.in-Some.ensures.rows) in
+    let read = c.in-Some-drill_in.ensures.known task range (drill_encoded _ _ task _ entered asks c.in-Some.ensures.rows) in
     elim c.then-not-is_in_range.branch [
       | then-not-is_in_range-via-then-not-is_in_range w ↦ absurd (out_of_range _ task _ read c.is_in_range.ensures w.if-not-is_in_range.true range)
       | then-not-is_in_range-via-else-not-is_in_range+then-has_mark w ↦
@@ -84,7 +84,7 @@ returns-in-Some-clause-drill g c = λ task is.
     let fails = line_fails {T = Unit {0}} (app_of c.in-Ok.command) (map g.S.AsStr.text c.args.words.now) (Ok tt) c.in-Ok.ensures c.in-Ok-try_get_matches_from.ensures.kinds in
     let whole = mark_is g.S.AsStr.text c.args.words.now c.has_mark.result c.has_mark.ensures ∙ c.if-has_mark.false in
     drill_asked c.in-Ok-try_get_matches_from.matches (map g.S.AsStr.text c.args.words.now) c.in-Some-drill_in.task task _ entered
-    (c.in-Some.ensures.found.0 refl) c.in-Some.ensures.rows c.in-Some-drill_in.ensures.spelled fails whole (same_drill _ task is)
+    (c.in-Some.ensures.found.0 refl) c.in-Some.ensures.rows c.in-Some-drill_in.ensures.encoded fails whole (same_drill _ task is)
 
 -- ---- another task
 

@@ -25,7 +25,7 @@ returns-in_err-read_frame g c =
       input = concat (map framed inv.1) ++ came.0;
       frames = inv.1;
       rest = came.0;
-      holds = record { spelled = refl; short = inv.3; begun = came.2 };
+      holds = record { encoded = refl; short = inv.3; begun = came.2 };
       read = Consumes-trans _ _ _ (concat (map framed inv.1)) came.0 inv.2 came.1.read;
       ends = (came.3, inv.4);
     })
@@ -38,7 +38,7 @@ returns-then-not-branch g c =
       input = concat (map framed inv.1) ++ came.0;
       frames = inv.1;
       rest = came.0;
-      holds = record { spelled = refl; short = inv.3; begun = came.2 };
+      holds = record { encoded = refl; short = inv.3; begun = came.2 };
       read = Consumes-trans _ _ _ (concat (map framed inv.1)) came.0 inv.2 came.1.read;
       ends = (came.3, inv.4);
     }
@@ -55,7 +55,7 @@ returns-in_err-write_frame g c =
       input = concat (map framed (inv.1 ++ came.0 ∷ [])) ++ [];
       frames = inv.1 ++ came.0 ∷ [];
       rest = [];
-      holds = record { spelled = refl; short = All-push IsShort inv.1 came.0 inv.3 came.2; begun = inl (omega arith) };
+      holds = record { encoded = refl; short = All-push IsShort inv.1 came.0 inv.3 came.2; begun = inl (omega arith) };
       read = subst (Consumes (g.R.Read.remaining (device_of c.args.reader.now)) (g.R.Read.remaining (device_of c.read_frame.new.reader)))
           (sym (joined inv.1 came.0) ∙ sym (append-nil (concat (map framed (inv.1 ++ came.0 ∷ [])))))
           (Consumes-trans _ _ _ (concat (map framed inv.1)) (framed came.0) inv.2 came.1.read);

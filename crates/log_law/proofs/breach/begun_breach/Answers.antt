@@ -4,7 +4,7 @@ use Rattle.redo_core.specs.CompleteEpoch.{HasCutsTo}
 use Rattle.redo_core.specs.Sound.{Law2, counted}
 use Rattle.redo_core.proofs.FactParts.{cut_in}
 use Rattle.log_law.specs.Counted.{first_cut}
-use Rattle.log_law.specs.Breach.{TellsBegun}
+use Rattle.log_law.specs.Breach.{ReportsBegun}
 use Rattle.log_law.specs.declared.breach.Breach.TheVariants.{NotAbove}
 use Rattle.log_law.proofs.FirstCuts.{counted_at, counted_among}
 use Rattle.log_law.proofs.Breaches.{law2_above}
@@ -18,7 +18,7 @@ returns-in_err-cut c =
     let has : HasCutsTo (counted c.args.facts.now) c.in-Record.redo.epoch = subst (HasCutsTo (counted log)) c.epoch.ensures
     (c.in_default-first_missing.ensures log c.requires) in
     let law : Law2 c.args.facts.now c.args.fact.now = subst (Law2 log) (sym c.in-Record.is) (law2_above log r None none has tt) in
-    subst (λ o. MatchOption o (Law2 log c.args.fact.now) (TellsBegun log c.args.fact.now)) (sym c.from_residual.ensures) law
+    subst (λ o. MatchOption o (Law2 log c.args.fact.now) (ReportsBegun log c.args.fact.now)) (sym c.from_residual.ensures) law
 
 pub returns-then-hi-number : goal.returns-then-hi-number
 returns-then-hi-number c =
@@ -43,4 +43,4 @@ returns c =
     let first : first_cut c.args.facts.now c.in-Record.redo.epoch ≡ Some c.in_ok-cut.cut = sym (c.requires.table.at r.epoch)
     ∙ ap (λ k. get_or c.args.cuts.now.by_epoch.items k None) (sym c.epoch-2.ensures) ∙ sym c.at.ensures ∙ c.in_ok-cut.was in
     let own = counted_at log r.epoch cut first in
-    subst (λ f. TellsBegun log f (NotAbove c.in_ok-place.place)) (sym c.in-Record.is) (cut, c.in_ok-place.ensures, own.0, own.1, omega arith)
+    subst (λ f. ReportsBegun log f (NotAbove c.in_ok-place.place)) (sym c.in-Record.is) (cut, c.in_ok-place.ensures, own.0, own.1, omega arith)

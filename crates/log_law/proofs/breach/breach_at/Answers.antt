@@ -2,7 +2,7 @@ use Rattle.std.proofs.Common.{◌≡◌, ◌+◌, ◌∙◌, sym, subst, refl, l
 use Rattle.std.specs.Prelude.{slice_get, MatchOption}
 use Rattle.std.proofs.lemmas.Option.{none-some, same_Some, slice_get_past, slice_get_read}
 use Rattle.redo_core.specs.Fault.{KeepsLaw}
-use Rattle.log_law.specs.Breach.{TellsOf}
+use Rattle.log_law.specs.Breach.{ReportsOf}
 use Rattle.log_law.proofs.breach.breach_at.Goals as goal
 
 pub returns-in_default-clause-some : goal.returns-in_default-clause-some
@@ -24,5 +24,5 @@ returns-clause-some c = λ fact e.
     let log = c.args.facts.now in let found = c.in-Some.fact.now in let p = c.args.place in
     let at : slice_get log p ≡ Some found = slice_get_read log (length log) p found refl c.in-Some.ensures.lookup.3.0 c.in-Some.ensures.lookup.1 in
     subst
-    (λ f. IfOk c.breach_among.result (λ o. MatchOption o (KeepsLaw c.args.roster log p f c.args.law) (TellsOf c.args.roster log (p + 1) f c.args.law)))
+    (λ f. IfOk c.breach_among.result (λ o. MatchOption o (KeepsLaw c.args.roster log p f c.args.law) (ReportsOf c.args.roster log (p + 1) f c.args.law)))
     (same_Some found fact (sym at ∙ e)) c.breach_among.ensures

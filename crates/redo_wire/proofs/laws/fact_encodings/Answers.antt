@@ -1,7 +1,7 @@
 use Rattle.redo_wire.specs.Facts.{fact_bytes, IsWireFact}
 use Rattle.redo_wire.specs.FactReading.{fact_at}
 use Rattle.redo_wire.proofs.FactReaders.{fact_reads}
-use Rattle.redo_wire.proofs.Spellings.{one_value, begins_no_other, reads_spellings}
+use Rattle.redo_wire.proofs.Encodings.{one_value, begins_no_other, reads_encodings}
 use Rattle.redo_wire.proofs.Locality.{decoded_fact_reads, fact_faults_stay, fact_beginnings, fact_rest}
 use Rattle.redo_wire.proofs.laws.fact_encodings.Goals as goal
 
@@ -12,7 +12,7 @@ pub returns-clause-none_begins : goal.returns-clause-none_begins
 returns-clause-none_begins c = begins_no_other fact_at fact_bytes IsWireFact fact_reads
 
 pub returns-clause-reads : goal.returns-clause-reads
-returns-clause-reads c = reads_spellings fact_at fact_bytes IsWireFact fact_reads
+returns-clause-reads c = reads_encodings fact_at fact_bytes IsWireFact fact_reads
 
 pub returns-clause-never_too_long : goal.returns-clause-never_too_long
 returns-clause-never_too_long c = decoded_fact_reads

@@ -5,7 +5,7 @@ use Rattle.segment_theorems.specs.State.{State}
 use Rattle.segment_theorems.specs.Known.{IsKnown}
 use Rattle.segment_core.specs.Answering.{FaultAlone}
 use Rattle.segment_core.specs.Exactly.{TakesExactly, TakesNoted}
-use Rattle.segment_core.specs.Taking.{TellsKnown, Stores}
+use Rattle.segment_core.specs.Taking.{ReportsKnown, Stores}
 use Rattle.segment_core.specs.Union.{reached}
 use Rattle.segment_core.specs.declared.answers.Taken.{Taken}
 use Rattle.segment_core.specs.declared.answers.Taken.TheVariants.{Changed, Unchanged}
@@ -14,7 +14,7 @@ use Rattle.segment_core.specs.declared.answers.Refusal.TheVariants.{Memory}
 use Rattle.segment_core.specs.InOrder.{TakesOne, RefusesOne}
 use Rattle.segment_core.proofs.importing.take_one.Goals as goal
 
-known_or_stored : (s : State) (fact : Fact) (t : State) (taken : Taken) → TellsKnown s fact taken
+known_or_stored : (s : State) (fact : Fact) (t : State) (taken : Taken) → ReportsKnown s fact taken
     → (taken ≡ Changed → Stores s fact t) → (taken ≡ Unchanged → t ≡ s) → (IsKnown s fact × (t ≡ s)) ⊎ ((IsKnown s fact → ⊥) × Stores s fact t)
 known_or_stored s fact t Changed known stores idle = inr (λ h. let e : Changed ≡ Unchanged = known.1 h in absurd (cc), stores refl)
 known_or_stored s fact t Unchanged known stores idle = inl (known.0 refl, idle refl)

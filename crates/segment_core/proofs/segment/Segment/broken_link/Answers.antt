@@ -3,7 +3,7 @@ use Rattle.std.proofs.lemmas.Bool.{false≢true}
 use Rattle.hot_log.specs.Held.{IsHeld}
 use Rattle.hot_log.specs.Found.{IsOnlyRecord}
 use Rattle.segment_theorems.specs.State.{State, version_of}
-use Rattle.segment_core.proofs.BlockChain.{IsLinkedAt, IsBelow, TellsLink, walk_begins, walk_goes, walk_breaks, whole_from, breaks_below, block_lower, answers_here, answers_none, sound_link}
+use Rattle.segment_core.proofs.BlockChain.{IsLinkedAt, IsBelow, ReportsLink, walk_begins, walk_goes, walk_breaks, whole_from, breaks_below, block_lower, answers_here, answers_none, sound_link}
 use Rattle.segment_core.proofs.segment.Segment.broken_link.Goals as goal
 
 pub loop-redo-init : goal.loop-redo-init
@@ -46,7 +46,7 @@ loop-redo-preserved c =
           (λ h. b.0 (before.0 h), λ h. before.1 (b.1 h));
     }
 
-breaks : (c : goal.After-number) → TellsLink c.args.self.now c.args.page c.args.point (Some c.number.result)
+breaks : (c : goal.After-number) → ReportsLink c.args.self.now c.args.page c.args.point (Some c.number.result)
 breaks c = λ n.
     let s = c.args.self.now in let page = c.args.page in let point = c.args.point in
     let r = c.loop-redo.redo.now in

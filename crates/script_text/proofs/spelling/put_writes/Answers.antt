@@ -1,6 +1,0 @@
-use Rattle.std.proofs.Common.{arith}
-use Rattle.std.proofs.lemmas.Grind.{common_steps}
-use Rattle.script_text.proofs.spelling.put_writes.Goals as goal
-
-pub loop-write-preserved : goal.loop-write-preserved
-loop-write-preserved c = grind (arith, common_steps)
