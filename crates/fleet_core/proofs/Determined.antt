@@ -23,9 +23,9 @@ use Rattle.gossip_core.specs.declared.answering.Shown.TheVariants.{Anchor as OfA
 use Rattle.redo_core.proofs.Members.{none_in, which}
 use Rattle.redo_core.proofs.Listing.{all_push}
 use Rattle.log_theorems.proofs.Union.{both}
-use Rattle.fleet_steps.specs.Nodes.{node_of, other_of, nodes_of, first_missing}
-use Rattle.fleet_steps.specs.declared.steps.Step.{Step}
-use Rattle.fleet_steps.specs.declared.steps.Step.TheVariants as step
+use Rattle.script_steps.specs.Nodes.{node_of, other_of, nodes_of, first_missing}
+use Rattle.script_steps.specs.declared.steps.Step.{Step}
+use Rattle.script_steps.specs.declared.steps.Step.TheVariants as step
 use Rattle.fleet_core.specs.declared.replies.Reply.{Reply}
 use Rattle.fleet_core.specs.declared.replies.Reply.TheVariants.{Changed, Unchanged, Folded, Joined, Answer, Wiped, NoNode, Memory}
 use Rattle.fleet_core.specs.declared.replies.Reply.TheVariants.{Message as MessageIs, Absorbed, Uncovered, NoMessage}

@@ -16,8 +16,8 @@ use Rattle.segment_core.specs.declared.answers.Refusal.TheVariants as refusal
 use Rattle.gossip_core.specs.declared.absorbing.AbsorbRefusal.{AbsorbRefusal}
 use Rattle.gossip_core.specs.declared.absorbing.AbsorbRefusal.TheVariants.{Refused as RefusedFor, Uncovered as UncoveredBy}
 use Rattle.gossip_core.specs.declared.answering.Shown.{Shown}
-use Rattle.fleet_steps.specs.declared.steps.Step.{Step}
-use Rattle.fleet_steps.specs.declared.steps.Step.TheVariants as step
+use Rattle.script_steps.specs.declared.steps.Step.{Step}
+use Rattle.script_steps.specs.declared.steps.Step.TheVariants as step
 use Rattle.fleet_core.specs.declared.replies.Reply.{Reply}
 use Rattle.fleet_core.specs.declared.replies.Reply.TheVariants.{Message as MessageIs, Absorbed, Uncovered, NoMessage, Memory}
 use Rattle.fleet_core.specs.declared.making.Made.{Made}

@@ -20,7 +20,7 @@ use Rattle.segment_core.specs.declared.answers.Refusal.{Refusal}
 use Rattle.segment_core.specs.declared.answers.Refusal.TheVariants as refusal
 use Rattle.segment_core.specs.declared.answers.ReadFault.{ReadFault}
 use Rattle.segment_core.specs.declared.answers.ReadFault.TheVariants as fault
-use Rattle.fleet_steps.specs.declared.steps.Step.TheVariants.{Take, Fold, Front as AskFront, Read}
+use Rattle.script_steps.specs.declared.steps.Step.TheVariants.{Take, Fold, Front as AskFront, Read}
 use Rattle.fleet_core.specs.declared.replies.Reply.{Reply}
 use Rattle.fleet_core.specs.declared.replies.Reply.TheVariants.{Folded as FoldedIs, Front as FrontIs, Memory}
 use Rattle.fleet_core.specs.Replying.{refusal_reply, taken_reply, read_reply, fault_reply}

@@ -18,7 +18,7 @@ use Rattle.segment_core.specs.declared.answers.Refusal.{Refusal}
 use Rattle.segment_core.specs.declared.answers.Refusal.TheVariants as refusal
 use Rattle.segment_join.specs.Joining.{MeansUnion, AreOfOneLog}
 use Rattle.segment_join.specs.Sameness.{ReportsSame}
-use Rattle.fleet_steps.specs.declared.steps.Step.TheVariants.{Join, Same, Covers, Wipe}
+use Rattle.script_steps.specs.declared.steps.Step.TheVariants.{Join, Same, Covers, Wipe}
 use Rattle.fleet_core.specs.declared.replies.Reply.{Reply}
 use Rattle.fleet_core.specs.declared.replies.Reply.TheVariants.{Joined, Answer, Wiped, Memory}
 use Rattle.fleet_core.specs.Replying.{refusal_reply, joined_reply}

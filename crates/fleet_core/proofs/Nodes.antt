@@ -10,9 +10,9 @@ use Rattle.std.proofs.lemmas.Option.{get_or_from_slice_get}
 use Rattle.redo_core.specs.declared.facts.Fact.{Fact}
 use Rattle.segment_theorems.specs.State.{State}
 use Rattle.segment_theorems.specs.Means.{Means}
-use Rattle.fleet_steps.specs.Nodes.{node_of, other_of, nodes_of, first_missing}
-use Rattle.fleet_steps.specs.declared.steps.Step.{Step}
-use Rattle.fleet_steps.specs.declared.steps.Step.TheVariants as step
+use Rattle.script_steps.specs.Nodes.{node_of, other_of, nodes_of, first_missing}
+use Rattle.script_steps.specs.declared.steps.Step.{Step}
+use Rattle.script_steps.specs.declared.steps.Step.TheVariants as step
 use Rattle.fleet_core.specs.declared.replies.Reply.{Reply}
 use Rattle.fleet_core.specs.declared.replies.Reply.TheVariants.{NoNode, NoMessage}
 use Rattle.fleet_core.specs.declared.making.Made.{Made}

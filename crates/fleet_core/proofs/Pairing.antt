@@ -8,7 +8,7 @@ use Rattle.std.proofs.lemmas.List.{set-append_left, set-append_right, get_or-app
 use Rattle.std.proofs.lemmas.Option.{slice_get_read}
 use Rattle.redo_core.specs.declared.facts.Fact.{Fact}
 use Rattle.segment_theorems.specs.State.{State}
-use Rattle.fleet_steps.specs.declared.steps.Step.{Step}
+use Rattle.script_steps.specs.declared.steps.Step.{Step}
 use Rattle.fleet_core.specs.declared.replies.Reply.{Reply}
 use Rattle.fleet_core.specs.declared.making.Made.{Made}
 use Rattle.fleet_core.specs.FleetState.{other_than}

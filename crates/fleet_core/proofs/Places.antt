@@ -6,8 +6,8 @@ use Rattle.std.specs.Prelude.{◌==◌, ◌||◌, nat_lt, if◌then◌else◌, s
 use Rattle.std.specs.List.{AllZip, AllByRecursion}
 use Rattle.std.proofs.lemmas.Option.{get_or_from_slice_get, unwrap_or-slice_get}
 use Rattle.segment_theorems.specs.State.{State}
-use Rattle.fleet_steps.specs.Nodes.{node_of, other_of, nodes_of, first_missing}
-use Rattle.fleet_steps.specs.declared.steps.Step.{Step}
+use Rattle.script_steps.specs.Nodes.{node_of, other_of, nodes_of, first_missing}
+use Rattle.script_steps.specs.declared.steps.Step.{Step}
 use Rattle.fleet_core.specs.FleetState.{other_than}
 
 -- two nodes that are there, of so many

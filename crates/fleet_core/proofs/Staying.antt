@@ -2,8 +2,8 @@
 use Rattle.std.proofs.Common.{◌≡◌, ℕ, List, [], ◌++◌, length, ◌∙◌, Option, rules}
 use Rattle.std.specs.Prelude.{MatchOption}
 use Rattle.redo_core.specs.declared.facts.Fact.{Fact}
-use Rattle.fleet_steps.specs.Nodes.{nodes_of, first_missing}
-use Rattle.fleet_steps.specs.declared.steps.Step.{Step}
+use Rattle.script_steps.specs.Nodes.{nodes_of, first_missing}
+use Rattle.script_steps.specs.declared.steps.Step.{Step}
 use Rattle.fleet_core.specs.declared.replies.Reply.{Reply}
 use Rattle.fleet_core.specs.declared.replies.Reply.TheVariants.{NoNode}
 use Rattle.fleet_core.specs.declared.making.Made.{Made}

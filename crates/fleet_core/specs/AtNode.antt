@@ -4,7 +4,7 @@ use Rattle.redo_core.specs.Sound.{IsSound}
 use Rattle.redo_core.specs.declared.facts.Fact.{Fact}
 use Rattle.segment_theorems.specs.State.{State}
 use Rattle.segment_theorems.specs.Means.{Means}
-use Rattle.fleet_steps.specs.declared.steps.Step.{Step}
+use Rattle.script_steps.specs.declared.steps.Step.{Step}
 use Rattle.fleet_core.specs.declared.replies.Reply.{Reply}
 use Rattle.fleet_core.specs.declared.replies.Reply.TheVariants.{NoNode, NoMessage}
 use Rattle.fleet_core.specs.Machine.{Message, facts_after, messages_after}

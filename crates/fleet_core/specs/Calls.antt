@@ -22,9 +22,9 @@ use Rattle.segment_core.specs.declared.answers.Taken.{Taken}
 use Rattle.segment_core.specs.declared.fold_plan.Folded.{Folded}
 use Rattle.segment_join.specs.Joining.{MeansUnion, TakesTold, RefusesJoin, AreOfOneLog, JoinsInto}
 use Rattle.segment_join.specs.Sameness.{ReportsSame}
-use Rattle.fleet_steps.specs.Nodes.{node_of, nodes_of, first_missing}
-use Rattle.fleet_steps.specs.declared.steps.Step.{Step}
-use Rattle.fleet_steps.specs.declared.steps.Step.TheVariants as step
+use Rattle.script_steps.specs.Nodes.{node_of, nodes_of, first_missing}
+use Rattle.script_steps.specs.declared.steps.Step.{Step}
+use Rattle.script_steps.specs.declared.steps.Step.TheVariants as step
 use Rattle.fleet_core.specs.declared.replies.Reply.{Reply}
 use Rattle.fleet_core.specs.declared.replies.Reply.TheVariants.{Folded as FoldedIs, Discarded, Front as FrontIs, Joined, Answer, Wiped, NoNode, Memory}
 use Rattle.fleet_core.specs.FleetState.{FleetState, ChangesNode, beside}

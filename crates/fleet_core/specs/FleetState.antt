@@ -1,8 +1,8 @@
 -- What a fleet stores.
 use Rattle.std.specs.Prelude.{◌≡◌, ℕ, ◌-◌, ◌==◌, if◌then◌else◌, List, [], replicate, set, slice_get, Option, Some, None}
 use Rattle.segment_theorems.specs.State.{State, empty_state}
-use Rattle.fleet_steps.specs.Nodes.{node_of, other_of}
-use Rattle.fleet_steps.specs.declared.steps.Step.{Step}
+use Rattle.script_steps.specs.Nodes.{node_of, other_of}
+use Rattle.script_steps.specs.declared.steps.Step.{Step}
 use Rattle.fleet_core.specs.declared.making.Made.{Made}
 
 -- the number of readers, the segments, node 1 first, and the messages that were made, message 1 first

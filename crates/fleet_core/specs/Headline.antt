@@ -8,7 +8,7 @@ use Rattle.redo_core.specs.Sound.{IsSound}
 use Rattle.redo_core.specs.declared.facts.Fact.{Fact}
 use Rattle.log_theorems.specs.OrderOfMeanings.{LeastUpperBound}
 use Rattle.segment_theorems.specs.AnswersAs.{AnswersAs}
-use Rattle.fleet_steps.specs.declared.steps.Step.{Step}
+use Rattle.script_steps.specs.declared.steps.Step.{Step}
 use Rattle.fleet_core.specs.declared.replies.Reply.{Reply}
 use Rattle.fleet_core.specs.declared.replies.Reply.TheVariants.{Answer}
 use Rattle.fleet_core.specs.Machine.{empty_machine}

@@ -1,9 +1,9 @@
 -- The fleet machine: its state is the set of facts that reached each node, with the messages that were made.
 use Rattle.std.specs.Prelude.{ℕ, zero, suc, ◌-◌, List, [], ◌∷◌, ◌++◌, replicate, set, slice_get, slice_index_or, Option, Some, None}
 use Rattle.redo_core.specs.declared.facts.Fact.{Fact}
-use Rattle.fleet_steps.specs.Nodes.{node_of, other_of}
-use Rattle.fleet_steps.specs.declared.steps.Step.{Step}
-use Rattle.fleet_steps.specs.declared.steps.Step.TheVariants.{Take, Join, Wipe, Ask, Answer, Absorb}
+use Rattle.script_steps.specs.Nodes.{node_of, other_of}
+use Rattle.script_steps.specs.declared.steps.Step.{Step}
+use Rattle.script_steps.specs.declared.steps.Step.TheVariants.{Take, Join, Wipe, Ask, Answer, Absorb}
 use Rattle.fleet_core.specs.declared.replies.Reply.{Reply}
 use Rattle.fleet_core.specs.declared.replies.Reply.TheVariants.{Changed, Unchanged, Joined, Wiped, Absorbed}
 use Rattle.fleet_core.specs.declared.replies.Reply.TheVariants.{Message as MessageIs}

@@ -11,9 +11,9 @@ use Rattle.segment_theorems.specs.Gossip.{Fills}
 use Rattle.gossip_core.specs.Summarizing.{IsSummaryOf}
 use Rattle.gossip_core.specs.Answering.{listing_of}
 use Rattle.gossip_core.specs.Absorbing.{filling_of}
-use Rattle.fleet_steps.specs.Nodes.{nodes_of, first_missing}
-use Rattle.fleet_steps.specs.declared.steps.Step.{Step}
-use Rattle.fleet_steps.specs.declared.steps.Step.TheVariants as step
+use Rattle.script_steps.specs.Nodes.{nodes_of, first_missing}
+use Rattle.script_steps.specs.declared.steps.Step.{Step}
+use Rattle.script_steps.specs.declared.steps.Step.TheVariants as step
 use Rattle.fleet_core.specs.FleetState.{FleetState}
 use Rattle.fleet_core.specs.declared.making.Made.{Made}
 use Rattle.fleet_core.specs.declared.making.Made.TheVariants.{Question, Answer}

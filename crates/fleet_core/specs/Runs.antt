@@ -4,8 +4,8 @@ use Rattle.std.specs.List.{Contains, AllZip, AllByRecursion}
 use Rattle.redo_core.specs.Sound.{IsSound}
 use Rattle.redo_core.specs.declared.facts.Fact.{Fact}
 use Rattle.segment_theorems.specs.Means.{Means}
-use Rattle.fleet_steps.specs.Naming.{NamedIs}
-use Rattle.fleet_steps.specs.declared.steps.Step.{Step}
+use Rattle.script_steps.specs.Naming.{NamedIs}
+use Rattle.script_steps.specs.declared.steps.Step.{Step}
 use Rattle.fleet_core.specs.declared.replies.Reply.{Reply}
 use Rattle.fleet_core.specs.Machine.{Machine, after}
 use Rattle.fleet_core.specs.Replies.{IsReply}

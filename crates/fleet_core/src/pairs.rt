@@ -1,7 +1,7 @@
 ghost use Rattle.std.specs.Prelude.{◌≡◌, ℕ, unwrap_or};
 ghost use Rattle.std.specs.Option.{option_copied};
 ghost use Rattle.segment_join.specs.Sameness.{ReportsSame};
-ghost use Rattle.fleet_steps.specs.declared.steps.Step.TheVariants.{Join as JoinOf, Same as SameOf, Covers as CoversOf};
+ghost use Rattle.script_steps.specs.declared.steps.Step.TheVariants.{Join as JoinOf, Same as SameOf, Covers as CoversOf};
 ghost use Rattle.fleet_core.specs.AtNode.{OwnFollows};
 ghost use Rattle.fleet_core.specs.Calls.{JoinsBeside, RepliesAnswer, ReportsCovers};
 ghost use Rattle.fleet_core.specs.Refused.{IsRefusal};

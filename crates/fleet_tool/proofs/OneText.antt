@@ -4,8 +4,8 @@ use Rattle.std.specs.List.{AllZip, AllByRecursion}
 use Rattle.redo_core.specs.Sets.{IsPart}
 use Rattle.redo_core.specs.declared.facts.Fact.{Fact}
 use Rattle.redo_core.proofs.Members.{none_in}
-use Rattle.fleet_steps.specs.declared.steps.Step.{Step}
-use Rattle.fleet_steps.proofs.Naming.{same_one}
+use Rattle.script_steps.specs.declared.steps.Step.{Step}
+use Rattle.script_steps.proofs.Naming.{same_one}
 use Rattle.fleet_core.specs.Machine.{empty_machine}
 use Rattle.fleet_core.specs.Runs.{TakesFrom, AreReplies}
 use Rattle.fleet_core.specs.Laws.{IsMachineOf}

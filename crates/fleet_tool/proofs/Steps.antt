@@ -4,8 +4,8 @@ use Rattle.std.specs.Prelude.{OnOk}
 use Rattle.std.specs.List.{Contains, slice_get}
 use Rattle.std.proofs.Math.Seq.{drop-cons}
 use Rattle.redo_core.specs.declared.facts.Fact.{Fact}
-use Rattle.fleet_steps.specs.declared.steps.Step.{Step}
-use Rattle.fleet_steps.proofs.Naming.{same_named}
+use Rattle.script_steps.specs.declared.steps.Step.{Step}
+use Rattle.script_steps.proofs.Naming.{same_named}
 use Rattle.fleet_core.specs.FleetState.{FleetState}
 use Rattle.fleet_core.specs.Machine.{after}
 use Rattle.fleet_core.specs.Replies.{HasCome}

@@ -2,13 +2,13 @@
 
 ghost use Rattle.std.specs.Prelude.{◌≡◌, [], ◌∷◌, ◌++◌, OnOk, codes, string_bytes};
 ghost use Rattle.hex.specs.Hex.{encode_lower};
-ghost use Rattle.fleet_steps.specs.Shown.{ShowsInside};
+ghost use Rattle.script_steps.specs.Shown.{ShowsInside};
 ghost use Rattle.fleet_core.specs.Replies.{HasCome};
 ghost use Rattle.script_text.specs.Encoded.{worded_line};
 ghost use Rattle.fleet_tool.specs.Lines.{shown_bytes, front_text, uncovered_text, line_of};
 
 use fleet_core::Reply;
-use fleet_steps::Step;
+use script_steps::Step;
 use gossip_core::Shown;
 use redo_core::Page;
 use script_text::worded_line;

@@ -7,7 +7,7 @@ ghost use Rattle.fleet_tool.specs.ScriptSteps.{IsStepOf, AnswersSteps, AnswersSt
 
 use crate::lines::put_line;
 use fleet_core::{Fleet, Reply};
-use fleet_steps::Step;
+use script_steps::Step;
 use redo_core::Fact;
 use std::alloc::{AllocError, Global};
 

@@ -1,7 +1,7 @@
 ghost use Rattle.std.specs.Prelude.{◌≡◌, ◌⊎◌, map, IfOk, OnOk, IfErr, OnErr};
 ghost use Rattle.redo_core.specs.Book.{roster_of};
 ghost use Rattle.segment_core.specs.Savepoint.{IsSavepointOf};
-ghost use Rattle.segment_core.specs.Union.{began, reached};
+ghost use Rattle.segment_core.specs.Transaction.{began, reached};
 ghost use Rattle.segment_core.specs.declared.answers.Refusal.TheVariants.{Memory as MemoryOf};
 ghost use Rattle.segment_core.specs.Exported.{exported_facts};
 ghost use Rattle.segment_core.specs.InOrder.{TakesEach, RefusesOne};

@@ -3,7 +3,7 @@ use Rattle.std.proofs.Common.{◌≡◌, ℕ, ◌+◌, ◌<◌, ◌≤◌, Bool,
 use Rattle.std.proofs.lemmas.Grind.{common_steps}
 use Rattle.std.specs.Prelude.{bytes_eq}
 use Rattle.redo_core.specs.declared.facts.Fact.{Fact}
-use Rattle.fleet_steps.specs.declared.steps.Step.{Step}
+use Rattle.script_steps.specs.declared.steps.Step.{Step}
 use Rattle.script_text.specs.Parts.{parts_at}
 use Rattle.script_text.specs.FactLine.{fact_of}
 use Rattle.script_text.specs.StepLine.{step_of}

@@ -5,7 +5,7 @@ use Rattle.std.proofs.lemmas.List.Elements.{All-from_recursion}
 use Rattle.std.proofs.lemmas.Option.{none-some}
 use Rattle.std.proofs.lemmas.Slice.Zip.{AllZip-long}
 use Rattle.redo_core.specs.declared.facts.Fact.{Fact}
-use Rattle.fleet_steps.specs.declared.steps.Step.{Step}
+use Rattle.script_steps.specs.declared.steps.Step.{Step}
 use Rattle.script_text.specs.Parts.{parts_at}
 use Rattle.script_text.specs.FactLine.{fact_line, fact_of}
 use Rattle.script_text.specs.StepLine.{IsInRange}

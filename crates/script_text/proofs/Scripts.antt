@@ -7,7 +7,7 @@ use Rattle.std.proofs.lemmas.Bool.Decides.{nat_tests}
 use Rattle.std.proofs.lemmas.Option.{none-some}
 use Rattle.redo_core.specs.Shape.{max_number}
 use Rattle.redo_core.specs.declared.facts.Fact.{Fact}
-use Rattle.fleet_steps.specs.declared.steps.Step.{Step}
+use Rattle.script_steps.specs.declared.steps.Step.{Step}
 use Rattle.script_text.specs.Parts.{◌>>=◌, parts_at}
 use Rattle.script_text.specs.Fields.{Form, form, of_one, read_by}
 use Rattle.script_text.specs.FactLine.{fact_line, fact_of}

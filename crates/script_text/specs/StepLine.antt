@@ -1,10 +1,10 @@
 -- The step of a line, by the line's fields, behind a number of facts. A take names its fact by the place among them, from 1.
 use Rattle.std.specs.Prelude.{ℕ, ◌+◌, ◌<◌, ◌≤◌, ◌==◌, nat_lt, List, [], ◌∷◌, Option, Some, None, codes, if◌then◌else◌}
 use Rattle.redo_core.specs.Shape.{max_number}
-use Rattle.fleet_steps.specs.declared.steps.Step.{Step}
-use Rattle.fleet_steps.specs.declared.steps.Step.TheVariants.{Take, Fold, Discard, Front, Read, Join, Same, Covers, Wipe, Ask, Answer, Absorb}
-use Rattle.fleet_steps.specs.Naming.{NamedIs}
-use Rattle.fleet_steps.specs.Shown.{ShowsInside}
+use Rattle.script_steps.specs.declared.steps.Step.{Step}
+use Rattle.script_steps.specs.declared.steps.Step.TheVariants.{Take, Fold, Discard, Front, Read, Join, Same, Covers, Wipe, Ask, Answer, Absorb}
+use Rattle.script_steps.specs.Naming.{NamedIs}
+use Rattle.script_steps.specs.Shown.{ShowsInside}
 use Rattle.script_text.specs.Parts.{parts_at}
 use Rattle.script_text.specs.Fields.{Form, form, of_one, of_two, of_five, read_by}
 

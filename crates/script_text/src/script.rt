@@ -14,7 +14,7 @@ use crate::fields::{first_part, is_word};
 use crate::number::last_field;
 use crate::opening::read_opening;
 use crate::step_line::step;
-use fleet_steps::Step;
+use script_steps::Step;
 use redo_core::{Fact, Roster};
 use std::alloc::{AllocError, AllocFailed, Global};
 

@@ -12,7 +12,7 @@ pub mod Forgetting
 pub mod Adopting
 pub mod Uniting
 pub mod Savepoint
-pub mod Union
+pub mod Transaction
 pub mod Comparing
 pub mod Laws
 pub mod Restoring

@@ -3,7 +3,7 @@ ghost use Rattle.std.specs.List.{All};
 ghost use Rattle.redo_core.specs.Shape.{max_readers, max_number};
 ghost use Rattle.redo_core.specs.Roster.{IsReader};
 ghost use Rattle.redo_core.specs.declared.facts.Fact.TheVariants.{Record as OfRecord, Cut as OfCut, Advance as OfAdvance};
-ghost use Rattle.segment_core.specs.Union.{began, reached};
+ghost use Rattle.segment_core.specs.Transaction.{began, reached};
 ghost use Rattle.segment_core.specs.declared.answers.Refusal.TheVariants.{Memory as MemoryOf};
 ghost use Rattle.segment_core.specs.Exported.{point_facts, book_facts, exported_facts};
 ghost use Rattle.segment_core.specs.InOrder.{TakesOne, TakesEach, RefusesOne};

@@ -22,7 +22,7 @@ pub struct MergeTransaction<'a> {
 }
 
 impl<'a> MergeTransaction<'a> {
-    ghost use Rattle.segment_core.specs.Union.{began, reached};
+    ghost use Rattle.segment_core.specs.Transaction.{began, reached};
 
     /// Begins with a segment as it is, of which a savepoint was taken.
     pub fn begin(segment: &'a mut Segment, saved: &'a mut Savepoint) -> MergeTransaction<'a>
@@ -126,7 +126,7 @@ impl<'a> MergeTransaction<'a> {
 }
 
 impl Drop for MergeTransaction<'_> {
-    ghost use Rattle.segment_core.specs.Union.{began};
+    ghost use Rattle.segment_core.specs.Transaction.{began};
 
     /// Brings the segment back to what it was when the union began.
     fn drop(self)

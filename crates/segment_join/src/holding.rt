@@ -3,7 +3,7 @@ ghost use Rattle.std.specs.List.{Contains};
 ghost use Rattle.redo_core.specs.Data.{RecordData};
 ghost use Rattle.redo_core.specs.Keys.{key_of};
 ghost use Rattle.segment_theorems.specs.State.{version_of};
-ghost use Rattle.segment_core.specs.Union.{began, reached};
+ghost use Rattle.segment_core.specs.Transaction.{began, reached};
 ghost use Rattle.segment_join.specs.Holding.{IsNeedless, HoldsRest};
 ghost use Rattle.segment_join.specs.Knowing.{HoldsAt, KnowsKept};
 ghost use Rattle.segment_join.specs.Newer.{AreNewer};

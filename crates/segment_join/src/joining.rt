@@ -4,7 +4,7 @@ ghost use Rattle.redo_core.specs.Book.{roster_of};
 ghost use Rattle.hot_log.specs.Missing.{IsMissing};
 ghost use Rattle.hot_log.specs.Paged.{PlaceBefore};
 ghost use Rattle.segment_core.specs.Savepoint.{IsSavepointOf};
-ghost use Rattle.segment_core.specs.Union.{began, reached};
+ghost use Rattle.segment_core.specs.Transaction.{began, reached};
 ghost use Rattle.segment_core.specs.declared.answers.Refusal.TheVariants.{OtherRoster as OtherRosterOf, Memory as MemoryOf};
 ghost use Rattle.segment_join.specs.Joining.{MeansUnion, AreOfOneLog, JoinsInto, TakesTold, RefusesJoin};
 ghost use Rattle.segment_join.specs.Knowing.{TakesAll, RefusesAll, IsJoined};

@@ -2,7 +2,7 @@
 
 use crate::answer::Answer;
 use case_io::{Row, byte, number};
-use fleet_steps::Step;
+use script_steps::Step;
 use script_text::{ScriptError, read_script};
 use std::alloc::AllocError;
 

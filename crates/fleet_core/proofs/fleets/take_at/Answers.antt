@@ -1,5 +1,5 @@
 use Rattle.std.proofs.Common.{get_or, refl, ap, None}
-use Rattle.fleet_steps.specs.declared.steps.Step.TheVariants.{Take}
+use Rattle.script_steps.specs.declared.steps.Step.TheVariants.{Take}
 use Rattle.fleet_core.proofs.Carrying.{take_step}
 use Rattle.fleet_core.proofs.Pairing.{carried, one_place}
 use Rattle.fleet_core.proofs.fleets.take_at.Goals as goal

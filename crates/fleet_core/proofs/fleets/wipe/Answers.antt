@@ -1,6 +1,6 @@
 use Rattle.std.proofs.lemmas.Grind.{common_steps}
 use Rattle.std.proofs.Common.{sym, subst, arith}
-use Rattle.fleet_steps.specs.declared.steps.Step.TheVariants.{Wipe}
+use Rattle.script_steps.specs.declared.steps.Step.TheVariants.{Wipe}
 use Rattle.fleet_core.specs.declared.replies.Reply.TheVariants.{Wiped}
 use Rattle.fleet_core.specs.AtNode.{OwnFollows}
 use Rattle.fleet_core.proofs.Merging.{follows_wipe}

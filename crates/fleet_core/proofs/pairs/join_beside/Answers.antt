@@ -1,7 +1,7 @@
 use Rattle.std.proofs.lemmas.Grind.{common_steps}
 use Rattle.std.proofs.Common.{sym, subst, arith}
 use Rattle.std.specs.Option.{option_copied}
-use Rattle.fleet_steps.specs.declared.steps.Step.TheVariants.{Join}
+use Rattle.script_steps.specs.declared.steps.Step.TheVariants.{Join}
 use Rattle.fleet_core.specs.declared.replies.Reply.TheVariants.{Joined}
 use Rattle.fleet_core.specs.AtNode.{OwnFollows}
 use Rattle.fleet_core.proofs.Merging.{follows_join, follows_own_join}

@@ -1,6 +1,6 @@
 use Rattle.std.proofs.Common.{◌≡◌, List, [], ℕ, drop, string_bytes, append-nil, subst, sym, arith}
 use Rattle.std.proofs.lemmas.List.{drop_all}
-use Rattle.fleet_steps.specs.declared.steps.Step.{Step}
+use Rattle.script_steps.specs.declared.steps.Step.{Step}
 use Rattle.fleet_tool.specs.ScriptSteps.{AnswersSteps}
 use Rattle.fleet_tool.proofs.Steps.{none_left, answered_more}
 use Rattle.fleet_tool.proofs.script_steps.answers.Goals as goal

@@ -1,7 +1,7 @@
 use Rattle.std.proofs.Common.{◌≡◌, ◌⊎◌, List, map, Bor, OnOk, IfErr, ap, ◌∙◌, subst}
 use Rattle.redo_core.specs.Book.{BookData}
 use Rattle.redo_core.specs.Data.{RecordData}
-use Rattle.segment_core.specs.Union.{reached}
+use Rattle.segment_core.specs.Transaction.{reached}
 use Rattle.segment_core.specs.declared.answers.Refusal.TheVariants.{Memory}
 use Rattle.segment_core.specs.Exported.{exported_facts}
 use Rattle.segment_core.specs.InOrder.{TakesEach, RefusesOne}

@@ -1,7 +1,7 @@
 use Rattle.std.proofs.Common.{◌≡◌, ◌⊎◌, List, map, sym, ap, ◌∙◌, subst, arith}
 use Rattle.segment_theorems.specs.State.{State, StoredImage}
 use Rattle.segment_core.specs.Savepoint.{CanRollBack}
-use Rattle.segment_core.specs.Union.{reached}
+use Rattle.segment_core.specs.Transaction.{reached}
 use Rattle.segment_core.specs.Uniting.{Unites}
 use Rattle.segment_core.specs.declared.answers.Refusal.TheVariants.{Memory}
 use Rattle.segment_core.specs.Exported.{exported_facts}

@@ -6,7 +6,7 @@ use Rattle.segment_theorems.specs.Known.{IsKnown}
 use Rattle.segment_core.specs.Answering.{FaultAlone}
 use Rattle.segment_core.specs.Exactly.{TakesExactly, TakesNoted}
 use Rattle.segment_core.specs.Taking.{ReportsKnown, Stores}
-use Rattle.segment_core.specs.Union.{reached}
+use Rattle.segment_core.specs.Transaction.{reached}
 use Rattle.segment_core.specs.declared.answers.Taken.{Taken}
 use Rattle.segment_core.specs.declared.answers.Taken.TheVariants.{Changed, Unchanged}
 use Rattle.segment_core.specs.declared.answers.Refusal.{Refusal}

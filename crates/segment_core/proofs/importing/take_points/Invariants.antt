@@ -1,6 +1,6 @@
 use Rattle.std.proofs.Common.{◌≡◌, take}
 use Rattle.segment_core.specs.Exported.{point_facts}
-use Rattle.segment_core.specs.Union.{began, reached}
+use Rattle.segment_core.specs.Transaction.{began, reached}
 use Rattle.segment_core.specs.InOrder.{TakesEach}
 use Rattle.segment_core.proofs.importing.take_points.Given as goal
 

@@ -2,7 +2,7 @@ use Rattle.std.proofs.Common.{◌∷◌, [], Bor, subst, arith}
 use Rattle.std.proofs.lemmas.Grind.{common_steps}
 use Rattle.redo_core.specs.Data.{RecordData}
 use Rattle.redo_core.specs.declared.facts.Fact.TheVariants.{Record}
-use Rattle.segment_core.specs.Union.{reached}
+use Rattle.segment_core.specs.Transaction.{reached}
 use Rattle.segment_core.specs.InOrder.{RefusesOne}
 use Rattle.segment_core.proofs.Ordered.{takes_next, refuses_next, memory_or}
 use Rattle.segment_core.proofs.importing.take_records.Goals as goal

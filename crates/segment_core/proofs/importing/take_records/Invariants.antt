@@ -1,6 +1,6 @@
 use Rattle.std.proofs.Common.{◌≡◌, map, take}
 use Rattle.redo_core.specs.declared.facts.Fact.TheVariants.{Record}
-use Rattle.segment_core.specs.Union.{began, reached}
+use Rattle.segment_core.specs.Transaction.{began, reached}
 use Rattle.segment_core.specs.InOrder.{TakesEach}
 use Rattle.segment_core.proofs.importing.take_records.Given as goal
 

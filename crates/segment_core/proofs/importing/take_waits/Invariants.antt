@@ -1,6 +1,6 @@
 use Rattle.std.proofs.Common.{◌≡◌, map, take}
 use Rattle.redo_core.specs.declared.facts.Fact.TheVariants.{Advance}
-use Rattle.segment_core.specs.Union.{began, reached}
+use Rattle.segment_core.specs.Transaction.{began, reached}
 use Rattle.segment_core.specs.InOrder.{TakesEach}
 use Rattle.segment_core.proofs.importing.take_waits.Given as goal
 

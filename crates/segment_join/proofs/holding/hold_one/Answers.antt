@@ -6,7 +6,7 @@ use Rattle.redo_core.specs.Keys.{key_of}
 use Rattle.redo_core.specs.declared.keys.Key.{Key}
 use Rattle.segment_theorems.specs.State.{State}
 use Rattle.segment_core.specs.Uniting.{HoldsRecord}
-use Rattle.segment_core.specs.Union.{reached}
+use Rattle.segment_core.specs.Transaction.{reached}
 use Rattle.segment_join.specs.Holding.{IsNeedless}
 use Rattle.segment_join.specs.Knowing.{KnowsKept}
 use Rattle.segment_join.proofs.Sparing.{holds_known, holds_spared, holds_copy}

@@ -1,5 +1,5 @@
 use Rattle.std.proofs.Common.{◌≡◌, map}
-use Rattle.segment_core.specs.Union.{began, reached}
+use Rattle.segment_core.specs.Transaction.{began, reached}
 use Rattle.segment_join.proofs.Sparing.{HoldsFirst}
 use Rattle.segment_join.proofs.holding.hold_rest.Given as goal
 

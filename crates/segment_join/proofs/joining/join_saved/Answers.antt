@@ -3,7 +3,7 @@ use Rattle.redo_core.specs.Book.{roster_of}
 use Rattle.segment_theorems.specs.State.{State}
 use Rattle.segment_core.specs.Form.{IsSegment}
 use Rattle.segment_core.specs.Savepoint.{CanRollBack}
-use Rattle.segment_core.specs.Union.{reached}
+use Rattle.segment_core.specs.Transaction.{reached}
 use Rattle.segment_core.specs.Uniting.{Unites}
 use Rattle.segment_core.specs.declared.answers.Refusal.TheVariants.{Memory}
 use Rattle.segment_join.specs.Joining.{JoinsInto}

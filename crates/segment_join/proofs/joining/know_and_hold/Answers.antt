@@ -11,7 +11,7 @@ use Rattle.segment_join.proofs.LeavingOut.{settled_held}
 use Rattle.segment_join.proofs.KeptKnown.{knows_taken}
 use Rattle.segment_core.proofs.TakingAll.{leaves_all}
 use Rattle.segment_core.specs.Form.{IsSegment}
-use Rattle.segment_core.specs.Union.{reached}
+use Rattle.segment_core.specs.Transaction.{reached}
 use Rattle.segment_join.proofs.joining.know_and_hold.Goals as goal
 
 pub take_all-requires : goal.take_all-requires

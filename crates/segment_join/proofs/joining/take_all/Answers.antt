@@ -14,7 +14,7 @@ use Rattle.segment_join.specs.Knowing.{RefusesAll}
 use Rattle.segment_join.proofs.LeavingOut.{takes_left_out, refuses_left_out}
 use Rattle.segment_core.proofs.Ordered.{memory_or}
 use Rattle.segment_core.specs.Form.{IsSegment}
-use Rattle.segment_core.specs.Union.{reached}
+use Rattle.segment_core.specs.Transaction.{reached}
 use Rattle.segment_join.proofs.joining.take_all.Goals as goal
 
 pub kept_among-requires-clause-held : goal.kept_among-requires-clause-held

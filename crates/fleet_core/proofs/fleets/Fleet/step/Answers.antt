@@ -2,7 +2,7 @@ use Rattle.std.proofs.Common.{◌≡◌, ◌-◌, length, sym, ap, ◌∙◌, su
 use Rattle.std.proofs.lemmas.Grind.{common_steps}
 use Rattle.std.specs.Prelude.{vec_len}
 use Rattle.std.specs.Vec.{with_items}
-use Rattle.fleet_steps.specs.Nodes.{nodes_of, first_missing}
+use Rattle.script_steps.specs.Nodes.{nodes_of, first_missing}
 use Rattle.fleet_core.specs.declared.replies.Reply.TheVariants.{NoNode}
 use Rattle.fleet_core.specs.FleetState.{FleetState}
 use Rattle.fleet_core.specs.Runs.{FollowsStep}

@@ -1,8 +1,8 @@
 use Rattle.std.proofs.Common.{◌≡◌, ◌∙◌, subst, ℕ, ◌<◌, ◌↔◌, ◌⊎◌, inl, inr, [], ◌∷◌, length, arith, rules, None, Some}
 use Rattle.std.specs.Prelude.{vec_len}
 use Rattle.std.specs.Vec.{with_items}
-use Rattle.fleet_steps.specs.Nodes.{first_missing}
-use Rattle.fleet_steps.specs.declared.steps.Step.TheVariants.{Take}
+use Rattle.script_steps.specs.Nodes.{first_missing}
+use Rattle.script_steps.specs.declared.steps.Step.TheVariants.{Take}
 use Rattle.fleet_core.specs.declared.replies.Reply.TheVariants.{NoNode}
 use Rattle.fleet_core.specs.FleetState.{FleetState}
 use Rattle.fleet_core.specs.Runs.{FollowsStep}

@@ -3,7 +3,7 @@ use Rattle.std.proofs.Common.{subst, arith, rules}
 use Rattle.hot_log.specs.Putting.{Puts}
 use Rattle.redo_core.specs.declared.keys.Key.{Key}
 use Rattle.segment_core.specs.Savepoint.{NotesKey}
-use Rattle.segment_core.specs.Union.{reached}
+use Rattle.segment_core.specs.Transaction.{reached}
 use Rattle.segment_core.proofs.Holding.{put_holds}
 use Rattle.segment_core.proofs.Savepoints.{more_began}
 use Rattle.segment_core.proofs.merge_transaction.MergeTransaction.hold.Goals as goal

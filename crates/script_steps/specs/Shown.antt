@@ -1,7 +1,7 @@
 -- The bytes that reads show.
 use Rattle.std.specs.Prelude.{◌+◌, ◌≤◌}
-use Rattle.fleet_steps.specs.declared.steps.Step.{Step}
-use Rattle.fleet_steps.specs.declared.steps.Step.TheVariants.{Read}
+use Rattle.script_steps.specs.declared.steps.Step.{Step}
+use Rattle.script_steps.specs.declared.steps.Step.TheVariants.{Read}
 
 -- a read shows bytes inside the page
 abbrev pub ShowsInside : {F : Type 0} → Step F → Type 0

@@ -1,6 +1,6 @@
 ghost use Rattle.std.specs.Prelude.{◌≡◌, Ok, Err, IfOk, IfErr, ⊤};
-ghost use Rattle.fleet_steps.specs.Nodes.{node_of, other_of, nodes_of, first_missing};
-ghost use Rattle.fleet_steps.specs.Naming.{NamedIs, SameBut};
+ghost use Rattle.script_steps.specs.Nodes.{node_of, other_of, nodes_of, first_missing};
+ghost use Rattle.script_steps.specs.Naming.{NamedIs, SameBut};
 
 use std::alloc::AllocError;
 

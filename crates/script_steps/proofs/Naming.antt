@@ -1,8 +1,8 @@
 -- What takes name, form by form.
 use Rattle.std.proofs.Common.{◌≡◌, sym, ap, ◌∙◌, subst}
-use Rattle.fleet_steps.specs.declared.steps.Step.{Step}
-use Rattle.fleet_steps.specs.declared.steps.Step.TheVariants.{Take, Fold, Discard, Front, Read, Join, Same, Covers, Wipe, Ask, Answer, Absorb}
-use Rattle.fleet_steps.specs.Naming.{NamedIs, SameBut}
+use Rattle.script_steps.specs.declared.steps.Step.{Step}
+use Rattle.script_steps.specs.declared.steps.Step.TheVariants.{Take, Fold, Discard, Front, Read, Join, Same, Covers, Wipe, Ask, Answer, Absorb}
+use Rattle.script_steps.specs.Naming.{NamedIs, SameBut}
 
 -- what is named instead is of a kind
 pub same_named : {F G : Type 0} (R : F → G → Type 0) (P : G → Type 0) → ((x : F) (y : G) → R x y → P y) → (s : Step F) (t : Step G) → SameBut R s t

@@ -1,7 +1,7 @@
 -- What takes name, and steps that differ in nothing else.
 use Rattle.std.specs.Prelude.{◌≡◌}
-use Rattle.fleet_steps.specs.declared.steps.Step.{Step}
-use Rattle.fleet_steps.specs.declared.steps.Step.TheVariants.{Take, Fold, Discard, Front, Read, Join, Same, Covers, Wipe, Ask, Answer, Absorb}
+use Rattle.script_steps.specs.declared.steps.Step.{Step}
+use Rattle.script_steps.specs.declared.steps.Step.TheVariants.{Take, Fold, Discard, Front, Read, Join, Same, Covers, Wipe, Ask, Answer, Absorb}
 
 -- what the step takes, if it is a take, is of the kind P
 abbrev pub NamedIs : {F : Type 0} → (F → Type 0) → Step F → Type 0
