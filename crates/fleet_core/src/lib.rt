@@ -20,7 +20,7 @@ mod replies;
 mod replying;
 mod taking;
 
-pub use script_steps::Step;
 pub use fleets::Fleet;
 pub use making::Made;
 pub use replies::Reply;
+pub use script_steps::Step;

@@ -8,9 +8,9 @@ ghost use Rattle.script_text.specs.Encoded.{worded_line};
 ghost use Rattle.fleet_tool.specs.Lines.{shown_bytes, front_text, uncovered_text, line_of};
 
 use fleet_core::Reply;
-use script_steps::Step;
 use gossip_core::Shown;
 use redo_core::Page;
+use script_steps::Step;
 use script_text::worded_line;
 use segment_core::Front;
 use std::alloc::{AllocError, Global};

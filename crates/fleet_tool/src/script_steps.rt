@@ -7,8 +7,8 @@ ghost use Rattle.fleet_tool.specs.ScriptSteps.{IsStepOf, AnswersSteps, AnswersSt
 
 use crate::lines::put_line;
 use fleet_core::{Fleet, Reply};
-use script_steps::Step;
 use redo_core::Fact;
+use script_steps::Step;
 use std::alloc::{AllocError, Global};
 
 /// The step of the fleet that a script's step asks for, with a copy of the fact that it names.

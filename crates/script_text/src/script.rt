@@ -14,8 +14,8 @@ use crate::fields::{first_part, is_word};
 use crate::number::last_field;
 use crate::opening::read_opening;
 use crate::step_line::step;
-use script_steps::Step;
 use redo_core::{Fact, Roster};
+use script_steps::Step;
 use std::alloc::{AllocError, AllocFailed, Global};
 
 /// The facts of a log, in the order of their lines, and its roster.

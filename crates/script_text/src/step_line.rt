@@ -9,8 +9,8 @@ ghost use Rattle.script_text.specs.StepLine.{take_form, fold_form, discard_form,
 use crate::fields::{first_part, is_word};
 use crate::limits::{MESSAGE, PAGE, SHORT};
 use crate::number::{field, last_field, three_fields, two_fields};
-use script_steps::Step;
 use redo_core::MAX_NUMBER;
+use script_steps::Step;
 
 fn take(facts: usize, fields: &[u8]) -> Option<Step<usize>>
     requires { facts ≤ most }
