@@ -1,4 +1,4 @@
--- What the complete point waits for, over any facts and over a sound log.
+-- What the complete point waits for, for arbitrary facts and over a sound log.
 use Rattle.std.proofs.Common.{◌≡◌, ℕ, ◌+◌, ◌<◌, ◌≤◌, ◌↔◌, inl, inr, ⊎_elim, List, Option, Some, None, refl, sym, ◌∙◌, ap, subst, arith}
 use Rattle.std.specs.List.{Contains}
 use Rattle.std.proofs.lemmas.Bool.{cases_lt}
@@ -50,7 +50,7 @@ ahead_is s complete top r = (
   ),
 )
 
--- over any facts
+-- for arbitrary facts
 
 pub gap_record : (s : State) (complete n : ℕ) → HasComplete s complete → IsGapAbove s.book s.held complete (Some n) → IsGapOf s (Some (Record n))
 gap_record s complete n top gap =
@@ -117,7 +117,7 @@ module _ {roster : ℕ} (log F : List Fact) (p : Position) (s : State) (sound : 
   linked : IsLinked F p.epoch p.complete
   linked = at_greatest (IsLinked F p.epoch) start p.complete m.position.complete
 
-  -- an alive record of the facts that is above the complete point is held, and ahead
+  -- an alive record of the facts that is above the complete point is stored, and ahead
   held_ahead : (r : RecordData) → IsAliveOf F p r → p.complete < r.number → IsAhead s r
   held_ahead r h up =
       let low : s.base ≤ p.complete = m.position.complete.1 s.base m.base.0 in
@@ -126,7 +126,7 @@ module _ {roster : ℕ} (log F : List Fact) (p : Position) (s : State) (sound : 
       (m.kept r h.0 (inr h.1)) in
       (ahead_is s p.complete top r).0 ((held, (alive_in_facts log F p s m r.epoch r.number).1 h.1), up)
 
-  -- a held record that is ahead is of the facts
+  -- a stored record that is ahead is of the facts
   ahead_of : (r : RecordData) → IsAhead s r → IsAliveOf F p r
   ahead_of r h = let a = (alive_in_facts log F p s m r.epoch r.number).0 h.0.1 in (m.of_facts r h.0.0 (inr a), a)
 
@@ -139,7 +139,7 @@ module _ {roster : ℕ} (log F : List Fact) (p : Position) (s : State) (sound : 
       (alive_up log F law m.part p.epoch r.epoch r.number has h.1) low).linked)
       (cases_lt p.complete r.number)
 
-  -- a record that waits is held
+  -- a record that waits is stored
   held_waiting : (r : RecordData) → Contains (records F) r → IsWaiting p.epoch r.epoch → HasWaiting s.book s.held
   held_waiting r h w =
       let later : p.epoch < r.epoch = w in
@@ -201,7 +201,7 @@ module _ {roster : ℕ} (log F : List Fact) (p : Position) (s : State) (sound : 
         (linked_below log F law m.part p.epoch has p.complete linked back.other back.among alive_back (omega arith)).linked)))
         (cases_lt p.complete first.back)
 
-    -- no held record has the number that its backlink names, since none is ahead below it
+    -- no stored record has the LSN that its backlink names, since none is ahead below it
     none_held : (r : RecordData) → IsHeldAlive s.book s.held r → r.number ≡ first.back → ⊥
     none_held r h e =
         let above : p.complete < first.back = above_back in
@@ -212,7 +212,7 @@ module _ {roster : ℕ} (log F : List Fact) (p : Position) (s : State) (sound : 
         (λ (q : first.number < r.number). omega arith)
         t
 
-    -- so the record hangs on its backlink
+    -- so the record is blocked by its backlink
     hangs_on_back : first.back ≡ n
     hangs_on_back =
         ⊎_elim

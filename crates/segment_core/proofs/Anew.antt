@@ -1,4 +1,4 @@
--- The page that a state shows, made from the last record on that begins it anew.
+-- The page that a state shows, made from the last record with `init` on.
 use Rattle.std.proofs.Common.{◌≡◌, ℕ, ◌-◌, ◌<◌, ◌≤◌, ◌⊎◌, inl, inr, ⊎_elim, List, [], ◌∷◌, ◌++◌, sym, ap, ◌∙◌, subst, arith, true, rules}
 use Rattle.std.specs.List.{Contains}
 use Rattle.std.proofs.lemmas.Bool.{cases_lt}
@@ -21,7 +21,7 @@ use Rattle.segment_theorems.specs.State.{State, version_of, image_of}
 use Rattle.segment_theorems.specs.Shows.{IsApplied, Shows}
 use Rattle.segment_theorems.proofs.Anew.{write_anew}
 
--- records from one with `init` on do not look at the page
+-- records from one with `init` on do not read the page
 from_anew : (r : RecordData) (P : RecordData → Type 0) (xs : List RecordData) (i j : List ℕ) → P r → r.init ≡ true
     → Lists BeforeByNumber (λ x. P x × (r.number ≤ x.number)) xs → after_records i xs ≡ after_records j xs
 from_anew r P [] i j held anew lists = absurd (none_in r ((lists.members r).1 (held, omega arith)))
@@ -44,7 +44,7 @@ rising_joined (x ∷ xs) ys one two apart = (
   rising_joined xs ys one.1 two (λ y z h k. apart y z (there x xs y h) k),
 )
 
--- a held record with this is applied
+-- a stored record with this is applied
 abbrev IsDue : State → ℕ → ℕ → RecordData → Type 0
 IsDue s page q r =
     IsAlive s.book.cuts s.book.complete r.epoch r.number × ((r.page ≡ page) × ((version_of s.store page < r.number) × (r.number ≤ q)))
@@ -70,7 +70,7 @@ applied_in_order s page q book held =
           (λ r. (λ h. (h.0, h.1.0, h.1.1.0, h.1.1.1.0, h.1.1.1.1), λ h. (h.0, (h.1, (h.2, (h.3, h.4)))))) t.1,
     )
 
--- the records that are applied in front of one are those up to the number before it
+-- the records that are applied before one are those up to the LSN before it
 in_front : (s : State) (page q : ℕ) (r : RecordData) → IsBook s.book → IsHeld s.held → IsApplied s page q r
     → (xs : List RecordData) × Lists BeforeByNumber (λ x. IsApplied s page q x × (x.number < r.number)) xs
 in_front s page q r book held applied =
@@ -85,7 +85,7 @@ in_front s page q r book held applied =
           )) t.1,
     )
 
--- records listed anew over the page's image are the page that the state shows
+-- records listed from scratch over the page's image are the page that the state shows
 pub anew_shows : (s : State) (page q : ℕ) (image : List ℕ) (xs : List RecordData) → IsBook s.book → IsHeld s.held → ListsAnew (IsApplied s page q) xs
     → image ≡ after_records (image_of s.store page) xs → Shows s page q image
 anew_shows s page q image xs book held lists is = ⊎_elim

@@ -18,7 +18,7 @@ shows_some s page q form =
     let w = applied_in_order s page q form.book form.held in
     (after_records (image_of s.store page) w.0, record { written = w.0; lists = w.1; result = refl })
 
--- no image of the page is stored, and no held record writes it
+-- no image of the page is stored, and no stored record writes it
 pub record IsBare (s : State) (page : ℕ) : Type 0 where
   pub images : (i : StoredImage) → Contains s.store.images i → i.page ≡ page → ⊥
   pub records : (r : RecordData) → Contains s.held r → r.page ≡ page → ⊥

@@ -81,7 +81,7 @@ breaks_here s page q r n follows lt none = (
   λ h. ap (λ (x : RecordData). x.number) (sym (alone_on s page q r h.at (λ f l. none) h.on)) ∙ h.number,
 )
 
--- where r's block backlink is in the image, or r begins its page anew, the chain is whole from r on
+-- where r's block backlink is in the image, or r begins its page from zeros, the chain is whole from r on
 pub whole_from : (s : State) (page q : ℕ) (r : RecordData) (n : ℕ) → (r.init ≡ false → r.block_back ≤ version_of s.store page) → BreaksFrom s page q r n → ⊥
 whole_from s page q r n le h =
     let z : h.at ≡ r = alone_on s page q r h.at (λ f lt below l e. let low = le f in omega (arith, low, lt)) h.on in
@@ -102,9 +102,9 @@ breaks_first s page q r n linked greatest only = (
   λ h. record { first = r; linked = linked; greatest = greatest; breaks = h },
 )
 
--- ---- what a search among the held records finds of the linked ones
+-- ---- what a search among the stored records finds of the linked ones
 
--- a held record has its shape, so its number is above 0
+-- a stored record has its shape, so its LSN is above 0
 positive_number : (hs : List RecordData) (r : RecordData) → IsHeld hs → Contains hs r → 0 < r.number
 positive_number hs r held among = let shaped = held.shaped r among in positive r shaped
   where
@@ -114,7 +114,7 @@ positive_number hs r held among = let shaped = held.shaped r among in positive r
 greatest_by : (P Q : RecordData → Type 0) → ((r : RecordData) → P r ↔ Q r) → (found : Option RecordData) → IsGreatestRecord P found → IsGreatestRecord Q found
 greatest_by P Q same found none = search rules
 
--- where the held records link some of the page from the base point on, the last of these is the last of all
+-- where the stored records link some of the page from the base point on, the last of these is the last of all
 pub last_linked : (b : BookData) (hs : List RecordData) (base : ℕ) (store : Store) (page q : ℕ) (r : RecordData)
     → IsGreatestRecord (λ x. IsLinkedHeld b hs base x × (x.page ≡ page) × (x.number ≤ q)) (Some r)
     → IsGreatestRecord (IsLinkedOf (state_of b hs base store) page q) (Some r)
@@ -146,11 +146,11 @@ last_unlinked b hs base store page q top found held none least =
           l.2,
     )) found
 
--- r is a linked record of the page with this number
+-- r is a linked record of the page with this LSN
 abbrev pub IsLinkedAt : State → ℕ → ℕ → RecordData → Type 0
 IsLinkedAt s page number r = IsLinkedOf s page number r × (r.number ≡ number)
 
--- up to a number up to which each alive record is linked, the alive one of a number is the only one
+-- up to an LSN up to which each alive record is linked, the alive one of an LSN is the only one
 pub only_low : (b : BookData) (hs : List RecordData) (base : ℕ) (store : Store) (page from number : ℕ) (found : Option RecordData) → IsHeld hs
     → IsLinkedUpTo (state_of b hs base store) number → from ≡ number - 1 → IsLeastRecord (IsHeldOf b hs page from number) found
     → IsOnlyRecord (IsLinkedAt (state_of b hs base store) page number) found
@@ -210,7 +210,7 @@ pub on_linked : (s : State) (page q : ℕ) (r t : RecordData) → IsLinkedOf s p
 on_linked s page q r _ l start = l
 on_linked s page q r _ l (down m c on f lt h e) = h
 
--- a record's block backlink above 0 is below its number
+-- a record's block backlink above 0 is below its LSN
 back_below : {roster : ℕ} (log : List Fact) (r : RecordData) → IsSound roster log → Contains (records log) r → 0 < r.block_back → r.block_back < r.number
 back_below {roster} log r sound among positive =
     let law : KeepsLaws roster log ((record_in log r).0 among).0 (Record r) = kept roster log (Record r) sound ((record_in log r).0 among) in
@@ -246,11 +246,11 @@ no_break {roster} log facts p s page q n sound means le h =
 
 -- ---- what the walk and a read answer
 
--- a record has its shape, so its block backlink is below its number
+-- a record has its shape, so its block backlink is below its LSN
 pub block_lower : (r : RecordData) → record_fault r ≡ None → r.block_back < r.number
 block_lower r shaped = search (rules, shaped)
 
--- the walk answers the number of the record at which it stands
+-- the walk returns the LSN of the record at which it is
 pub answers_here : (s : State) (page q : ℕ) (r : RecordData) (m : ℕ) → m ≡ r.number → ((n : ℕ) → (r.number ≡ n) ↔ BreaksFrom s page q r n)
     → ((n : ℕ) → BreaksAt s page q n ↔ BreaksFrom s page q r n) → (n : ℕ) → (Some m ≡ Some n) ↔ BreaksAt s page q n
 answers_here s page q r m is here same n = (
@@ -293,7 +293,7 @@ not_image image g n e = cc
 pub not_memory : (g n : ℕ) → (let answer : Result (List ℕ) ReadFault = Err Memory in answer) ≡ Err (BrokenBlockChain g n) → ⊥
 not_memory g n e = cc
 
--- a link that is no number is none
+-- a link that is no LSN is none
 pub no_link : (link : Option ℕ) → ((n : ℕ) → link ≡ Some n → ⊥) → link ≡ None
 no_link link not = search rules
 

@@ -1,4 +1,4 @@
--- What a state knows together with a book, when each fact that the book tells was taken.
+-- What a state knows together with a book, when each fact that the book exports was taken.
 use Rattle.std.proofs.Common.{◌≡◌, ℕ, ◌<◌, ◌≤◌, ◌⊎◌, ◌↔◌, inl, inr, ⊎_elim, List, refl, sym, ap, ◌∙◌, subst, arith, rules}
 use Rattle.std.specs.List.{Contains}
 use Rattle.redo_core.specs.Data.{CutData, AdvanceData, advance_of}
@@ -22,7 +22,7 @@ use Rattle.epoch_book.proofs.Books.{epoch_grows}
 pub late_of : (s : State) → IsSegment s → IsLate s
 late_of s form = search rules
 
--- a state has taken what a book tells, among other facts
+-- a state has taken what a book exports, among other facts
 pub record HasBook (old : State) (b : BookData) (facts : List Fact) (taken : State) : Type 0 where
   pub own : IsLate old
   pub epoch : IsCompleteEpoch b.cuts b.complete
@@ -46,7 +46,7 @@ module _ (old taken : State) (b : BookData) (facts : List Fact) (d : HasBook old
     λ h. (all.cuts c).1 (⊎_elim (λ (x : Contains old.book.cuts c). inl x) (λ (x : Contains b.cuts c). inr ((d.cut c).1 x)) h),
   )
 
-  -- an advance that is told waits on a side, or is a reader's point of the other
+  -- an exported advance waits on a side, or is a reader's point of the other
   sides : (a : AdvanceData) → IsToldAdvance old facts a
       → (Contains old.book.waits a ⊎ Contains b.waits a) ⊎ IsPointIn b.complete b.points a
   sides a h = search rules
@@ -70,7 +70,7 @@ module _ (old taken : State) (b : BookData) (facts : List Fact) (d : HasBook old
     λ h. (all.waits a).1 (told_wait a h.0, h.1),
   )
 
-  -- a reader's point of the other has been told, unless it is 0
+  -- a reader's point of the other has been exported, unless it is 0
   point_reached : (reader : ℕ) → IsReader (roster_of old.book) reader → point_of b.points reader ≤ point_of taken.book.points reader
   point_reached reader r =
       ⊎_elim

@@ -1,4 +1,4 @@
--- What a front and an anchor answer, from the greatest linked number.
+-- What a front and an anchor return, from the greatest linked LSN.
 use Rattle.std.proofs.Common.{◌≡◌, ℕ, ◌≤◌, inr, List, rules, None}
 use Rattle.std.specs.List.{Contains}
 use Rattle.redo_core.specs.Data.{RecordData, CutData}
@@ -25,13 +25,13 @@ use Rattle.segment_core.specs.declared.points.Points.{Points}
 use Rattle.page_base.specs.Stored.{IsStored}
 use Rattle.segment_core.specs.declared.answers.Front.{Front}
 
--- a linked number is the base or a held record's
+-- a linked LSN is the base or a stored record's
 pub linked_small : (cs : List CutData) (hs : List RecordData) (k base top n : ℕ) → ((r : RecordData) → Contains hs r → r.number ≤ top) → base ≤ top
     → Linked cs hs k base n → n ≤ top
 linked_small cs hs k base top _ small low start = low
 linked_small cs hs k base top _ small low (next r among alive above rest) = small r among
 
--- a record has its shape, so its number is small
+-- a record has its shape, so its LSN is small
 pub small_number : (r : RecordData) → record_fault r ≡ None → r.number ≤ 281474976710655
 small_number r shaped = search (rules, shaped)
 
@@ -52,4 +52,4 @@ pub true_front : (s : State) (front : Front) → IsFrontOf s front → (roster :
     → MeansAt roster log facts p s → IsFrontAt p front
 true_front s front own roster log facts p sound means = search (rules, complete_as, log_of_sound, same_min)
 
--- ---- whether a record is compared, by how it stands
+-- ---- whether a record is compared, by its standing

@@ -12,7 +12,7 @@ use Rattle.segment_core.specs.BlockChain.{IsLinkedOf, IsLinkedUpTo, IsChained, O
 use Rattle.segment_core.specs.BlockChain.OnBlockChain.{start, down}
 use Rattle.segment_core.proofs.BlockChain.{on_linked}
 
--- chained records, of which the last has this number
+-- chained records, of which the last has this LSN
 pub record IsChainedTo (version : ℕ) (xs : List RecordData) (below : ℕ) : Type 0 where
   pub chained : IsChained version xs
   pub last : (below ≡ version) ⊎ ((x : RecordData) × Contains xs x × (x.number ≡ below))
@@ -62,7 +62,7 @@ none_breaks s page q n xs lists chained sure lower h =
     let is = (lists.members t.0).0 t.1 in
     h.breaks.nowhere t.0 (is.0, is.1, sure t.0 is.0 is.1 is.4, is.2, is.4) t.2
 
--- where some of those begin the page anew, those from one of them on are enough: each record on the walk is among them
+-- where some of those begin the page from zeros, those from one of them on are enough: each record on the walk is among them
 on_chain : (s : State) (page q : ℕ) (xs : List RecordData) (r first : RecordData) → IsApplied s page q r → IsLinkedUpTo s q
     → Lists BeforeByNumber (λ x. IsApplied s page q x × (r.number ≤ x.number)) xs → IsChained (version_of s.store page) xs → IsLinkedOf s page q first
     → ((other : RecordData) → IsLinkedOf s page q other → other.number ≤ first.number) → (t : RecordData) → OnBlockChain s page q first t → Contains xs t

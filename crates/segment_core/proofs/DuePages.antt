@@ -1,4 +1,4 @@
--- Which pages are due as the parts of a segment change.
+-- Which pages are pending as the parts of a segment change.
 use Rattle.std.proofs.Common.{◌≡◌, ℕ, ◌<◌, ◌≤◌, ◌⊎◌, inl, ⊎_elim, List, [], refl, sym, ap, subst, arith, ◌+◌, take, length, get_or, true, false, Option, Some, None, Result, Ok, Err, OnOk, OnErr, IfOk, rules}
 use Rattle.std.specs.List.{Contains, All}
 use Rattle.std.proofs.lemmas.Bool.{cases_lt}
@@ -27,14 +27,14 @@ use Rattle.segment_core.specs.Points.{IsLaterBook}
 use Rattle.segment_core.specs.PendingPages.{PendingData, HasPending, IsMoreDue, LooksAt, RemovesInPages, all_due}
 use Rattle.segment_core.proofs.Opening.{alive_before}
 
--- ---- more is due than has to be
+-- ---- more is pending than has to be
 pub more_due : (b : BookData) (held : List RecordData) (store : Store) (d e : PendingData) → HasPending b held store d → IsMoreDue d e → HasPending b held store e
 more_due b held store d e has more = record {
   listed = λ r h low. more.keeps r.page (has.listed r h low);
   top = λ page. let v : version_of store page ≤ d.top = has.top page in let up : d.top ≤ e.top = more.top in omega arith;
 }
 
--- ---- the held records change
+-- ---- the stored records change
 pub fewer_held : (b : BookData) (old new : List RecordData) (store : Store) (d : PendingData) → ((r : RecordData) → Contains new r → Contains old r)
     → HasPending b old store d → HasPending b new store d
 fewer_held b old new store d within has = search rules
@@ -45,7 +45,7 @@ put_adds old new redo (Ok put.New) puts same r h = (puts.1 r).0 h
 put_adds old new redo (Ok put.Known) puts same r h = inl (subst (λ (hs : List RecordData). Contains hs r) puts.1 h)
 put_adds old new redo (Err e) puts same r h = inl (subst (λ (hs : List RecordData). Contains hs r) same h)
 
--- one record more, whose page is due unless it is above every version
+-- one record more, whose page is pending unless it is above every version
 pub put_due : (b : BookData) (old new : List RecordData) (store : Store) (d e : PendingData) (redo : RecordData) (answer : Result Put (Refused RecordData PutFault))
     → HasPending b old store d → IsMoreDue d e → (redo.number ≤ d.top → LooksAt e redo.page) → IfOk answer (Puts old redo new) → OnErr answer (new ≡ old)
     → HasPending b new store e
@@ -91,7 +91,7 @@ raise_due b held old new page version image d e (Err x) has more looks high rais
     subst (λ (s : Store). HasPending b held s e) (sym same) (more_due b held old d e has more)
 
 -- ---- the book changes
--- a number is at most the least of some truncations, if there are any
+-- an LSN is at most the least of some truncations, if there are any
 abbrev pub IsTop : Option ℕ → ℕ → Type 0
 IsTop None top = Unit {0}
 IsTop (Some lo) top = top ≤ lo
@@ -117,7 +117,7 @@ pub none_opened : (b c : BookData) (d : PendingData) → c.complete ≡ b.comple
     → b.complete < r.epoch → r.number ≤ d.top → LooksAt d r.page
 none_opened b c d same r alive u low = let known : r.epoch ≤ c.complete = alive.known in absurd (omega arith)
 
--- what has opened, where the pages are taken over that were due before
+-- what has opened, where the pages are kept that were pending before
 pub opened_due : (b c : BookData) (held : List RecordData) (store : Store) (d e : PendingData) (epoch : ℕ) → IsLaterBook b c → epoch ≡ b.complete → IsMoreDue d e
     → ((r : RecordData) → IsAlive c.cuts c.complete r.epoch r.number → epoch < r.epoch → r.number ≤ d.top → LooksAt e r.page) → HasPending b held store d
     → HasPending c held store e
@@ -149,7 +149,7 @@ above_least b epoch top least is finds low r alive lt =
     at (Some lo) finds low c has lt le up = let least : lo ≤ c.lo = finds.1 c has lt le in let t : top < r.number = omega arith in t
 
 -- ---- a discard
--- what the images of the due pages have is all that the images have
+-- what the images of the pending pages have is all that the images have
 pub of_pages : (b : BookData) (store : Store) (d : PendingData) (point : ℕ) (old new : List RecordData) → HasPending b old store d → d.all ≡ false
     → RemovesInPages b store point d.pages old new
     → Removes (λ r. IsAlive b.cuts b.complete r.epoch r.number × (r.number ≤ point) × (r.number ≤ version_of store r.page)) old new
@@ -166,7 +166,7 @@ of_pages b store d point old new has some gone r = (
 
 -- ---- the images at once
 
--- a number that neither the floor is above nor the version of an image
+-- an LSN that neither the default version is above nor the version of an image
 pub top_is : (store : Store) (top : ℕ) → IsStored store → store.floor ≤ top → All (λ (i : StoredImage). i.version ≤ top) store.images → (page : ℕ)
     → version_of store page ≤ top
 top_is store top stored low each page = search (rules, stored_images)

@@ -21,7 +21,7 @@ use Rattle.segment_theorems.proofs.Same.{anchor_as}
 abbrev pub IsWholeTo : State → Option ℕ → Type 0
 IsWholeTo s next = (page n : ℕ) → BreaksBelowAnchor s page n → IsPassed next page → ⊥
 
--- a chain is broken at a record that is held
+-- a chain is broken at a record that is stored
 broken_page : (s : State) (page n : ℕ) → BreaksBelowAnchor s page n → (r : RecordData) × Contains s.held r × (r.page ≡ page)
 broken_page s page n b = let l = b.2.linked in (b.2.first, l.0, l.3)
 

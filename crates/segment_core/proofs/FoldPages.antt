@@ -1,4 +1,4 @@
--- Folding the pages of all held records, one after the other.
+-- Folding the pages of all stored records, one after the other.
 use Rattle.std.proofs.Common.{◌≡◌, ◌≢◌, ℕ, ◌<◌, ◌≤◌, ◌⊎◌, inr, ⊎_elim, List, Option, Some, None, sym, ap, ◌∙◌, subst, arith, max, rules}
 use Rattle.std.specs.List.{Contains}
 use Rattle.redo_core.specs.Data.{RecordData}
@@ -17,7 +17,7 @@ use Rattle.segment_core.proofs.OneView.{one_anchor}
 use Rattle.segment_core.proofs.Pages.{IsPassed, none_passed, passed_to, is_passed}
 use Rattle.segment_core.proofs.Committing.{commits_of, commits_keeps}
 
--- the next page has a held record
+-- the next page has a stored record
 abbrev pub IsHeldPage : List RecordData → Option ℕ → Type 0
 IsHeldPage held None = Unit {0}
 IsHeldPage held (Some page) = (r : RecordData) × Contains held r × (r.page ≡ page)
@@ -25,7 +25,7 @@ IsHeldPage held (Some page) = (r : RecordData) × Contains held r × (r.page ≡
 pub next_held : (held : List RecordData) (after next : Option ℕ) → IsPageAfter held after next → IsHeldPage held next
 next_held held after next is = search rules
 
--- the pages of held records that are passed are folded to the anchor
+-- the pages of stored records that are passed are folded to the anchor
 pub record FoldsTo (s : State) (anchor : ℕ) (next : Option ℕ) (store : Store) : Type 0 where
   pub at : IsHeldPage s.held next
   pub keeps : KeepsMeaning s (with_store s store)

@@ -89,7 +89,7 @@ cut_agrees b c held base d is next learns complete = record {
   );
 }
 
--- no waiting advance comes to count
+-- no waiting advance takes effect
 none_counts : (b c : BookData) (d : CutData) → IsBook b → LearnsCut b d c → c.complete ≡ b.complete → (reader : ℕ) → IsReader (length b.points) reader
     → point_of c.points reader ≤ point_of b.points reader
 none_counts b c d is learns complete reader of = search rules

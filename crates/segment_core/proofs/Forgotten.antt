@@ -1,4 +1,4 @@
--- What was folded and then discarded is forgotten.
+-- What was folded and then discarded is dropped.
 use Rattle.std.proofs.Common.{◌≡◌, ℕ, ◌≤◌, rules}
 use Rattle.std.specs.List.{Contains}
 use Rattle.redo_core.specs.Data.{RecordData}

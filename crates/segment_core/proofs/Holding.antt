@@ -1,4 +1,4 @@
--- What a state holds after a record was put there.
+-- What a state stores after a record was put there.
 use Rattle.std.proofs.Common.{◌≡◌, inl, inr, refl, rules}
 use Rattle.redo_core.specs.Data.{RecordData}
 use Rattle.hot_log.specs.Putting.{Puts}

@@ -1,4 +1,4 @@
--- Going over the keys of held records, from the least on.
+-- Scanning the keys of stored records, from the least on.
 use Rattle.std.proofs.Common.{◌≡◌, ℕ, ◌<◌, ◌⊎◌, ⊎_elim, List, [], ◌∷◌, ◌++◌, map, Option, Some, None, refl, sym, ap, ◌∙◌, subst, arith}
 use Rattle.std.proofs.lemmas.List.{append_assoc, map-append, append-nil}
 use Rattle.std.specs.List.{Contains}
@@ -17,7 +17,7 @@ abbrev pub IsFirstKey : List RecordData → Option Key → Type 0
 IsFirstKey [] next = next ≡ None
 IsFirstKey (r ∷ rs) next = next ≡ Some (key_of r)
 
--- the keys are those of some first records, and the next one is that of the record behind them
+-- the keys are those of some first records, and the next one is that of the record after them
 pub record KeysTo (held : List RecordData) (keys : List Key) (next : Option Key) : Type 0 where
   pub rest : List RecordData
   pub front : List RecordData
@@ -30,7 +30,7 @@ pub record KeysTo (held : List RecordData) (keys : List Key) (next : Option Key)
 pair_self : (a b : ℕ) → PairBefore a b a b → ⊥
 pair_self a b h = pair_not_same a b a b h refl refl
 
--- what is behind a record is above its key, and nothing else is
+-- what is after a record is above its key, and nothing else is
 rising_rest : (front rest : List RecordData) (r : RecordData) → IsRising RecordBefore (front ++ r ∷ rest) → IsRising RecordBefore rest
 rising_rest [] rest r rising = rising.1
 rising_rest (f ∷ fs) rest r rising = rising_rest fs rest r rising.1

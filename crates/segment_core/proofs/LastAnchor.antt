@@ -1,4 +1,4 @@
--- The anchor of a straight chain, found by one search, and the top of one above which no record was alive.
+-- The anchor of a contiguous chain, found by one search, and the top of one above which no record was alive.
 use Rattle.std.proofs.Common.{◌≡◌, ℕ, ◌<◌, ◌≤◌, inr, ⊎_elim, min, max, List, refl, sym, ◌∙◌, ap, subst, arith, IsTrue, Some, None, true, rules}
 use Rattle.std.specs.List.{Contains}
 use Rattle.std.proofs.lemmas.Bool.{cases_lt}

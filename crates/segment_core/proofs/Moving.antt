@@ -1,4 +1,4 @@
--- How the kept points move with what is held and known.
+-- How the kept points move with what is stored and known.
 use Rattle.std.proofs.lemmas.Grind.{common_steps}
 use Rattle.std.proofs.Common.{◌≡◌, ℕ, ◌<◌, ◌≤◌, ◌⊎◌, ◌↔◌, inl, inr, ⊎_elim, List, refl, sym, subst, arith, IsTrue}
 use Rattle.std.specs.List.{Contains}
@@ -22,7 +22,7 @@ use Rattle.segment_core.specs.declared.points.Points.{Points}
 use Rattle.segment_core.proofs.Chain.{linked_small, small_number}
 use Rattle.hot_log.proofs.Chain.{back_below}
 
--- ---- a greatest number up to a limit that none is above
+-- ---- a greatest LSN up to a limit that none is above
 pub top_of : (b : BookData) (held : List RecordData) (from n : ℕ) → IsHeld held → from ≤ max_number → IsLinkedFrom b held from n
     → ((m : ℕ) → IsLinkedFrom b held from m → m ≤ max_number → m ≤ n) → IsTop b held from n
 top_of b held from n is low linked most = record {
@@ -49,12 +49,12 @@ as_top b held from n t = record { linked = t.linked; most = t.most }
 of_top : (b : BookData) (held : List RecordData) (from n : ℕ) → Top b held from n → IsTop b held from n
 of_top b held from n t = record { linked = t.linked; most = t.most }
 
--- ---- over a straight chain the base point can rise to the anchor
+-- ---- over a contiguous chain the base point can rise to the anchor
 pub to_anchor : (b : BookData) (held : List RecordData) (base : ℕ) (p : Points) → HasPoints b held base p → IsTrue p.straight
     → HasPoints b held p.anchor p
 to_anchor b held base p has t = grind (arith, common_steps, as_top, top_from_base, link_trans, straight_from_base)
 
--- ---- two views of held records that agree on what is alive above a base point
+-- ---- two views of stored records that agree on what is alive above a base point
 pub record Agree (b c : BookData) (old new : List RecordData) (base : ℕ) : Type 0 where
   pub onto : (r : RecordData) → IsHeldAlive b old r → base < r.number → IsHeldAlive c new r
   pub back : (r : RecordData) → IsHeldAlive c new r → base < r.number → IsHeldAlive b old r
@@ -125,7 +125,7 @@ beside b old new base p r members not = points_over b b old new base p (record {
   );
 }) refl
 
--- behind a gap
+-- after a gap
 pub over_gap : (b : BookData) (old new : List RecordData) (base : ℕ) (p : Points) (r : RecordData) → Joins b old new r → p.complete < r.back
     → HasNoneEarlier b new p.complete p.since → HasPoints b old base p → HasPoints b new base p
 over_gap b old new base p r j gap late has =
@@ -144,7 +144,7 @@ over_gap b old new base p r j gap late has =
       since = late;
     }
 
--- what is linked above a number of a straight chain is linked from there, where a record joins at the top
+-- what is linked above an LSN of a contiguous chain is linked from there, where a record joins at the top
 pub from_there : (b : BookData) (old new : List RecordData) (base : ℕ) (p : Points) (r : RecordData) (m n : ℕ) → Joins b old new r → r.back ≡ p.complete
     → HasPoints b old base p → IsContiguous b old base p.complete → IsLinkedFrom b old base m → m ≤ n → IsLinkedFrom b new base n → IsLinkedFrom b new m n
 from_there b old new base p r m n j back has is linked le l = ⊎_elim
@@ -159,7 +159,7 @@ from_there b old new base p r m n j back has is linked le l = ⊎_elim
     link_trans b.cuts new b.complete m r.number n one u.2)
     (newly_linked b old new r base n j l)
 
--- at the top of a straight chain
+-- at the top of a contiguous chain
 pub on_top : (b : BookData) (old new : List RecordData) (base : ℕ) (p q : Points) (r : RecordData) → Joins b old new r → r.back ≡ p.complete
     → IsTrue p.straight → HasPoints b old base p → MoveOn b new p q → HasPoints b new base q
 on_top b old new base p q r j back t has moved =

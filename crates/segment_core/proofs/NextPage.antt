@@ -33,7 +33,7 @@ no_image images after i end none = λ m h.
     of_member (λ y. IsPageAbove after y.page → ⊥) images (whole (λ y. IsPageAbove after y.page → ⊥) images i end none) h.0.0 h.0.1
     (subst (IsPageAbove after) (sym h.0.2) h.1)
 
--- a held record writes the page
+-- a stored record writes the page
 abbrev pub IsWrittenPage : List RecordData → ℕ → Type 0
 IsWrittenPage held page = (r : RecordData) × Contains held r × (r.page ≡ page)
 

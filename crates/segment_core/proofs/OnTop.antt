@@ -1,4 +1,4 @@
--- The kept points where a record joins at the top of a straight chain.
+-- The kept points where a record joins at the top of a contiguous chain.
 use Rattle.std.proofs.Common.{◌≡◌, ℕ, ◌<◌, ◌≤◌, ◌⊎◌, inl, inr, ⊎_elim, List, refl, sym, subst, arith, IsTrue, true}
 use Rattle.std.specs.List.{Contains}
 use Rattle.std.proofs.lemmas.Bool.{cases_lt}
@@ -70,7 +70,7 @@ straight_on b old new base p r top t =
           (through b old new base p r top t m l);
     }
 
--- The complete point is the end of the chain from the record; the anchor goes on from the record where the minimum read point has come so far.
+-- The complete point is the end of the chain from the record; the anchor continues from the record where the minimum read point has come so far.
 end_of_chain : (b : BookData) (old new : List RecordData) (base top anchor : ℕ) (p : Points) (r : RecordData) → IsTrue p.straight → Topping b old new base p r top
     → AnchorsOn b new r.number p.anchor anchor → HasPoints b new base (record { complete = top; anchor = anchor; straight = true; since = p.since })
 end_of_chain b old new base top anchor p r flag t on =
@@ -134,6 +134,6 @@ ended b held base number top anchor p j between end on =
       late = j.since;
     }) (subst (λ n. AnchorsOn b held n p.anchor anchor) (sym j.at) on)
 
--- over a fork or a stray the points move on as over any chain
+-- over a fork or an orphan record the points move on as over any chain
 pub walked : (b : BookData) (held : List RecordData) (base number : ℕ) (p q : Points) → JoinsOnTop b held base number p → MoveOn b held p q → HasPoints b held base q
 walked b held base number p q j moved = on_top b j.earlier held base p q j.redo (joins_of b j.earlier held j.redo j.form j.puts.1 j.may.0) j.back j.straight j.had moved

@@ -23,7 +23,7 @@ use Rattle.hot_log.proofs.Straight.{linked_above}
 pub flag_set : (b : Bool) → not b ≡ false → b ≡ true
 flag_set b h = search rules
 
--- the points of a straight chain of book b, and a number that it links and that book c, which knows later epochs, leaves untouched
+-- the points of a contiguous chain of book b, and an LSN that it links and that book c, which knows later epochs, leaves untouched
 pub record Opening (b c : BookData) (held : List RecordData) (base n : ℕ) (p : Points) : Type 0 where
   pub form : IsHeld held
   pub book : IsBook c
@@ -35,7 +35,7 @@ pub record Opening (b c : BookData) (held : List RecordData) (base n : ℕ) (p :
   pub spared : (d : CutData) → Contains c.cuts d → b.complete < d.epoch → d.epoch ≤ c.complete → n ≤ d.lo
   pub untouched : (r : RecordData) → IsHeldAlive c held r → b.complete < r.epoch → n ≤ r.back
 
--- ---- up to that number the same records are alive
+-- ---- up to that LSN the same records are alive
 pub alive_on : (b c : BookData) (held : List RecordData) (base n : ℕ) (p : Points) → Opening b c held base n p → (r : RecordData) → r.number ≤ n
     → IsHeldAlive b held r → IsHeldAlive c held r
 alive_on b c held base n p o r small h =
@@ -81,7 +81,7 @@ alive_back b c held base n p o r small h = ⊎_elim
     (λ (u : r.epoch ≤ b.complete). alive_before b c held r o.later u h)
     (cases_lt b.complete r.epoch)
 
--- ---- and the same numbers are linked
+-- ---- and the same LSNs are linked
 links_up_to : (b c : BookData) (held : List RecordData) (n from m : ℕ) → IsHeld held → ((r : RecordData) → r.number ≤ n → IsHeldAlive b held r → IsHeldAlive c held r)
     → m ≤ n → IsLinkedFrom b held from m → IsLinkedFrom c held from m
 links_up_to b c held n from m is onto small start = start
@@ -98,11 +98,11 @@ linked_back : (b c : BookData) (held : List RecordData) (base n : ℕ) (p : Poin
     → IsLinkedFrom b held from m
 linked_back b c held base n p o from m small l = links_up_to c b held n from m o.form (alive_back b c held base n p o) small l
 
--- the number is linked still
+-- the LSN is linked still
 is_linked : (b c : BookData) (held : List RecordData) (base n : ℕ) (p : Points) → Opening b c held base n p → IsLinkedFrom c held base n
 is_linked b c held base n p o = linked_on b c held base n p o base n (omega arith) o.linked
 
--- ---- what is linked above the number is linked from it
+-- ---- what is linked above the LSN is linked from it
 -- no alive record above it has a linked backlink below it
 behind : (b c : BookData) (held : List RecordData) (base n : ℕ) (p : Points) → Opening b c held base n p → (r : RecordData) → IsHeldAlive c held r → n < r.number
     → IsLinkedFrom c held base r.back → n ≤ r.back
@@ -130,7 +130,7 @@ from_there b c held base n p o m le (next r h a lt l) = ⊎_elim
     (λ (under : r.number ≤ n). subst (IsLinkedFrom c held n) (let t : n ≡ r.number = omega arith in t) start)
     (cases_lt n r.number)
 
--- each linked number at or below it is linked onward
+-- each linked LSN at or below it is linked onward
 from_below : (b c : BookData) (held : List RecordData) (base n : ℕ) (p : Points) → Opening b c held base n p → (k m : ℕ) → k ≤ n → k ≤ m → IsLinkedFrom c held base k
     → IsLinkedFrom c held base m → IsLinkedFrom c held k m
 from_below b c held base n p o k m small le low l =
@@ -159,7 +159,7 @@ straight_on b c held base n p o top on = record {
       (cases_lt n k);
 }
 
--- The points go on from there.
+-- The points continue from there.
 pub opened : (b c : BookData) (held : List RecordData) (base n from since : ℕ) (p q : Points) → Opening b c held base n p → from ≡ min p.anchor n
     → MoveOn c held (record { complete = n; anchor = from; straight = true; since = since }) q → HasPoints c held base q
 opened b c held base n from since p q o is moved =
@@ -223,7 +223,7 @@ start_small c held epoch s book untouched =
     let lo : d.0.lo ≡ s.limit = d.4 in
     omega (arith, low, lo, shape.1, shape.2)
 
--- ---- what is alive above the number is of an epoch that opens, or was above the complete point
+-- ---- what is alive above the LSN is of an epoch that opens, or was above the complete point
 pub none_earlier : (c : BookData) (held : List RecordData) (base epoch since : ℕ) (p : Points) (s : Spared) → (were : WerePoints c held base epoch p s) → IsTrue p.straight
     → IsUntouched c held epoch s → (s.limit < p.complete → since ≤ epoch + 1) → (p.complete ≤ s.limit → (since ≤ p.since) × (since ≤ epoch))
     → HasNoneEarlier c held s.number since
@@ -255,8 +255,8 @@ none_earlier c held base epoch since p s were straight untouched fell stood r h 
     (cases_lt epoch r.epoch))
     (cases_lt s.limit p.complete)
 
--- ---- the walk down from the end of a straight chain
--- it is at a linked number, and what is linked up to the limit is not above it
+-- ---- the walk down from the end of a contiguous chain
+-- it is at a linked LSN, and what is linked up to the limit is not above it
 pub spared_start : (b : BookData) (held : List RecordData) (base limit : ℕ) (p : Points) → HasPoints b held base p → IsSparedChain b held base (record { limit = limit; number = p.complete })
 spared_start b held base limit p has = record { linked = has.complete.linked; most = λ m l le. has.complete.most m l }
 
@@ -273,7 +273,7 @@ spared_step b held base limit n p r book form has straight above over h at is =
           link_at_least b.cuts held b.complete m r.back (down m (omega arith) onward);
     }
 
--- a linked number above the base point is that of an alive record
+-- a linked LSN above the base point is that of an alive record
 pub spared_record : (b : BookData) (held : List RecordData) (base limit n : ℕ) → base < n → IsSparedChain b held base (record { limit = limit; number = n })
     → (r : RecordData) × IsHeldAlive b held r × (r.number ≡ n)
 spared_record b held base limit n above is = linked_above b held base base (omega arith) n is.linked above

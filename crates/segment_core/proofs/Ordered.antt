@@ -73,7 +73,7 @@ point_facts_append epoch reader (p ∷ ps) qs =
     (subst (λ n. point_facts epoch (suc reader) (ps ++ qs) ≡ point_facts epoch (suc reader) ps ++ point_facts epoch n qs) e
     (point_facts_append epoch (suc reader) ps qs))
 
--- those up to a place, and the one there
+-- those up to an index, and the one there
 points_next : (epoch : ℕ) (points : List ℕ) (i : ℕ) → i < length points
     → point_facts epoch 1 (take (i + 1) points) ≡ point_facts epoch 1 (take i points) ++ point_facts epoch (i + 1) (get_or points i 0 ∷ [])
 points_next epoch points i lt = grind (arith, common_steps, point_facts_append)

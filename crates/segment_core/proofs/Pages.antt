@@ -1,4 +1,4 @@
--- Going over the pages of held records, from the least on.
+-- Scanning the pages of stored records, from the least on.
 use Rattle.std.proofs.Common.{◌≡◌, ℕ, ◌-◌, ◌<◌, ◌≤◌, ◌⊎◌, ◌↔◌, ⊎_elim, List, Option, Some, None, arith, rules}
 use Rattle.std.specs.List.{Contains}
 use Rattle.redo_core.specs.Data.{RecordData}
@@ -15,7 +15,7 @@ abbrev pub pages_left : Option ℕ → ℕ
 pages_left None = 0
 pages_left (Some next) = 65536 - next
 
--- at first no page of a held record is passed
+-- at first no page of a stored record is passed
 pub none_passed : (held : List RecordData) (next : Option ℕ) (r : RecordData) → IsPageAfter held None next → Contains held r → IsPassed next r.page → ⊥
 none_passed held None r after h passed = after r h tt
 none_passed held (Some next) r after h passed = let low : next ≤ r.page = after.1 r h tt in omega arith

@@ -28,7 +28,7 @@ shows_image b hs base store page version q same none =
     nothing : Lists BeforeByNumber (IsHeldOf b hs page version q) []
     nothing = record { rising = tt; members = λ r. (λ h. absurd (none_in r h), λ h. absurd (none r h)) }
 
--- a test of the shown pages tells whether they are one
+-- a test of the shown pages returns whether they are one
 pub tells_same : (s t : State) (point other_point page : ℕ) (own others : List ℕ) (same : Bool)
     → Shows s page point own → Shows t page other_point others
     → IsTrue same ↔ (own ≡ others) → ReportsSamePage s point t other_point page same

@@ -1,4 +1,4 @@
--- What a savepoint brings a state back to after a step.
+-- What a savepoint rolls a state back to after a step.
 use Rattle.std.proofs.Common.{◌≡◌, ◌⊎◌, ◌↔◌, inl, inr, ⊎_elim, List, [], ◌∷◌, ◌++◌, refl, sym, ap, subst, Bool, true, not, rules}
 use Rattle.std.specs.Borrow.{GName}
 use Rattle.std.specs.List.{Contains, filter}
@@ -93,7 +93,7 @@ came_without came held more x rising more_rising free puts =
       λ z. free_key (Contains-append_left came (key_of x ∷ []) (key_of y) z),
     )
 
--- ---- what a union began with, after a step
+-- ---- what a merge transaction began with, after a step
 -- nothing has come in yet
 pub began_here : (saved : SavepointData) (s : State) → saved.book ≡ s.book → saved.came ≡ [] → brought_back saved s ≡ s
 unfolding without

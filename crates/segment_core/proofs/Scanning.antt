@@ -19,7 +19,7 @@ pub next_passes : {X : Type 0} (P : X → Type 0) (xs : List X) (i : ℕ) (x : X
     → All P (take i xs) → All P (take (i + 1) xs)
 next_passes P xs i x passes lt is true_is tells seen = one_more P xs i x lt is seen (tells.0 true_is)
 
--- numbers of two lists of one length, compared place by place
+-- numbers of two lists of one length, compared index by index
 pub zip_at_most : (low high : List ℕ) → length low ≡ length high → ((i : ℕ) → i < length low → get_or low i 0 ≤ get_or high i 0)
     → AllZip (λ p q. p ≤ q) low high
 zip_at_most [] [] same each = tt

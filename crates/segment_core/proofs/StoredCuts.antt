@@ -1,4 +1,4 @@
--- The truncations of a meaning that a state tells.
+-- The truncations of a meaning that a state exports.
 use Rattle.std.proofs.Common.{◌≡◌, arith}
 use Rattle.std.specs.List.{Contains}
 use Rattle.redo_core.specs.Order.{IsRising, CutBefore}

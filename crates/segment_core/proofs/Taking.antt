@@ -1,4 +1,4 @@
--- What a take does, from what its book or its held records answer.
+-- What a take does, from what its book or its stored records return.
 use Rattle.std.proofs.Common.{◌≡◌, ℕ, ◌<◌, ◌≤◌, ◌⊎◌, ◌↔◌, inl, inr, ⊎_elim, List, [], ◌∷◌, length, refl, sym, ap, ◌∙◌, subst, Result, Ok, Err, OnOk, OnErr, IfOk, IfErr, arith, rules}
 use Rattle.std.specs.List.{Contains}
 use Rattle.redo_core.specs.Data.{RecordData, CutData, AdvanceData}
@@ -70,7 +70,7 @@ to_book b hs base store (Advance a) (Contradiction (held.Cut d)) so r = (book.Co
 to_book b hs base store (Advance a) OtherRecord so r = absurd r
 to_book b hs base store (Advance a) Memory so r = absurd r
 
--- only memory is told as memory
+-- only memory is reported as memory
 only_memory : (e : BookRefusal) → refusal_of e ≡ Memory → e ≡ book.Memory
 only_memory e h = search rules
 
@@ -296,7 +296,7 @@ put_exact takes knows b hs hs' base store r (Err e) result held compared puts re
     why_refused fault.OtherRecord it = inr (compared, (it.0, it.1, it.2.0, it.2.1, it.3))
     why_refused fault.Memory it = inl refl
 
--- ---- what a take tells of the facts that the segment means
+-- ---- what a take reports of the facts that the segment means
 pub tells_change : UnchangedExactly → (old : State) (fact : Fact) (t : Taken)
     → ReportsKnown old fact t → ReportsChange old fact t
 tells_change law old fact Unchanged known = λ roster log facts m sound among means is.

@@ -28,7 +28,7 @@ pub record IsLate (s : State) : Type 0 where
 abbrev pub IsToldAdvance : State → List Fact → AdvanceData → Type 0
 IsToldAdvance s facts a = Contains s.book.waits a ⊎ Contains facts (Advance a)
 
--- n is the reader's point, or that of a told advance of an epoch up to k
+-- n is the reader's point, or that of an exported advance of an epoch up to k
 abbrev pub ToldPoint : ℕ → State → List Fact → ℕ → ℕ → Type 0
 ToldPoint k s facts reader n =
     (n ≡ point_of s.book.points reader) ⊎ ((a : AdvanceData) × IsToldAdvance s facts a × (a.epoch ≤ k) × (a.reader ≡ reader) × (a.point ≡ n))
@@ -53,7 +53,7 @@ module _ (s u t : State) (F G : List Fact) (a : LeavesAll s F u) (b : LeavesAll 
   epochs : u.book.complete ≤ t.book.complete
   epochs = epoch_grows u.book.cuts t.book.cuts u.book.complete t.book.complete (λ c h. (b.cuts c).1 (inl h)) a.epoch b.epoch
 
-  -- what waits or is told after the first list was so before
+  -- what waits or is exported after the first list was so before
   told_before : (w : AdvanceData) → IsToldAdvance u G w → IsToldAdvance s (F ++ G) w
   told_before w h =
       ⊎_elim
@@ -62,7 +62,7 @@ module _ (s u t : State) (F G : List Fact) (a : LeavesAll s F u) (b : LeavesAll 
       (λ (x : Contains G (Advance w)). inr (Contains-append_right F G (Advance w) x))
       h
 
-  -- what was told before waits or is told after the first list, or was of it and counted
+  -- what was exported before waits or is exported after the first list, or was of it and effective
   told_after : (w : AdvanceData) → IsToldAdvance s (F ++ G) w → IsToldAdvance u G w ⊎ (IsToldAdvance s F w × (w.epoch ≤ u.book.complete))
   told_after w h =
       ⊎_elim
@@ -191,7 +191,7 @@ one_cut c d h = let e : Cut c ≡ Cut d = only (Cut c) (Cut d) h in cc
 one_advance : (a b : AdvanceData) → Contains (Advance a ∷ []) (Advance b) → b ≡ a
 one_advance a b h = let e : Advance a ≡ Advance b = only (Advance a) (Advance b) h in cc
 
--- a state that stays has a fact that adds no truncation and no waiting advance, and whose advance counts no more than what counts
+-- a state that stays has a fact that adds no truncation and no waiting advance, and whose advance raises no point
 stays : (s : State) (fact : Fact) → IsLate s
     → ((c : CutData) → Contains (fact ∷ []) (Cut c) → Contains s.book.cuts c)
     → ((a : AdvanceData) → Contains (fact ∷ []) (Advance a) → IsKnown s (Advance a))
@@ -312,7 +312,7 @@ leaves_cut s t c learns = record {
   more = λ r h. inl (subst (λ hs. Contains hs r) learns.held h);
 }
 
--- what counts or waits, in the old complete epoch, which an advance leaves
+-- what is effective or waits, in the old complete epoch, which an advance leaves
 record LeavesAdvance (s : State) (a : AdvanceData) (t : State) : Type 0 where
   waits : (b : AdvanceData) → Contains t.book.waits b ↔ (IsToldAdvance s (Advance a ∷ []) b × (s.book.complete < b.epoch))
   count : length t.book.points ≡ length s.book.points

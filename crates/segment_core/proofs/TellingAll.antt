@@ -1,4 +1,4 @@
--- What a book and records tell: the facts of the book, and then the records.
+-- What a book and records export: the facts of the book, and then the records.
 use Rattle.std.proofs.Common.{◌≡◌, ℕ, List, [], ◌∷◌, ◌++◌, map, refl, ap, subst, Bor, rules, arith}
 use Rattle.std.proofs.lemmas.Grind.{common_steps}
 use Rattle.redo_core.specs.Data.{RecordData, CutData, AdvanceData}
@@ -15,7 +15,7 @@ pub same_book : (b : BookData) (cs : List CutData) (k : ℕ) (ps : List ℕ) (ws
     → cs ≡ b.cuts → k ≡ b.complete → ps ≡ b.points → ws ≡ b.waits → book_of cs k ps ws ≡ b
 same_book b cs k ps ws c e p w = let t : book_of cs k ps ws ≡ book_of b.cuts b.complete b.points b.waits = cc in t
 
--- the records behind references
+-- the records that references refer to
 pub records_behind : (rs : List (Bor RecordData)) → map (λ r. Record r.now) rs ≡ map Record (map (λ r. r.now) rs)
 records_behind [] = refl
 records_behind (r ∷ rs) = ap (λ fs. Record r.now ∷ fs) (records_behind rs)

@@ -108,7 +108,7 @@ tidies_of s discarded new store folds d m =
           );
     }
 
--- what is held then is what the facts keep
+-- what is stored then is what the facts keep
 pub holds_kept : (old new : State) → Tidies old new → HoldsJustKept old new
 holds_kept old new t roster log F p r sound m =
     let e = anchor_as log F p old (log_of_sound roster log sound) m new.base t.base in

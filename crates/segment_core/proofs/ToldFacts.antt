@@ -1,4 +1,4 @@
--- Which facts a state tells.
+-- Which facts a state exports.
 use Rattle.std.proofs.Common.{◌≡◌, ℕ, zero, suc, ◌+◌, ◌-◌, ◌<◌, ◌≤◌, ◌⊎◌, ◌↔◌, inl, inr, ⊎_elim, List, [], ◌∷◌, ◌++◌, length, get_or, map, refl, sym, ap, ◌∙◌, subst, arith, rules}
 use Rattle.std.proofs.lemmas.Grind.{common_steps}
 use Rattle.std.specs.List.{Contains}
@@ -22,7 +22,7 @@ pub record IsPointIn (epoch : ℕ) (points : List ℕ) (a : AdvanceData) : Type 
   pub above : 1 ≤ a.point
 
 -- ---- points
--- the advance of the reader at a place, where readers are counted from `from`
+-- the advance of the reader at an index, where readers are numbered from `from`
 record StandsAt (epoch from : ℕ) (points : List ℕ) (a : AdvanceData) (i : ℕ) : Type 0 where
   within : i < length points
   epoch_is : a.epoch ≡ epoch
@@ -35,7 +35,7 @@ above_zero : (epoch from p : ℕ) (points : List ℕ)
     → point_facts epoch from (suc p ∷ points) ≡ Advance (advance_of epoch from (suc p)) ∷ point_facts epoch (suc from) points
 above_zero epoch from p points = search rules
 
--- one place on, where a point stands in front
+-- one index on, where a point is added at the head
 next_place : (epoch from p : ℕ) (points : List ℕ) (a : AdvanceData) (i : ℕ) → StandsAt epoch (suc from) points a i → StandsAt epoch from (p ∷ points) a (suc i)
 next_place epoch from p points a i at = omega arith
 
@@ -209,7 +209,7 @@ module _ (b : BookData) (told : List RecordData) (facts : List Fact) (is : facts
     λ h. one_of (Record r) (inr (inr (inr (in_map Record told r h)))),
   )
 
--- ---- all that a state tells
+-- ---- all that a state exports
 pub told_cut : (s : State) (facts : List Fact) (t : AreExported s facts) (c : CutData) → Contains facts (Cut c) ↔ Contains s.book.cuts c
 told_cut s facts t c = listed_cut s.book t.kept facts t.facts_are c
 

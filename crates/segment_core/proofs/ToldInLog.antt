@@ -1,4 +1,4 @@
--- A state of a sound log takes what a book and records of that log tell.
+-- A state of a sound log takes what a book and records of that log export.
 use Rattle.std.proofs.Common.{◌≡◌, ℕ, ◌<◌, ◌≤◌, ◌⊎◌, inl, inr, ⊎_elim, List, [], ◌∷◌, ◌++◌, length, map, refl, sym, ap, ◌∙◌, subst, arith, rules}
 use Rattle.std.specs.List.{Contains}
 use Rattle.std.proofs.lemmas.List.{append-nil, append_assoc}
@@ -76,7 +76,7 @@ taken_parts (fact ∷ F) G s t takes =
     let rest = taken_parts F G takes.0 t takes.2 in
     (rest.0, (takes.0, takes.1, rest.1), rest.2)
 
--- a book and records tell nothing but what facts of the log, which stand at p, have
+-- a book and records export nothing but what facts of the log, at the position p, have
 pub record ReportsPart (roster : ℕ) (log G : List Fact) (p : Position) (b : BookData) (rs : List RecordData) : Type 0 where
   pub part : IsPart G log
   pub position : IsPosition roster G p
@@ -132,7 +132,7 @@ module _ (roster : ℕ) (log : List Fact) (sound : IsSound roster log) where
   unfolding InLog
   goes_in s fact h inside = search (rules, no_conflict, refuses_conflicts, takes_in)
 
-  -- ---- an advance that stands for one of the log: of the same reader and point, and of an epoch from that one's on which is complete
+  -- ---- an advance that represents one of the log: of the same reader and point, and of an epoch from that one's on which is complete
   record StandsFor (a b : AdvanceData) : Type 0 where
     inside : Contains log (Advance b)
     epochs : b.epoch ≤ a.epoch
@@ -202,7 +202,7 @@ module _ (roster : ℕ) (log : List Fact) (sound : IsSound roster log) where
         takes.takes;
   }
 
-  -- ---- what a book and records of the log tell
+  -- ---- what a book and records of the log export
   record AreOfLog (b : BookData) (rs : List RecordData) : Type 0 where
     epoch : IsCompleteEpoch b.cuts b.complete
     cuts : (c : CutData) → Contains b.cuts c → Contains log (Cut c)
@@ -256,7 +256,7 @@ module _ (roster : ℕ) (log : List Fact) (sound : IsSound roster log) where
         let all = leaves_all s (map Cut b.cuts) t (late_in s x) takes in
         ((all_go InLog first_part cuts_go s x).0 t takes, λ c h. (all.cuts c).1 (inr (in_map Cut b.cuts c h)))
 
-    -- nothing that is told is refused
+    -- nothing that is exported is refused
     none_refused : (s : State) (why : Refusal) → InLog s → RefusesOne s facts why → ⊥
     unfolding first_part rest_part
     none_refused s why x r =
@@ -285,7 +285,7 @@ module _ (roster : ℕ) (log : List Fact) (sound : IsSound roster log) where
         (Contains-append_left waits (map Record rs) fact h)))) two.0 pointed).0 three.0 three.1 in
         (three.0, waited.0, three.2)
 
-    -- a told record that is not dead then is held, or in its page's image
+    -- an exported record that is not dead then is stored, or in its page's image
     kept_of_told : (s t : State) → InLog s → TakesEach s facts t → (r : RecordData) → Contains rs r → Matters t.book.cuts t.book.complete r
         → Contains t.held r ⊎ IsInImage t r
     unfolding InLog
@@ -327,13 +327,13 @@ module _ (roster : ℕ) (log : List Fact) (sound : IsSound roster log) where
     records = t.records;
   }
 
-  -- nothing that they tell is refused
+  -- nothing that they export is refused
   pub none_of_part : (s : State) (F G : List Fact) (p : Position) (b : BookData) (rs : List RecordData) → Means roster log F s → ReportsPart roster log G p b rs
       → (why : Refusal) → RefusesOne s (exported_facts b rs) why → ⊥
   unfolding InLog
   none_of_part s F G p b rs m t why r = none_refused b rs (exported_facts b rs) refl (of_part G p b rs t) s why (F, m) r
 
-  -- and what they tell is kept
+  -- and what they export is kept
   pub kept_of_part : (s t : State) (F G : List Fact) (p : Position) (b : BookData) (rs : List RecordData) → Means roster log F s
       → ReportsPart roster log G p b rs → TakesEach s (exported_facts b rs) t → (r : RecordData) → Contains rs r → Matters t.book.cuts t.book.complete r
       → Contains t.held r ⊎ IsInImage t r

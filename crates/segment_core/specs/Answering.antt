@@ -1,4 +1,4 @@
--- How the answers of a book and of held records become a segment's own.
+-- How the results of a book and of stored records become a segment's own.
 use Rattle.std.specs.Prelude.{◌≡◌, Result, Ok, Err}
 use Rattle.redo_core.specs.Data.{RecordData}
 use Rattle.redo_core.specs.declared.facts.Fact.{Fact}

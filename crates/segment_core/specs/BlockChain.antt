@@ -8,11 +8,11 @@ use Rattle.segment_theorems.specs.HasMeaning.{IsLinkedIn, HasComplete}
 use Rattle.segment_core.specs.declared.answers.ReadFault.{ReadFault}
 use Rattle.segment_core.specs.declared.answers.ReadFault.TheVariants.{BrokenBlockChain}
 
--- n is known to be linked: nothing is missing up to the base point, and from there on the held records link it
+-- n is known to be linked: nothing is missing up to the base point, and from there on the stored records link it
 abbrev pub IsKnownLinked : State → ℕ → Type 0
 IsKnownLinked s n = (n ≤ s.base) ⊎ IsLinkedIn s n
 
--- r is a linked record of the page, with a number at most q
+-- r is a linked record of the page, with an LSN at most q
 abbrev pub IsLinkedOf : State → ℕ → ℕ → RecordData → Type 0
 IsLinkedOf s page q r = Contains s.held r × IsAlive s.book.cuts s.book.complete r.epoch r.number × IsKnownLinked s r.number × (r.page ≡ page) × (r.number ≤ q)
 
@@ -22,7 +22,7 @@ pub data OnBlockChain (s : State) (page q : ℕ) (first : RecordData) : RecordDa
   down : (r below : RecordData) → OnBlockChain s page q first r → r.init ≡ false → version_of s.store page < r.block_back → IsLinkedOf s page q below
       → below.number ≡ r.block_back → OnBlockChain s page q first below
 
--- on that walk, n is the number of a record without `init` whose block backlink leads nowhere
+-- on that walk, n is the LSN of a record without `init` whose block backlink leads nowhere
 pub record BreaksFrom (s : State) (page q : ℕ) (first : RecordData) (n : ℕ) : Type 0 where
   pub at : RecordData
   pub on : OnBlockChain s page q first at
@@ -42,17 +42,17 @@ pub record BreaksAt (s : State) (page q n : ℕ) : Type 0 where
 abbrev pub IsReadable : State → ℕ → Type 0
 IsReadable s q = (min_of s ≤ q) × ((complete : ℕ) × HasComplete s complete × (q ≤ complete))
 
--- a broken block chain is answered exactly where a readable point has one, over any facts
+-- a broken block chain is reported exactly where a readable point has one, for arbitrary facts
 abbrev pub ReportsBreak : State → ℕ → ℕ → Result (List ℕ) ReadFault → Type 0
 ReportsBreak s page q result =
     (g n : ℕ)
     → (result ≡ Err (BrokenBlockChain g n)) ↔ ((g ≡ page) × IsReadable s q × BreaksAt s page q n)
 
--- each alive record with a number up to n is known to be linked
+-- each alive record with an LSN up to n is known to be linked
 abbrev pub IsLinkedUpTo : State → ℕ → Type 0
 IsLinkedUpTo s n = (r : RecordData) → Contains s.held r → IsAlive s.book.cuts s.book.complete r.epoch r.number → r.number ≤ n → IsKnownLinked s r.number
 
--- of these records, each that does not begin its page anew, and whose block backlink is above a version, has it to one of them
+-- of these records, each that does not begin its page from zeros, and whose block backlink is above a version, has it to one of them
 abbrev pub IsChained : ℕ → List RecordData → Type 0
 IsChained version xs =
     (r : RecordData) → Contains xs r → r.init ≡ false → version < r.block_back

@@ -1,4 +1,4 @@
--- All that a take does, over any facts and for the facts that the segment means.
+-- All that a take does, for arbitrary facts and for the facts that the segment means.
 use Rattle.std.specs.Prelude.{◌≡◌, ◌⊎◌, Result, Err, OnOk, OnErr, IfOk, IfErr, IsErrAnd}
 use Rattle.redo_core.specs.declared.facts.Fact.{Fact}
 use Rattle.redo_core.specs.declared.refusal.Refused.{Refused}
@@ -23,7 +23,7 @@ pub record TakesExactly (old : State) (fact : Fact) (result : Result Taken (Refu
   pub back : IfErr result (λ e. e.value ≡ fact)
   pub unchanged : OnErr result (new ≡ old)
 
--- What a take in a union does: a take, of which the fact is dropped, or nothing, where memory is wanting for the note.
+-- What a take in a merge transaction does: a take, of which the fact is dropped, or nothing, where memory runs out for the note.
 abbrev pub TakesNoted : State → Fact → Result Taken Refusal → State → Type 0
 TakesNoted old fact result new =
     ((result ≡ Err Memory) × (new ≡ old))

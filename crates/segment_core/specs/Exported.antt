@@ -1,4 +1,4 @@
--- What one segment tells another: facts, in the order in which they are taken.
+-- What one segment exports to another: facts, in the order in which they are taken.
 use Rattle.std.specs.Prelude.{◌≡◌, ℕ, suc, ◌==◌, if◌then◌else◌, List, [], ◌∷◌, ◌++◌, map}
 use Rattle.redo_core.specs.Data.{RecordData, advance_of}
 use Rattle.redo_core.specs.Order.{Lists, RecordBefore}
@@ -22,7 +22,7 @@ book_facts b = map Cut b.cuts ++ (point_facts b.complete 1 b.points ++ map Advan
 abbrev pub exported_facts : BookData → List RecordData → List Fact
 exported_facts b kept = map Cut b.cuts ++ (point_facts b.complete 1 b.points ++ (map Advance b.waits ++ map Record kept))
 
--- the facts are those that the state tells, where the records are the kept ones, rising by key
+-- the facts are those that the state exports, where the records are the kept ones, rising by key
 pub record AreExported (s : State) (facts : List Fact) : Type 0 where
   pub anchor : ℕ
   pub kept : List RecordData

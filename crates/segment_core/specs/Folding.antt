@@ -22,12 +22,12 @@ pub record IsFoldOf (facts : List Fact) (p : Position) (page : ℕ) (folded : Fo
   pub version_is : folded.version ≡ p.anchor
   pub image_is : IsPageAt facts p.epoch page p.anchor folded.image
 
--- what a plan answers for the facts that the segment means: only memory can be wanting
+-- what a plan returns for the facts that the segment means: only memory can run out
 abbrev pub IsPlanResult : List Fact → Position → ℕ → Result Folded ReadFault → Type 0
 IsPlanResult facts p page (Ok folded) = IsFoldOf facts p page folded
 IsPlanResult facts p page (Err fault) = fault ≡ Memory
 
--- the page that the state itself shows at its anchor, over any facts
+-- the page that the state itself shows at its anchor, for arbitrary facts
 pub record FoldsPage (s : State) (page : ℕ) (folded : Folded) : Type 0 where
   pub page_is : folded.page ≡ page
   pub version_is : HasAnchor s folded.version
@@ -37,7 +37,7 @@ pub record FoldsPage (s : State) (page : ℕ) (folded : Folded) : Type 0 where
 abbrev pub BreaksBelowAnchor : State → ℕ → ℕ → Type 0
 BreaksBelowAnchor s page n = (anchor : ℕ) × HasAnchor s anchor × BreaksAt s page anchor n
 
--- a plan is made of the page at the anchor, exactly where its block chain is whole there and memory is not wanting
+-- a plan is made of the page at the anchor, exactly where its block chain is whole there and memory does not run out
 abbrev pub PlansFold : State → ℕ → Result Folded ReadFault → Type 0
 PlansFold s page (Ok folded) = FoldsPage s page folded × ((n : ℕ) → BreaksBelowAnchor s page n → ⊥)
 PlansFold s page (Err (BrokenBlockChain g n)) = (g ≡ page) × BreaksBelowAnchor s page n
@@ -50,7 +50,7 @@ pub record Commits (old : State) (folded : Folded) (new : State) : Type 0 where
   pub images : Raises old.store folded.page folded.version folded.image new.store
   pub newer : version_of old.store folded.page < folded.version → CommitsImage old folded.page folded.version folded.image new
 
--- why a fold is not committed: its version is above the anchor, or it is above the page's own and memory is wanting
+-- why a fold is not committed: its version is above the anchor, or it is above the page's own and memory runs out
 abbrev pub RefusesCommit : State → Folded → CommitFault → Type 0
 RefusesCommit old folded (commit.Ahead version anchor) = (version ≡ folded.version) × (anchor < version) × HasAnchor old anchor
 RefusesCommit old folded commit.Memory = version_of old.store folded.page < folded.version

@@ -39,7 +39,7 @@ pub record DiscardsJust (old new : State) : Type 0 where
 abbrev pub with_store : State → Store → State
 with_store s store = state_of s.book s.held s.base store
 
--- Each page of a held record shows what the state itself shows at the anchor, at that version unless its own is higher. Each other
+-- Each page of a stored record shows what the state itself shows at the anchor, at that version unless its own is higher. Each other
 -- page stays, and no image is stored but for those pages.
 pub record FoldsImages (s : State) (anchor : ℕ) (store : Store) : Type 0 where
   pub versions : (r : RecordData) → Contains s.held r → version_of store r.page ≡ max (version_of s.store r.page) anchor
@@ -48,12 +48,12 @@ pub record FoldsImages (s : State) (anchor : ℕ) (store : Store) : Type 0 where
   pub listed : (i : StoredImage) → Contains store.images i → Contains s.store.images i ⊎ ((r : RecordData) × Contains s.held r × (r.page ≡ i.page))
   pub floor : store.floor ≡ s.store.floor
 
--- base images with which the state means the same, where the pages of held records are folded to the anchor
+-- base images with which the state means the same, where the pages of stored records are folded to the anchor
 pub record FoldsAll (s : State) (store : Store) : Type 0 where
   pub keeps : KeepsMeaning s (with_store s store)
   pub images : (anchor : ℕ) → HasAnchor s anchor → FoldsImages s anchor store
 
--- the base point is the anchor, to which the pages of held records are folded, and just the kept records are held
+-- the base point is the anchor, to which the pages of stored records are folded, and just the kept records are stored
 pub record Tidies (old new : State) : Type 0 where
   pub book : new.book ≡ old.book
   pub base : HasAnchor old new.base
@@ -79,7 +79,7 @@ pub record IsFirstBreak (s : State) (page n : ℕ) : Type 0 where
   pub breaks : BreaksBelowAnchor s page n
   pub least : (other m : ℕ) → BreaksBelowAnchor s other m → page ≤ other
 
--- a broken block chain is answered exactly where there is one, and then of the least page, over any facts
+-- a broken block chain is reported exactly where there is one, and then of the least page, for arbitrary facts
 abbrev pub ReportsFirstBreak : State → Result Unit ReadFault → Type 0
 ReportsFirstBreak s result =
     (page n : ℕ)

@@ -16,12 +16,12 @@ use Rattle.hot_log.specs.Gaps.{HangsOn, HasWaiting}
 use Rattle.segment_core.specs.declared.answers.Gap.{Gap}
 use Rattle.segment_core.specs.declared.answers.Gap.TheVariants.{Record, Truncation}
 
--- a held record that is alive and above each linked number, so above the complete point
+-- a stored record that is alive and above each linked LSN, so above the complete point
 abbrev pub IsAhead : State → RecordData → Type 0
 IsAhead s r = IsHeldAlive s.book s.held r × ((n : ℕ) → IsLinkedIn s n → n < r.number)
 
--- The gap of a state, over any facts: the number on which the first record ahead hangs, which is not linked; where none is ahead and
--- held records wait, the truncation of the epoch after the complete one; none where no held record is ahead or waits.
+-- The gap of a state, for arbitrary facts: the LSN that the first record ahead is blocked by, which is not linked; where none is ahead
+-- and stored records wait, the truncation of the epoch after the complete one; none where no stored record is ahead or waits.
 abbrev pub IsGapOf : State → Option Gap → Type 0
 IsGapOf s (Some (Record n)) =
     (first : RecordData) × IsFirst BeforeByNumber (IsAhead s) first × HangsOn s.book s.held first n × (IsLinkedIn s n → ⊥)
@@ -29,7 +29,7 @@ IsGapOf s (Some (Truncation epoch)) =
     ((r : RecordData) → IsAhead s r → ⊥) × HasWaiting s.book s.held × (epoch ≡ s.book.complete + 1)
 IsGapOf s None = ((r : RecordData) → IsAhead s r → ⊥) × (HasWaiting s.book s.held → ⊥)
 
--- a record of the facts that is alive where they stand
+-- a record of the facts that is alive at their position
 abbrev pub IsAliveOf : List Fact → Position → RecordData → Type 0
 IsAliveOf facts p r = Contains (records facts) r × IsAlive (cuts facts) p.epoch r.epoch r.number
 
@@ -37,8 +37,8 @@ IsAliveOf facts p r = Contains (records facts) r × IsAlive (cuts facts) p.epoch
 abbrev pub AllLinked : List Fact → Position → Type 0
 AllLinked facts p = (r : RecordData) → IsAliveOf facts p r → IsLinked facts p.epoch r.number
 
--- A record of the log with the number n is not among the facts, and the complete point stands below it: one of the facts' alive records
--- names it as its segment backlink, and none of them has a number above the complete point and up to n.
+-- A record of the log with the LSN n is not among the facts, and the complete point is below it: one of the facts' alive records
+-- names it as its segment backlink, and none of them has an LSN above the complete point and up to n.
 pub record LacksRecord (log facts : List Fact) (p : Position) (n : ℕ) : Type 0 where
   pub missing : RecordData
   pub of_log : Contains (records log) missing
@@ -57,7 +57,7 @@ pub record LacksTruncation (log facts : List Fact) (p : Position) (epoch : ℕ) 
   pub of_log : (c : CutData) × Contains (cuts log) c × (c.epoch ≡ epoch)
   pub missing : LacksCut (cuts facts) epoch
 
--- the gap of facts of a sound log that stand at p; with none, no record waits, and each alive one is linked
+-- the gap of facts of a sound log at the position p; with none, no record waits, and each alive one is linked
 abbrev pub IsGapAt : List Fact → List Fact → Position → Option Gap → Type 0
 IsGapAt log facts p (Some (Record n)) = LacksRecord log facts p n
 IsGapAt log facts p (Some (Truncation epoch)) = LacksTruncation log facts p epoch

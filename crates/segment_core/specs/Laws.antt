@@ -1,4 +1,4 @@
--- What a raise of an image is for a state, and what a segment has forgotten.
+-- What a raise of an image is for a state, and what a segment has dropped.
 use Rattle.std.specs.Prelude.{◌≡◌, ℕ, ◌<◌, ◌≤◌, List}
 use Rattle.std.specs.List.{Contains}
 use Rattle.redo_core.specs.Data.{RecordData}
@@ -18,7 +18,7 @@ RaiseCommits =
     → new.book ≡ old.book → new.held ≡ old.held → new.base ≡ old.base → version_of old.store page < version
     → Raises old.store page version image new.store → CommitsImage old page version image new
 
--- After a commit up to the anchor and then a discard, no alive record of that page at or below the committed version is held.
+-- After a commit up to the anchor and then a discard, no alive record of that page at or below the committed version is stored.
 abbrev pub FoldedIsForgotten : Type 0
 FoldedIsForgotten =
     (anchor : ℕ) (old committed new : State) (folded : Folded) (r : RecordData)

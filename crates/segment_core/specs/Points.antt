@@ -12,22 +12,22 @@ use Rattle.hot_log.specs.Alive.{HasNoneEarlier, IsHeldAlive, IsLinkedFrom, IsCon
 use Rattle.segment_core.specs.declared.points.Points.{Points}
 use Rattle.segment_core.specs.declared.points.Spared.{Spared}
 
--- n is the greatest number that the held records link from a number on
+-- n is the greatest LSN that the stored records link from an LSN on
 pub record IsTop (book : BookData) (held : List RecordData) (from n : ℕ) : Type 0 where
   pub linked : IsLinkedFrom book held from n
   pub most : (m : ℕ) → IsLinkedFrom book held from m → m ≤ n
 
--- n is the greatest of those numbers up to a limit
+-- n is the greatest of those LSNs up to a limit
 pub record IsTopTo (book : BookData) (held : List RecordData) (from limit n : ℕ) : Type 0 where
   pub linked : IsLinkedFrom book held from n
   pub bound : n ≤ limit
   pub most : (m : ℕ) → IsLinkedFrom book held from m → m ≤ limit → m ≤ n
 
--- the points of a chain that is a number alone
+-- the points of a chain that is one LSN alone
 abbrev pub points_at : ℕ → Points
 points_at from = record { complete = from; anchor = from; straight = true; since = 0 }
 
--- Each point is the greatest number that is linked from where it stood; the anchor is not above the minimum read point, and no alive
+-- Each point is the greatest LSN that is linked from its old position; the anchor is not above the minimum read point, and no alive
 -- record above the complete point is of an epoch before `since`.
 pub record MoveOn (book : BookData) (held : List RecordData) (old new : Points) : Type 0 where
   pub complete : IsTop book held old.complete new.complete
@@ -35,8 +35,8 @@ pub record MoveOn (book : BookData) (held : List RecordData) (old new : Points) 
   pub straight : IsTrue new.straight → IsContiguous book held old.complete new.complete
   pub since : HasNoneEarlier book held new.complete new.since
 
--- The points of held records over a base point: the complete point is the greatest number linked from there, the anchor the
--- greatest of them up to the minimum read point, and where the chain is called straight it is.
+-- The points of stored records over a base point: the complete point is the greatest LSN linked from there, the anchor the
+-- greatest of them up to the minimum read point, and where `straight` is set the chain is contiguous.
 abbrev pub HasPoints : BookData → List RecordData → ℕ → Points → Type 0
 HasPoints book held base points = MoveOn book held (points_at base) points
 
@@ -61,12 +61,12 @@ pub record IsLaterBook (old new : BookData) : Type 0 where
   pub complete : old.complete ≤ new.complete
   pub minimum : least old.points ≤ least new.points
 
--- the greatest number up to a limit that is linked from the base point; the base point itself may be above the limit
+-- the greatest LSN up to a limit that is linked from the base point; the base point itself may be above the limit
 pub record IsSparedChain (book : BookData) (held : List RecordData) (base : ℕ) (spared : Spared) : Type 0 where
   pub linked : IsLinkedFrom book held base spared.number
   pub most : (m : ℕ) → IsLinkedFrom book held base m → m ≤ spared.limit → m ≤ spared.number
 
--- the points were kept over an earlier book, whose complete epoch is given, and there this number was spared
+-- the points were kept over an earlier book, whose complete epoch is given, and there this LSN was spared
 pub record WerePoints (book : BookData) (held : List RecordData) (base epoch : ℕ) (points : Points) (spared : Spared) : Type 0 where
   pub earlier : BookData
   pub later : IsLaterBook earlier book
@@ -74,8 +74,8 @@ pub record WerePoints (book : BookData) (held : List RecordData) (base epoch : �
   pub had : HasPoints earlier held base points
   pub stays : IsTrue points.straight → IsSparedChain earlier held base spared
 
--- A number to which the epochs above one have done nothing: the limit is the least lo of their truncations, the number is not above it,
--- and none of their alive records has a backlink below the number.
+-- An LSN that the epochs above one leave unchanged: the limit is the least lo of their truncations, the LSN is not above it,
+-- and none of their alive records has a backlink below the LSN.
 pub record IsUntouched (book : BookData) (held : List RecordData) (epoch : ℕ) (spared : Spared) : Type 0 where
   pub cut : (c : CutData) × Contains book.cuts c × (epoch < c.epoch) × (c.epoch ≤ book.complete) × (c.lo ≡ spared.limit)
   pub least : (c : CutData) → Contains book.cuts c → epoch < c.epoch → c.epoch ≤ book.complete → spared.limit ≤ c.lo
@@ -88,7 +88,7 @@ Meets book r old new =
     (new.complete ≡ old.complete) × (new.anchor ≡ old.anchor) × (new.straight ≡ old.straight) × (new.since ≤ old.since)
     × (IsAlive book.cuts book.complete r.epoch r.number → new.since ≤ r.epoch)
 
--- a record of this number has joined the held ones at the complete point of a straight chain
+-- a record with this LSN has joined the stored ones at the complete point of a contiguous chain
 pub record JoinsOnTop (book : BookData) (held : List RecordData) (base number : ℕ) (points : Points) : Type 0 where
   pub earlier : List RecordData
   pub redo : RecordData
@@ -101,6 +101,6 @@ pub record JoinsOnTop (book : BookData) (held : List RecordData) (base number : 
   pub had : HasPoints book earlier base points
   pub since : HasNoneEarlier book held points.complete points.since
 
--- where the chain goes on from a number, the anchor goes on from there if the minimum read point has come so far, and else stays
+-- where the chain continues from an LSN, the anchor continues from there if the minimum read point has come so far, and else stays
 abbrev pub AnchorsOn : BookData → List RecordData → ℕ → ℕ → ℕ → Type 0
 AnchorsOn book held from old new = (least book.points < from → new ≡ old) × (from ≤ least book.points → IsTopTo book held from (least book.points) new)

@@ -10,13 +10,13 @@ use Rattle.segment_core.specs.declared.answers.Front.{Front}
 use Rattle.segment_core.specs.declared.answers.ReadFault.{ReadFault}
 use Rattle.segment_core.specs.declared.answers.ReadFault.TheVariants.{Below, Above, BrokenBlockChain, Memory}
 
--- the front of facts that stand at p
+-- the front of facts at the position p
 pub record IsFrontAt (p : Position) (front : Front) : Type 0 where
   pub epoch : front.epoch ≡ p.epoch
   pub complete : front.complete ≡ p.complete
   pub min : front.min ≡ p.min
 
--- the front that the state tells by itself, over any facts
+-- the front that the state returns by itself, for arbitrary facts
 pub record IsFrontOf (s : State) (front : Front) : Type 0 where
   pub epoch : front.epoch ≡ s.book.complete
   pub complete : HasComplete s front.complete
@@ -34,7 +34,7 @@ abbrev pub IsReadResult : List Fact → Position → ℕ → ℕ → Result (Lis
 IsReadResult facts p page q (Ok image) = IsReadAnswer facts p page q (OfImage image)
 IsReadResult facts p page q (Err fault) = IsReadFault facts p page q fault
 
--- Below and Above are answered exactly where the state's own minimum and complete point have the point outside, over any facts
+-- Below and Above are returned exactly where the state's own minimum and complete point have the point outside, for arbitrary facts
 abbrev pub ReportsOutside : State → ℕ → Result (List ℕ) ReadFault → Type 0
 ReportsOutside s q result =
     (complete n : ℕ) → HasComplete s complete

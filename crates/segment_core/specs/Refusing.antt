@@ -1,4 +1,4 @@
--- When a take is refused, over any facts.
+-- When a take is refused, for arbitrary facts.
 use Rattle.std.specs.Prelude.{◌≡◌, ◌≢◌, ℕ, ◌⊎◌, List}
 use Rattle.std.specs.List.{Contains}
 use Rattle.redo_core.specs.Data.{RecordData}
@@ -19,7 +19,7 @@ abbrev pub IsDeadOrSettled : State → RecordData → Type 0
 IsDeadOrSettled s r =
     IsDead s.book.cuts s.book.complete r.epoch r.number ⊎ (IsAlive s.book.cuts s.book.complete r.epoch r.number × IsStable s r.number)
 
--- another record is held under its key
+-- another record is stored under its key
 abbrev pub HoldsOther : State → RecordData → Type 0
 HoldsOther s r = (other : RecordData) × Contains s.held other × (other.epoch ≡ r.epoch) × (other.number ≡ r.number) × (other ≢ r)
 
@@ -32,6 +32,6 @@ Refuses s (Advance a) (Contradiction held) = RefusesAdvance s.book a (book.Contr
 Refuses s (Record r) OtherRecord = (IsDeadOrSettled s r → ⊥) × HoldsOther s r
 Refuses s fact why = ⊥
 
--- the fact stands in a sound log, and the state means a part of it
+-- the fact is in a sound log, and the state means a part of it
 abbrev pub FitsSoundLog : State → Fact → Type 0
 FitsSoundLog s fact = (roster : ℕ) × (log facts : List Fact) × IsSound roster log × Contains log fact × Means roster log facts s

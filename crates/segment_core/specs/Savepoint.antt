@@ -1,4 +1,4 @@
--- What a segment is brought back to, while it takes facts that may yet be refused.
+-- What a segment is rolled back to, while it takes facts that may yet be refused.
 use Rattle.std.specs.Prelude.{◌≡◌, List, [], ◌∷◌, ◌++◌, Bool, not, ◌&&◌, eqb}
 use Rattle.std.specs.Borrow.{GName}
 use Rattle.std.specs.List.{filter}
@@ -11,7 +11,7 @@ use Rattle.segment_core.specs.Form.{IsSegment}
 use Rattle.segment_core.specs.Points.{HasPoints}
 use Rattle.segment_core.specs.declared.points.Points.{Points}
 
--- the book, the points and the pages that were due as they were, and the keys of the records that have come in since
+-- the book, the points and the pending pages as they were, and the keys of the records that have come in after that
 pub record SavepointData : Type 0 where
   pub book : BookData
   pub points : Points
@@ -31,11 +31,11 @@ unfoldable pub without : List Key → List RecordData → List RecordData
 without [] held = held
 without (key ∷ keys) held = without keys (filter (λ r. not (has_key key r)) held)
 
--- what a savepoint brings a state back to: the saved book, and the records that were there before
+-- what a savepoint rolls a state back to: the saved book, and the records that were there before
 abbrev pub brought_back : SavepointData → State → State
 brought_back saved s = state_of saved.book (without saved.came s.held) s.base s.store
 
--- What a union began with: which segment it lends, its state, and the points and the due pages of that.
+-- What a merge transaction began with: which segment it borrows, its state, and the points and the pending pages of that.
 pub record Began : Type 0 where
   pub lent : GName
   pub state : State
@@ -45,7 +45,7 @@ pub record Began : Type 0 where
 abbrev pub began_by : GName → SavepointData → State → Began
 began_by lent saved s = record { lent = lent; state = brought_back saved s; points = saved.points; due = saved.due }
 
--- the state has the form of a segment's, and these are its points and its due pages
+-- the state has the form of a segment's, and these are its points and its pending pages
 pub record IsFormOf (s : State) (points : Points) (due : PendingData) : Type 0 where
   pub form : IsSegment s
   pub points_are : HasPoints s.book s.held s.base points

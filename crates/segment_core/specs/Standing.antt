@@ -1,4 +1,4 @@
--- How a record of an epoch and number stands in a segment.
+-- Whether a record of an epoch and LSN is alive, dead or waiting in a segment.
 use Rattle.std.specs.Prelude.{◌≡◌, ℕ, ◌↔◌}
 use Rattle.redo_core.specs.Standing.{IsAlive, IsDead, IsWaiting}
 use Rattle.segment_theorems.specs.State.{State}

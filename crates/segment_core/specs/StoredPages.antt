@@ -15,13 +15,13 @@ use Rattle.segment_theorems.specs.HasMeaning.{HasAnchor}
 abbrev pub IsImageOf : List StoredImage → ℕ → Type 0
 IsImageOf images page = (i : StoredImage) × Contains images i × (i.page ≡ page)
 
--- the images from a place on are those of pages above one
+-- the images from an index on are those of pages above one
 pub record BeginsAbove (after : Option ℕ) (images : List StoredImage) (place : ℕ) : Type 0 where
   pub bound : place ≤ length images
   pub before : All (λ i. IsPageAbove after i.page → ⊥) (take place images)
   pub from : (k : ℕ) (i : StoredImage) → place ≤ k → k < length images → IsPageAbove after (slice_index_or images k i).page
 
--- the page has an image, or a held record writes it
+-- the page has an image, or a stored record writes it
 abbrev pub IsStoredPage : State → ℕ → Type 0
 IsStoredPage s page = IsImageOf s.store.images page ⊎ ((r : RecordData) × Contains s.held r × (r.page ≡ page))
 

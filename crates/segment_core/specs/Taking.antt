@@ -18,16 +18,16 @@ ReportsChange old fact taken =
     (roster : ℕ) (log facts : List Fact) (m : Meaning) → IsSound roster log → Contains log fact → Means roster log facts old → IsMeaning roster facts m
     → (taken ≡ Unchanged) ↔ IsMeaning roster (facts ++ fact ∷ []) m
 
--- It is answered exactly where what is stored tells the fact already, over any facts.
+-- It is returned exactly where what is stored contains the fact already, for arbitrary facts.
 abbrev pub ReportsKnown : State → Fact → Taken → Type 0
 ReportsKnown old fact taken = (taken ≡ Unchanged) ↔ IsKnown old fact
 
--- The fact has joined what is stored: the record is held, the truncation is learnt, or the advance counts or waits.
+-- The fact has joined what is stored: the record is stored, the truncation is learnt, or the advance takes effect or waits.
 abbrev pub Stores : State → Fact → State → Type 0
 Stores old (Record r) new = PutsRecord old r new
 Stores old (Cut c) new = StoresCut old c new
 Stores old (Advance a) new = StoresAdvance old a new
 
--- what is stored does not tell the fact yet
+-- what is stored does not contain the fact yet
 abbrev pub IsNew : State → Fact → Type 0
 IsNew s fact = IsKnown s fact → ⊥

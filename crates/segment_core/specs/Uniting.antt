@@ -1,4 +1,4 @@
--- How a segment takes in images, and holds a record that is not compared.
+-- How a segment merges images, and inserts a record that is not compared.
 use Rattle.std.specs.Prelude.{◌≡◌, ℕ, ◌⊎◌, List, max}
 use Rattle.std.specs.List.{Contains}
 use Rattle.redo_core.specs.Data.{RecordData}
@@ -6,7 +6,7 @@ use Rattle.page_base.specs.Merging.{Merges}
 use Rattle.segment_theorems.specs.State.{State, StoredImage, SameBase}
 use Rattle.segment_core.specs.Refusing.{HoldsOther}
 
--- the record is held, or another one is under its key; nothing else changes
+-- the record is stored, or another one is under its key; nothing else changes
 pub record HoldsRecord (old : State) (r : RecordData) (new : State) : Type 0 where
   pub book : new.book ≡ old.book
   pub rest : SameBase old new
@@ -21,7 +21,7 @@ pub record RaisesBase (old : State) (base : ℕ) (new : State) : Type 0 where
   pub base_is : new.base ≡ max old.base base
   pub store : new.store ≡ old.store
 
--- the book and the held records stay, the base point is raised to the base, and the images are taken in over the floor
+-- the book and the stored records stay, the base point is raised to the base, and the images are merged over the default version
 pub record Unites (old : State) (base floor : ℕ) (given : List StoredImage) (new : State) : Type 0 where
   pub book : new.book ≡ old.book
   pub held : new.held ≡ old.held

@@ -7,8 +7,8 @@ use redo_core::SharedPage;
 use std::alloc::AllocError;
 
 impl Segment {
-    /// The page at the anchor, as the held records up to there make it from its image: where none is applied, the image itself, shared.
-    /// Its block chain is not walked. It fails only if memory runs out.
+    /// The page at the anchor: its image with the stored records up to there applied. Where none is applied, the image itself is shared.
+    /// The call does not walk the block chain. It fails only if memory runs out.
     pub fn page_at_anchor(&self, page: u16) -> Result<SharedPage, AllocError>
         ensures { (anchor : ℕ) → HasAnchor self.now anchor → IfOk result (λ image. Shows self.now page anchor image) }
     {

@@ -6,7 +6,7 @@ use crate::segment::Segment;
 use messages::{Book, BookRef};
 use std::alloc::AllocError;
 
-/// The book of a segment, lent: its truncations, complete epoch, readers' points and waiting advances.
+/// Borrows the book of a segment: its truncations, complete epoch, readers' points and waiting advances.
 pub fn book_ref(segment: &Segment) -> BookRef<'_>
     ensures book { result ≡ segment.now.book }
     ensures form { IsSegment segment.now }

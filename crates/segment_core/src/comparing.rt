@@ -10,7 +10,7 @@ use std::alloc::AllocError;
 
 impl Segment {
     /// Whether a page at a point is that of another segment at a point of its own. Where the base images show both, they are
-    /// compared where they stand. It fails only if memory runs out.
+    /// compared in place. It fails only if memory runs out.
     pub fn is_same_page(
         &self,
         page: u16,
@@ -28,7 +28,7 @@ impl Segment {
         Ok(is_equal(&own, &others))
     }
 
-    /// Whether the page at a point is its base image: no held record is applied to that.
+    /// Whether the page at a point is its base image: no stored record is applied to that.
     pub(crate) fn shows_its_image(&self, page: u16, point: u64) -> bool
         ensures { IsTrue result → Shows self.now page point (image_of self.now.store page) }
     {

@@ -3,8 +3,8 @@
 use epoch_book::EpochBook;
 use redo_core::Cut;
 
-/// The least `lo` of a truncation and of those that count with it, where its epoch is the next one and it contradicts nothing; else the
-/// greatest number. It spares searches: whether it is right is asked of the book that has learnt the truncation.
+/// The least `lo` of a truncation and of those that take effect with it, where its epoch is the next one and it contradicts nothing; else
+/// the greatest LSN. This only spares searches: the book that has learnt the truncation decides whether it is right.
 pub(crate) fn lo_opened_by(book: &EpochBook, cut: Cut) -> u64 {
     let complete = book.complete_epoch();
     if cut.epoch() != complete.saturating_add(1) || book.against_cut(cut).is_some() {

@@ -57,7 +57,7 @@ fn image_at_anchor(segment: &Segment, page: u16) -> Result<Option<PageImage>, Al
     Ok(Some(PageImage::new(page, image)))
 }
 
-/// The least page above the one given that has an image, or that a held record writes.
+/// The least page above the one given that has an image, or that a stored record writes.
 pub fn stored_page_after(segment: &Segment, after: Option<u16>) -> Option<u16>
     ensures { IsLeast (λ g. IsStoredPage segment.now g × IsPageAbove after g) result }
 {

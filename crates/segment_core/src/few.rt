@@ -2,8 +2,8 @@ ghost use Rattle.std.specs.Prelude.{◌≤◌, ◌*◌, ◌↔◌, length, IsTru
 
 use crate::segment::Segment;
 
-/// Whether so many records are few of those that a segment holds, at most one of eight: it is then cheaper to look each of them up than
-/// to go over all.
+/// Whether `count` records are few of those that a segment stores, at most one of eight: it is then cheaper to look each of them up than
+/// to scan all.
 pub fn prefers_lookup(count: usize, segment: &Segment) -> bool
     ensures { IsTrue result ↔ (8 * count ≤ length segment.now.held) }
 {

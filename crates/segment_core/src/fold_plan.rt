@@ -6,7 +6,7 @@ use std::alloc::AllocError;
 use std::marker::Model;
 use thiserror::Error;
 
-/// A page put together up to a version, which is a number of the log.
+/// A page put together up to a version, which is an LSN.
 #[derive(Drop)]
 pub struct Folded {
     pub page: u16,

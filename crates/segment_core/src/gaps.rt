@@ -11,11 +11,11 @@ use crate::segment::Segment;
 use hot_log::View;
 
 impl Segment {
-    /// What the complete point waits for: the record on which the first alive record above it hangs, or else the truncation of the next
-    /// epoch, where held records wait for that. None where no held record waits or is alive above the complete point.
+    /// What the complete point waits for: the record that blocks the first alive record above it, or else the truncation of the next
+    /// epoch, where stored records wait for that. None where no stored record waits or is alive above the complete point.
     pub fn gap(&self) -> Option<Gap>
         ensures gap { (roster : ℕ) (log facts : List AnyFact) (p : Position) → IsSound roster log → MeansAt roster log facts p self.now → IsGapAt log facts p result }
-        // Over any facts.
+        // For arbitrary facts.
         ensures own { IsGapOf self.now result }
         ensures form { IsSegment self.now }
     {

@@ -13,8 +13,8 @@ impl Segment {
     /// Raises the base point to `base` where that is higher, and adopts base images: each page of a version below `base` takes
     /// the first image given for it, or zeros, at `base`.
     ///
-    /// `base` is a number of the log, at most the minimum read point. It fails only if memory runs out: the segment is then as
-    /// it was, and the images come back.
+    /// `base` is an LSN, at most the minimum read point. It fails only if memory runs out: the segment is then as it was, and the
+    /// error returns the images.
     pub fn adopt(
         &mut self,
         base: u64,
@@ -35,8 +35,8 @@ impl Segment {
         }
     }
 
-    /// Raises the base point to `base`, and takes in images: each is raised to its version, and then each page below `floor` to it,
-    /// as zeros.
+    /// Raises the base point to `base`, and merges images: each is raised to its version, and then each page below the default version `floor`
+    /// to that, as zeros.
     ///
     /// `base` is at most the minimum read point. The only error is lack of memory: the segment is then as it was.
     pub fn unite(&mut self, base: u64, floor: u64, images: Vec<BaseImage>) -> Result<(), AllocError>

@@ -13,11 +13,11 @@ use crate::merge_transaction::MergeTransaction;
 use messages::BookRef;
 use redo_core::{Advance, Cut, Fact, Record};
 
-/// Takes what is told into a segment that is brought into a union: of a book its truncations, each reader's point as an advance in its
-/// complete epoch, its waiting advances, and then records, in that order.
+/// Takes exported facts into a merge transaction: of a book its truncations, each reader's point as an advance in its complete epoch,
+/// its waiting advances, and then records, in that order.
 ///
-/// Errors: as of the first of these facts that `take` refuses; `Memory`. The facts before it are then taken, and the union is to be
-/// dropped, which rolls the segment back.
+/// Errors: as of the first of these facts that `take` refuses; `Memory`. The facts before it are then taken: drop the transaction,
+/// which rolls the segment back.
 pub fn import_facts(
     union: &mut MergeTransaction<'_>,
     book: &BookRef<'_>,
@@ -33,7 +33,7 @@ pub fn import_facts(
     take_records(union, records)
 }
 
-/// Takes what a book tells: truncations, each reader's point as an advance in the complete epoch, waiting advances.
+/// Takes the facts of a book: truncations, each reader's point as an advance in the complete epoch, waiting advances.
 fn take_book(union: &mut MergeTransaction<'_>, book: &BookRef<'_>) -> Result<(), Refusal>
     ensures takes { OnOk result (TakesEach (reached union.old) (book_facts book.now) (reached union.new)) }
     ensures refused { IfErr result (λ e. (e ≡ MemoryOf) ⊎ RefusesOne (reached union.old) (book_facts book.now) e) }
@@ -52,7 +52,7 @@ fn take_book(union: &mut MergeTransaction<'_>, book: &BookRef<'_>) -> Result<(),
     take_waits(union, waits)
 }
 
-/// Takes one fact, whether or not it tells anything new.
+/// Takes one fact, whether or not it is new.
 fn take_one(union: &mut MergeTransaction<'_>, fact: Fact) -> Result<(), Refusal>
     ensures takes { OnOk result (TakesOne (reached union.old) fact (reached union.new)) }
     ensures refused { IfErr result (λ e. (e ≡ MemoryOf) ⊎ RefusesOne (reached union.old) (fact ∷ []) e) }

@@ -14,7 +14,7 @@ impl Segment {
         self.book.has_cut(cut)
     }
 
-    /// Whether an advance tells nothing new: its reader's point is not below it, or it waits already.
+    /// Whether an advance adds nothing new: its reader's point is not below it, or it waits already.
     pub fn knows_advance(&self, advance: Advance) -> bool
         ensures { IsTrue result ↔ IsKnown self.now (OfAdvance advance) }
     {

@@ -1,12 +1,12 @@
-//! One segment: it keeps the facts that reached it and answers as that set of facts, also of records that it has thrown away.
+//! One segment: it keeps the facts that reached it and answers as that set of facts, including the records that it has dropped.
 //!
-//! For every sound log, and every part of it that a segment means: `take` on Ok makes it mean the part with the fact, says
+//! For every sound log, and every part of it that a segment means: `take` on Ok makes it mean the part with the fact, returns
 //! `Changed` exactly where the meaning changed, and is refused only if memory runs out; `front`, `anchor`, `gap` and `read` answer
-//! for the part, whatever order its facts came in. A fold (`plan_fold`, `FoldPlan::fold`, `commit_fold`) brings a page's image to
-//! the anchor, a `discard` forgets the records that images have, a `tidy` leaves just the kept ones: all keep what the segment
-//! means. Over any facts a take says what it stored, each refusal but lack of memory comes exactly where its definition says, and so
-//! do a broken block chain and a gap. A `MergeTransaction` takes facts, holds records and takes images in, and rolls the segment back where it
-//! is dropped before its end: so what another segment tells is taken whole or not at all, and the held records are not copied for it.
+//! for the part, whatever order its facts came in. A fold (`plan_fold`, `FoldPlan::fold`, `commit_fold`) raises a page's image to
+//! the anchor, a `discard` drops the records that images have, a `tidy` leaves just the kept ones: all keep what the segment
+//! means. For arbitrary facts a take reports what it stored, and each refusal but lack of memory, a broken block chain and a gap are
+//! returned exactly where their definitions hold. A `MergeTransaction` takes facts, inserts records and merges images, and rolls the
+//! segment back where it is dropped before its end: so a segment merges all that another exports or nothing, and copies no stored record.
 #![tactic(auto)]
 
 mod answers;

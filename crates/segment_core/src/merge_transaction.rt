@@ -1,4 +1,4 @@
-//! A segment that is brought into a union: facts are taken and records held in place, and a refusal takes them all back.
+//! A transaction that merges facts, records and images into a segment in place; a refusal rolls all of them back.
 ghost use Rattle.std.specs.Prelude.{◌≡◌, ◌≤◌, OnOk, OnErr};
 ghost use Rattle.redo_core.specs.declared.facts.Fact.TheVariants.{Record as OfRecord};
 ghost use Rattle.segment_theorems.specs.State.{min_of};
@@ -15,7 +15,7 @@ use page_base::BaseImage;
 use redo_core::{Fact, Record, Refused};
 use std::alloc::AllocError;
 
-/// A segment that is brought into a union. Where it is dropped before `unite`, the segment is rolled back to what it was.
+/// A merge in progress on a segment. Where it is dropped before `unite`, the segment is rolled back to what it was.
 pub struct MergeTransaction<'a> {
     segment: &'a mut Segment,
     saved: &'a mut Savepoint,
@@ -35,7 +35,7 @@ impl<'a> MergeTransaction<'a> {
         MergeTransaction { segment, saved }
     }
 
-    /// The segment as the union has made it.
+    /// The segment as the transaction has made it.
     pub fn segment(&self) -> &Segment
         ensures { result.now ≡ reached self.now }
     {
@@ -61,7 +61,7 @@ impl<'a> MergeTransaction<'a> {
         ensures takes { TakesNoted (reached self.old) (OfRecord redo) result (reached self.new) }
         ensures began { began self.new ≡ began self.old }
     {
-        // It opens the segment's form, here and below: one record stands under a key.
+        // It opens the segment's form, here and below: a key has at most one record.
         self.segment.opens_form();
         self.saved.note(redo.key())?;
         match self.segment.take_record(redo) {
@@ -80,14 +80,14 @@ impl<'a> MergeTransaction<'a> {
         }
     }
 
-    /// Holds a record, whether or not it is settled here, where no record is held under its key; another record that is stays. Its only
-    /// error is lack of memory: the segment is then as it was.
+    /// Inserts a record, stable or not, where no record is stored under its key; a record that is stays. Its only error is lack of memory:
+    /// the segment is then as it was.
     pub fn hold(&mut self, redo: Record) -> Result<(), AllocError>
         ensures holds { OnOk result (HoldsRecord (reached self.old) redo (reached self.new)) }
         ensures unchanged { OnErr result (reached self.new ≡ reached self.old) }
         ensures began { began self.new ≡ began self.old }
     {
-        // At most one record stands under a key.
+        // A key has at most one record.
         self.segment.opens_form();
         self.saved.note(redo.key())?;
         match self.segment.put(redo) {
@@ -106,8 +106,8 @@ impl<'a> MergeTransaction<'a> {
         }
     }
 
-    /// Takes images in, as the segment's `unite` does, and ends the union. It fails only if memory runs out: the segment is then as it
-    /// was when the union began.
+    /// Merges images, as the segment's `unite` does, and commits. It fails only if memory runs out: the segment is then as it was when
+    /// the transaction began.
     pub fn unite(self, base: u64, floor: u64, images: Vec<BaseImage>) -> Result<(), AllocError>
         requires base { base ≤ min_of (reached self) }
         requires whole { CanRollBack (began self) }
@@ -128,7 +128,7 @@ impl<'a> MergeTransaction<'a> {
 impl Drop for MergeTransaction<'_> {
     ghost use Rattle.segment_core.specs.Transaction.{began};
 
-    /// Brings the segment back to what it was when the union began.
+    /// Rolls the segment back to what it was when the transaction began.
     fn drop(self)
         requires { CanRollBack (began self) }
         ensures { self.exit.0.now ≡ (began self.entry).state }

@@ -16,13 +16,13 @@ use redo_core::Record;
 use std::alloc::{AllocError, Global};
 use std::marker::Model;
 
-/// At so many listed pages each page is due: there are no more pages.
+/// With this many listed pages all pages are pending: there are no more pages.
 const MOST: usize = 65_536;
 
-/// The pages that the next discard looks at: those whose image may have an alive held record. They are listed, or each page is due;
-/// and no version of an image is above `top`, so that a record above it makes no page due.
+/// The pages that the next discard visits: those whose image may have a stored alive record. They are listed, or all pages are pending;
+/// and no version of an image is above `top`, so that a record above it makes no page pending.
 ///
-/// A page that cannot be listed for lack of memory makes each page due: so no call here has an error but `copy`.
+/// If a page cannot be listed for lack of memory, all pages become pending: so no call here has an error but `copy`.
 #[derive(Drop)]
 pub(crate) struct PendingPages {
     pages: Vec<u16>,
@@ -39,7 +39,7 @@ impl Model for PendingPages {
 }
 
 impl PendingPages {
-    /// Each page is due, and none has an image.
+    /// All pages are pending, and none has an image.
     pub(crate) fn new(alloc: Global) -> Self
         ensures { result ≡ all_due 0 }
     {
@@ -61,7 +61,7 @@ impl PendingPages {
         })
     }
 
-    /// Makes a page due.
+    /// Makes a page pending.
     fn add(&mut self, page: u16)
         ensures more { IsMoreDue self.old self.new }
         ensures looks { LooksAt self.new page }
@@ -75,8 +75,8 @@ impl PendingPages {
         }
     }
 
-    /// Makes each page due where the epochs above one have opened, unless all that they may make alive is above every version: their
-    /// records are above the truncations that begin them.
+    /// Makes all pages pending where epochs above the one given have opened, unless all that they may make alive is above every version:
+    /// their records are above the truncations that begin them.
     pub(crate) fn add_opened(&mut self, book: &EpochBook, epoch: u16)
         ensures more { IsMoreDue self.old self.new }
         ensures looks { (r : RecordData) → IsAlive book.now.cuts book.now.complete r.epoch r.number → epoch < r.epoch → r.number ≤ self.old.top → LooksAt self.new r.page }
@@ -97,7 +97,7 @@ impl PendingPages {
         }
     }
 
-    /// Makes a page due whose image is raised to a version.
+    /// Makes a page pending whose image is raised to a version.
     pub(crate) fn add_raised(&mut self, page: u16, version: u64)
         ensures more { IsMoreDue self.old self.new }
         ensures looks { LooksAt self.new page }
@@ -107,7 +107,7 @@ impl PendingPages {
         self.top = self.top.max(version);
     }
 
-    /// Makes the page of a record due, where its image may have the record.
+    /// Makes the page of a record pending, where its image may have the record.
     pub(crate) fn add_held(&mut self, redo: &Record)
         ensures more { IsMoreDue self.old self.new }
         ensures looks { redo.now.number ≤ self.old.top → LooksAt self.new redo.now.page }
@@ -117,7 +117,7 @@ impl PendingPages {
         }
     }
 
-    /// Makes each page due, where any of the images may have changed.
+    /// Makes all pages pending, where any of the images may have changed.
     pub(crate) fn add_images(&mut self, store: &BaseStore)
         ensures { (book : BookData) (held : List RecordData) → HasPending book held store.now self.new }
     {
@@ -125,7 +125,7 @@ impl PendingPages {
         self.top = top_of(store);
     }
 
-    /// Removes the alive records at or below a point that the images have. What is due then are pages of a version above the point.
+    /// Removes the alive records at or below a point that the images have. The pages still pending have a version above the point.
     pub(crate) fn discard(
         &mut self,
         hot: &mut HotLog,
@@ -161,14 +161,14 @@ impl PendingPages {
     }
 }
 
-/// A number that no page's version is above.
+/// An LSN that no page's version is above.
 fn top_of(store: &BaseStore) -> u64
     ensures { (page : ℕ) → version_of store.now page ≤ result }
 {
     top_in(store.pages(), store.floor())
 }
 
-/// The greatest of a number and the versions of images.
+/// The greatest of the default version and the versions of images.
 fn top_in(images: &[BaseImage], floor: u64) -> u64
     ensures floor { floor ≤ result }
     ensures each { All (λ (i : StoredImage). i.version ≤ result) images.now }

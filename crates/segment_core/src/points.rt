@@ -12,10 +12,10 @@ use epoch_book::{EpochBook, Standing};
 use hot_log::View;
 use redo_core::{MAX_NUMBER, Record};
 
-/// The complete point and the anchor of a segment, and whether the chain of its alive records is known to be straight from the
-/// base point to the complete point: without a fork and without a stray, as it is over a sound log.
+/// The complete point and the anchor of a segment, and whether the chain of its alive records is known to be contiguous (`straight`) from
+/// the base point to the complete point: without a fork and without an orphan record, as it is over a sound log.
 ///
-/// Over a straight chain the points move forward from where they are; over any other they are computed again. No alive record above the
+/// Over a contiguous chain the points move forward from where they are; over any other they are computed again. No alive record above the
 /// complete point is of an epoch before `since`: so no search above it visits the dead records of those epochs.
 #[derive(Clone, Copy)]
 pub(crate) struct Points {
@@ -25,7 +25,7 @@ pub(crate) struct Points {
     pub(crate) since: u16,
 }
 
-/// The last number of a chain that truncations down to a limit leave.
+/// The last LSN of a chain that truncations down to a limit leave.
 #[derive(Clone, Copy)]
 pub(crate) struct Spared {
     pub(crate) limit: u64,
@@ -55,7 +55,7 @@ impl Points {
         requires since { seen_in view.now HasNoneEarlier self.complete self.since }
         ensures { seen_in view.now MoveOn self result }
     {
-        // Over a sound log the chain is straight, and no fork is looked for.
+        // Over a sound log the chain is contiguous, and no fork is searched for.
         let (complete, straight) = match view.straight_end_since(self.complete, self.since) {
             Some(end) => (end, true),
             None => (view.linked_to(self.complete, MAX_NUMBER), false),
@@ -81,8 +81,8 @@ impl Points {
         Points { anchor, ..self }
     }
 
-    /// The greatest linked number up to the minimum read point over a straight chain. Each alive record up to the complete point is
-    /// linked there, so it is the number of the last one; the chain is not walked.
+    /// The greatest linked LSN up to the minimum read point over a contiguous chain. Each alive record up to the complete point is
+    /// linked there, so it is the LSN of the last one; the chain is not walked.
     fn anchor_of_last(self, view: &View) -> u64
         ensures { (base : ℕ) → seen_in view.now HasLowAnchor base self → IsTrue self.straight → seen_in view.now IsTopTo base (least view.now.book.now.points) result }
     {
@@ -93,7 +93,7 @@ impl Points {
         }
     }
 
-    /// The points over a base point that is raised: where they were, if that is the anchor of a straight chain, and else computed again.
+    /// The points over a raised base point: where they were, if that is the anchor of a contiguous chain, and else computed again.
     pub(crate) fn over(self, view: &View, base: u64, raised: u64) -> Points
         requires points { seen_in view.now HasPoints base self }
         requires bound { raised ≤ least view.now.book.now.points }
@@ -108,7 +108,7 @@ impl Points {
         Points::anew(view, raised)
     }
 
-    /// What truncations down to a limit leave of a straight chain, by a walk down from its end: each record that is looked at is one that
+    /// What truncations down to a limit leave of a contiguous chain, by a walk down from its end: each record that it visits is one that
     /// they annul.
     pub(crate) fn spared(self, view: &View, base: u64, limit: u64) -> Spared
         requires { seen_in view.now HasPoints base self }
@@ -129,8 +129,8 @@ impl Points {
         Spared { limit, number }
     }
 
-    /// The points where a truncation has opened the epochs above one: over a straight chain they go on from the last number to which
-    /// those have done nothing.
+    /// The points where a truncation has opened the epochs above one: over a contiguous chain they continue from the last LSN that those
+    /// epochs leave unchanged.
     pub(crate) fn after_opening(self, view: &View, base: u64, epoch: u16, spared: Spared) -> Points
         requires { seen_in view.now WerePoints base epoch self spared }
         ensures { seen_in view.now HasPoints base result }
@@ -149,8 +149,8 @@ impl Points {
         start.onward(view)
     }
 
-    /// The epoch before which no alive record is above the number that is spared: where the complete point has fallen, what was alive
-    /// above that is dead.
+    /// The epoch before which no alive record is above the spared LSN: where the complete point has fallen, what was alive above that
+    /// is dead.
     fn since_opening(self, epoch: u16, limit: u64) -> u16
         ensures fell { limit < self.complete → result ≤ epoch + 1 }
         ensures stood { self.complete ≤ limit → (result ≤ self.since) × (result ≤ epoch) }
@@ -162,7 +162,7 @@ impl Points {
         }
     }
 
-    /// Whether no alive record is above the complete point. It is asked only for a record that may link there.
+    /// Whether no alive record is above the complete point. Called only for a record that may link there.
     pub(crate) fn is_at_end(self, view: &View, may_link: bool, back: u64) -> bool
         requires { seen_in view.now HasNoneEarlier self.complete self.since }
         ensures { IsTrue result → seen_in view.now HasNoneAbove self.complete }
@@ -170,7 +170,7 @@ impl Points {
         may_link && back == self.complete && view.has_none_above(self.complete, self.since)
     }
 
-    /// The points after a record of this number has joined at the top of a straight chain. Where no alive record was above that, the
+    /// The points after a record with this LSN has joined at the top of a contiguous chain. Where no alive record was above that, the
     /// chain ends at the record.
     pub(crate) fn joined(self, view: &View, number: u64, at_end: bool) -> Points
         requires small { self.complete ≤ max_number }
@@ -186,8 +186,8 @@ impl Points {
         }
     }
 
-    /// The points after a record of this number has joined at the top of a straight chain above which no record was alive. Nothing is
-    /// searched for.
+    /// The points after a record with this LSN has joined at the top of a contiguous chain above which no record was alive. This needs
+    /// no search.
     fn on_end(self, book: &EpochBook, number: u64) -> Points
         ensures { (held : List RecordData) (base : ℕ) → (j : JoinsOnTop book.now held base number self) → HasNoneAbove book.now j.earlier self.complete → HasPoints book.now held base result }
     {
@@ -204,7 +204,7 @@ impl Points {
         }
     }
 
-    /// The points after a record of this number has joined at the top of a straight chain. The chain is walked from the record on.
+    /// The points after a record with this LSN has joined at the top of a contiguous chain. The chain is walked from the record on.
     fn on_top(self, view: &View, number: u64) -> Points
         requires small { self.complete ≤ max_number }
         requires anchor { self.anchor ≤ least view.now.book.now.points }
@@ -227,7 +227,7 @@ impl Points {
         }
     }
 
-    /// The anchor where the chain goes on from a number to its end.
+    /// The anchor where the chain continues from an LSN to its end.
     fn anchor_on(self, view: &View, from: u64, end: u64) -> u64
         requires { seen_in view.now IsStraightEnd from end }
         ensures { seen_in view.now AnchorsOn from self.anchor result }
@@ -248,7 +248,7 @@ impl Points {
         walked.anchor_of_last(view)
     }
 
-    /// The same points, for a record that joins the held ones: it may be an alive one of an earlier epoch.
+    /// The same points, for a record that joins the stored ones: it may be an alive one of an earlier epoch.
     pub(crate) fn met(self, book: &EpochBook, redo: &Record) -> Points
         ensures { Meets book.now redo.now self result }
     {
@@ -262,7 +262,7 @@ impl Points {
         }
     }
 
-    /// Whether a record that joins the held ones may link a number: it is alive above the base point, and behind no gap.
+    /// Whether a record that joins the stored ones may link an LSN: it is alive above the base point, and not after a gap.
     pub(crate) fn may_link(self, book: &EpochBook, base: u64, redo: &Record) -> bool
         ensures { IsTrue result ↔ MayLink book.now base self redo.now }
     {
@@ -273,7 +273,7 @@ impl Points {
 }
 
 impl Spared {
-    /// Whether the epochs above one have truncations down to the limit, and none of them has done anything to the number.
+    /// Whether the epochs above one have truncations down to the limit, and none of them has changed the spared LSN.
     fn is_untouched(self, view: &View, epoch: u16) -> bool
         ensures { IsTrue result → seen_in view.now IsUntouched epoch self }
     {

@@ -1,4 +1,4 @@
-//! A record that joins the held ones, and the points with it.
+//! A record that joins the stored ones, and the points with it.
 ghost use Rattle.std.specs.Prelude.{◌≡◌, IfOk, IfErr, OnErr};
 ghost use Rattle.hot_log.specs.Held.{IsHeld};
 ghost use Rattle.hot_log.specs.Putting.{Puts, RefusesPut};
@@ -9,7 +9,7 @@ use epoch_book::EpochBook;
 use hot_log::{HotLog, Put, PutFault, View};
 use redo_core::{Record, Refused};
 
-/// Holds one more record, and brings the points to where it links them. Each error hands the record back and leaves all as it was.
+/// Stores one more record, and moves the points to where it links them. Each error returns the record and leaves all as it was.
 pub(crate) fn put_record(
     points: &mut Points,
     hot: &mut HotLog,

@@ -15,9 +15,9 @@ use redo_core::{Record, SharedPage};
 use std::alloc::{AllocError, Global};
 
 impl Segment {
-    /// A segment of a book that holds these records, and whose pages are those given, and zeros else, at the base point.
+    /// A segment of a book that stores these records, and whose pages are those given, and zeros else, at the base point.
     ///
-    /// `base` is a number of the log, at most the minimum read point, and at base 0 there are no pages; the records rise by key.
+    /// `base` is an LSN, at most the minimum read point, and at base 0 there are no pages; the records rise by key.
     /// It fails only if memory runs out.
     pub fn restore(
         alloc: Global,
@@ -70,7 +70,7 @@ fn stored_at(
     }
 }
 
-/// Holds records in a log, under no key that is taken there, so that memory alone can be wanting.
+/// Inserts records into a log, under keys that are not taken there, so that the only error is lack of memory.
 fn hold_all(hot: &mut HotLog, records: Vec<Record>) -> Result<(), AllocError>
     ensures { OnOk result (GainsEach hot.old records.items hot.new) }
 {

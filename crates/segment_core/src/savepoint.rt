@@ -1,4 +1,4 @@
-//! What a segment is brought back to, where facts are taken and records held in place and one of them is refused.
+//! What a segment is rolled back to, where facts are taken and records inserted in place and one of them is refused.
 ghost use Rattle.std.specs.Prelude.{◌≡◌, ◌↔◌, IfOk, OnOk, OnErr};
 ghost use Rattle.std.specs.List.{Contains};
 ghost use Rattle.redo_core.specs.Data.{RecordData};
@@ -17,7 +17,7 @@ use std::alloc::AllocError;
 use std::marker::Model;
 use std::mem;
 
-/// The book and the points of a segment and the pages that were due, as they were, and the keys of the records that have come in since.
+/// The book, the points and the pending pages as they were, and the keys of the records that have come in after that.
 #[derive(Drop)]
 pub struct Savepoint {
     book: EpochBook,
@@ -55,7 +55,7 @@ impl Savepoint {
 }
 
 impl Segment {
-    /// What a union of the segment as it is can be begun with. It fails only if memory runs out.
+    /// The savepoint that a merge transaction on the segment begins with. It fails only if memory runs out.
     pub fn savepoint(&self) -> Result<Savepoint, AllocError>
         ensures { IfOk result (IsSavepointOf self.now) }
     {
@@ -67,7 +67,7 @@ impl Segment {
         })
     }
 
-    /// Brings the segment back. The savepoint is of no use afterwards.
+    /// Rolls the segment back. The savepoint is of no use afterwards.
     pub(crate) fn roll_back(&mut self, saved: &mut Savepoint)
         requires { IsFormOf (brought_back saved.old self.old) saved.old.points saved.old.due }
         ensures { self.new ≡ brought_back saved.old self.old }

@@ -44,10 +44,10 @@ use std::marker::Model;
 /// A segment of a protection group: its truncations and advances, its redo records by key, the base images of its pages, and
 /// a base point up to which it knows that nothing is missing.
 ///
-/// At all times the base point is not above the minimum read point; the complete point that `points` keeps is the greatest number
-/// that the held records link from the base point on, and the anchor the greatest of those up to the minimum read point; and
-/// where `points` calls the chain straight, each held alive record from the base point to the complete point is linked, and none
-/// of them has two successors there. Each page whose image has an alive held record is due at the next discard.
+/// At all times the base point is not above the minimum read point; the complete point that `points` keeps is the greatest LSN
+/// that the stored records link from the base point on, and the anchor the greatest of those up to the minimum read point; and
+/// where `points` calls the chain `straight`, each stored alive record from the base point to the complete point is linked, and none
+/// of them has two successors there. Each page whose image has a stored alive record is pending for the next discard.
 #[derive(Drop)]
 pub struct Segment {
     pub(crate) alloc: Global,
@@ -125,7 +125,7 @@ impl Segment {
         ensures tells { IfOk result (ReportsChange self.old fact) }
         ensures sound { IfErr result (λ e. FitsSoundLog self.old fact → e.fault ≡ MemoryOf) }
 
-        // Over any facts.
+        // For arbitrary facts.
         ensures known { IfOk result (ReportsKnown self.old fact) }
         ensures stores { IfOk result (λ taken. taken ≡ ChangedOf → Stores self.old fact self.new) }
         ensures idle { IfOk result (λ taken. taken ≡ UnchangedOf → self.new ≡ self.old) }
@@ -167,7 +167,7 @@ impl Segment {
         self.points().len() as u8
     }
 
-    /// The greatest linked number that is not above the minimum read point.
+    /// The greatest linked LSN that is not above the minimum read point.
     pub fn anchor(&self) -> u64
         ensures anchor { (roster : ℕ) (log facts : List AnyFact) (p : Position) → IsSound roster log → MeansAt roster log facts p self.now → result ≡ p.anchor }
         ensures own { HasAnchor self.now result }
@@ -175,7 +175,7 @@ impl Segment {
         self.points.anchor
     }
 
-    /// The number up to which the segment knows that it is complete, whatever it has thrown away.
+    /// The LSN up to which the segment knows that it is complete, whatever it has dropped.
     pub fn base_point(&self) -> u64
         ensures base { (roster : ℕ) (log facts : List AnyFact) (p : Position) → IsSound roster log → MeansAt roster log facts p self.now → IsLinked facts p.epoch result × (result ≤ p.anchor) }
         ensures own { result ≡ self.now.base }
@@ -192,7 +192,7 @@ impl Segment {
         let _base = self.base;
     }
 
-    /// How a record of an epoch and number stands in the segment's view.
+    /// Whether a record of an epoch and LSN is alive, dead or waiting in the segment's view.
     pub fn stands(&self, epoch: u16, number: u64) -> Standing
         ensures { StandsAt self.now epoch number result }
     {
@@ -210,7 +210,7 @@ impl Segment {
         }
     }
 
-    /// Whether a record of a key waits, or is alive above a point: at the anchor, whether a segment that holds it keeps it.
+    /// Whether a record of a key waits, or is alive above a point: at the anchor, whether a segment that stores it keeps it.
     pub fn keeps(&self, key: Key, point: u64) -> bool
         ensures { IsTrue result ↔ KeepsKey self.now.book point key }
     {
@@ -225,7 +225,7 @@ impl Segment {
     /// point is above it, else `BrokenBlockChain` with the record whose block backlink leads nowhere; `Memory`.
     pub fn read(&self, page: u16, point: u64) -> Result<Page, ReadFault>
         ensures result { (roster : ℕ) (log facts : List AnyFact) (p : Position) → IsSound roster log → MeansAt roster log facts p self.now → IsReadResult facts p page point result }
-        // Over any facts.
+        // For arbitrary facts.
         ensures own { IfOk result (λ image. Shows self.now page point image) }
         ensures outside { ReportsOutside self.now point result }
         ensures broken { ReportsBreak self.now page point result }
@@ -249,7 +249,7 @@ impl Segment {
         }
     }
 
-    /// The page's image with its held records up to the point.
+    /// The page's image with its stored records up to the point.
     pub(crate) fn page_at(&self, page: u16, point: u64) -> Result<Page, AllocError>
         ensures { IfOk result (λ image. Shows self.now page point image) }
     {
@@ -330,8 +330,7 @@ impl Segment {
         put_answer(self.put(redo))
     }
 
-    /// Holds a record, whether or not it is settled here, and says whether it came in. Each error hands it back and leaves the segment
-    /// as it was.
+    /// Stores a record, stable or not, and returns whether it was new. Each error returns it and leaves the segment as it was.
     pub(crate) fn put(&mut self, redo: Record) -> Result<Put, Refused<Record, PutFault>>
         ensures put { IfOk result (Puts self.old.held redo self.new.held) }
         ensures refused { IfErr result (λ e. (e.value ≡ redo) × RefusesPut self.old.held redo e.fault) }

@@ -45,7 +45,7 @@ impl Segment {
         }
     }
 
-    /// A plan of the page with its held records up to the point.
+    /// A plan of the page with its stored records up to the point.
     fn plan_at(&self, page: u16, point: u64) -> Result<FoldPlan, AllocError>
         ensures page { IfOk result (λ plan. plan.page ≡ page) }
         ensures version { IfOk result (λ plan. plan.version ≡ point) }
@@ -101,7 +101,7 @@ impl Segment {
         raise(&mut self.store, folded)
     }
 
-    /// Raises the base point to the anchor, and forgets each record at or below it that its page's base image has. It takes no
+    /// Raises the base point to the anchor, and drops each record at or below it that its page's base image has. It takes no
     /// memory.
     pub fn discard(&mut self)
         ensures keeps { KeepsMeaning self.old self.new }
@@ -116,7 +116,7 @@ impl Segment {
             .discard(&mut self.hot, &self.book, &self.store, anchor);
     }
 
-    /// Folds each page that has held records to the anchor, discards, and forgets the dead records: what stays is what the
+    /// Folds each page that has stored records to the anchor, discards, and drops the dead records: what stays is what the
     /// meaning keeps.
     ///
     /// Errors: `BrokenBlockChain` of the least page with such a chain at or below the anchor, never over a sound log; `Memory`;
@@ -144,7 +144,7 @@ impl Segment {
         Ok(())
     }
 
-    /// The least page whose block chain is broken at or below the anchor, and the number of the record where it is.
+    /// The least page whose block chain is broken at or below the anchor, and the LSN of the record where it is.
     pub fn first_break(&self) -> Option<(u16, u64)>
         ensures first { (page n : ℕ) → (result ≡ Some (page, n)) ↔ IsFirstBreak self.now page n }
         ensures none { result ≡ None → IsWhole self.now }
@@ -160,7 +160,7 @@ impl Segment {
         None
     }
 
-    /// The base images with each page that has held records folded to the anchor.
+    /// The base images with each page that has stored records folded to the anchor.
     fn folded_store(&self) -> Result<BaseStore, AllocError>
         ensures folds { IfOk result (FoldsAll self.now) }
         ensures form { IfOk result IsStored }
@@ -221,7 +221,7 @@ pub(crate) fn remove_all_folded(hot: &mut HotLog, book: &EpochBook, store: &Base
     ensures removes { Removes (λ r. IsAlive book.now.cuts book.now.complete r.epoch r.number × (r.number ≤ point) × (r.number ≤ version_of store.now r.page)) hot.old hot.new }
     ensures form { IsHeld hot.new }
 {
-    // At floor 0 a page without an image has none of its records in it: so pages that were never folded cost nothing.
+    // At default version 0 a page without an image has none of its records in it: so pages that were never folded cost nothing.
     if store.floor() == 0 {
         remove_in_images(hot, book, store.pages(), point);
     } else {
@@ -240,7 +240,7 @@ fn remove_in_images(hot: &mut HotLog, book: &EpochBook, images: &[BaseImage], po
     }
 }
 
-/// Removes the alive records at or below a point that the images have, from each page with held records.
+/// Removes the alive records at or below a point that the images have, from each page with stored records.
 fn remove_page_by_page(hot: &mut HotLog, book: &EpochBook, store: &BaseStore, point: u64)
     requires { IsHeld hot.old }
     ensures removes { Removes (λ r. IsAlive book.now.cuts book.now.complete r.epoch r.number × (r.number ≤ point) × (r.number ≤ version_of store.now r.page)) hot.old hot.new }

@@ -25,7 +25,7 @@ impl Segment {
         self.alloc
     }
 
-    /// The keys of the records held, rising. It fails only if memory runs out.
+    /// The keys of the stored records, rising. It fails only if memory runs out.
     pub fn stored(&self) -> Result<Vec<Key>, AllocError>
         ensures keys { IfOk result (λ v. v.items ≡ map key_of self.now.held) }
         ensures rising { IsRising RecordBefore self.now.held }
@@ -39,7 +39,7 @@ impl Segment {
         Ok(keys)
     }
 
-    /// The keys of the held records that wait, or are alive above a point, rising. It fails only if memory runs out.
+    /// The keys of the stored records that wait, or are alive above a point, rising. It fails only if memory runs out.
     pub fn kept_keys(&self, point: u64) -> Result<Vec<Key>, AllocError>
         ensures keys { IfOk result (λ v. ListsKeysOf (IsKeptBy self.now point) v.items) }
         ensures rising { IsRising RecordBefore self.now.held }
@@ -48,7 +48,7 @@ impl Segment {
         View { book, held }.kept_keys(self.alloc, point)
     }
 
-    /// The held records that wait, or are alive above a point, and whose keys are not among the ones given, which rise; rising by key.
+    /// The stored records that wait, or are alive above a point, and whose keys are not among the ones given, which rise; rising by key.
     /// It fails only if memory runs out.
     pub fn kept_unlisted(&self, point: u64, keys: &[Key]) -> Result<Vec<&Record>, AllocError>
         requires { IsRising KeyBefore keys.now }
@@ -74,36 +74,35 @@ impl Segment {
         self.book.waits()
     }
 
-    /// The least key of a held record above the one given; with none given, the least of all.
+    /// The least key of a stored record above the one given; with none given, the least of all.
     pub fn key_after(&self, after: Option<Key>) -> Option<Key>
         ensures { IsKeyAfter self.now.held after result }
     {
         self.hot.key_after(after)
     }
 
-    /// The least page above the one given that a held record writes, whatever its standing; the least of all for None.
+    /// The least page above the one given that a stored record writes, whatever its standing; the least of all for None.
     pub fn page_after(&self, after: Option<u16>) -> Option<u16>
         ensures { IsPageAfter self.now.held after result }
     {
         self.hot.page_after(after)
     }
 
-    /// Whether a record of a key is held.
+    /// Whether a record of a key is stored.
     pub fn holds_key(&self, key: Key) -> bool
         ensures { IsTrue result ↔ HoldsKey self.now.held key }
     {
         self.hot.holds_key(key)
     }
 
-    /// The held record of a key.
+    /// The stored record of a key.
     pub fn get(&self, key: Key) -> Option<&Record>
         ensures { IsRecordAt self.now.held key (option_copied result) }
     {
         self.hot.get(key)
     }
 
-    /// The stored base images, rising by page; a page without one is zeros at the greatest base
-    /// adopted or floor taken over.
+    /// The stored base images, rising by page; a page without one is zeros at the greatest base adopted or default version merged.
     pub fn pages(&self) -> &[BaseImage]
         ensures value { result.now ≡ self.now.store.images }
         ensures rising { IsStored self.now.store }
@@ -125,28 +124,28 @@ impl Segment {
         self.store.image(page)
     }
 
-    /// The version of a page's base image, which is a number of the log.
+    /// The version of a page's base image, which is an LSN.
     pub fn version(&self, page: u16) -> u64
         ensures { result ≡ version_of self.now.store page }
     {
         self.store.version(page)
     }
 
-    /// How many records are held.
+    /// How many records are stored.
     pub fn held_len(&self) -> usize
         ensures { result ≡ length self.now.held }
     {
         self.hot.len()
     }
 
-    /// The records that another segment holds and this one does not, by page, and within a page by key. It fails only if memory runs out.
+    /// The records that another segment stores and this one does not, by page, and within a page by key. It fails only if memory runs out.
     pub fn missing_by_page<'a>(&self, other: &'a Segment) -> Result<Vec<&'a Record>, AllocError>
         ensures { IfOk result (λ v. Lists PlaceBefore (IsMissing self.now.held other.now.held) (map (λ x. x.now) v.items)) }
     {
         self.hot.missing_by_page(self.alloc, &other.hot)
     }
 
-    /// The alive records of a page with a number above `from` and at most `to`, in order. It fails only if memory runs out.
+    /// The alive records of a page with an LSN above `from` and at most `to`, in order. It fails only if memory runs out.
     pub fn records_of(&self, page: u16, from: u64, to: u64) -> Result<Vec<&Record>, AllocError>
         ensures { IfOk result (λ v. Lists BeforeByNumber (IsHeldOf self.now.book self.now.held page from to) (map (λ x. x.now) v.items)) }
     {

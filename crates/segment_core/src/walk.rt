@@ -16,8 +16,8 @@ use redo_core::Record;
 use std::alloc::AllocError;
 
 impl Segment {
-    /// The records that are applied to the page's image up to a point, rising, from the last one on that begins the page anew where
-    /// one does. It fails only if memory runs out.
+    /// The records that are applied to the page's image up to a point, rising, from the last one with `init` on where there is one.
+    /// It fails only if memory runs out.
     pub(crate) fn records_at(&self, page: u16, point: u64) -> Result<Vec<&Record>, AllocError>
         ensures anew { IfOk result (λ v. ListsAnew (IsApplied self.now page point) (map (λ x. x.now) v.items)) }
         ensures form { IsSegment self.now }
@@ -27,7 +27,7 @@ impl Segment {
         View { book, held }.records_since_init(self.alloc, page, version, point)
     }
 
-    /// The number of the record at which the walk down the page's block chain breaks, where these records are applied up to the point.
+    /// The LSN of the record at which the walk down the page's block chain breaks, where these records are applied up to the point.
     ///
     /// Where each record up to the point is known to be linked, and each follows the one before it, no walk is needed.
     pub(crate) fn broken_of(
@@ -54,7 +54,7 @@ impl Segment {
         point <= self.sure_point() && is_chained(records, self.store.version(page))
     }
 
-    /// A number up to which each alive record is known to be linked.
+    /// An LSN up to which each alive record is known to be linked.
     fn sure_point(&self) -> u64
         ensures linked { IsLinkedUpTo self.now result }
         ensures above { self.now.base ≤ result }
@@ -67,7 +67,7 @@ impl Segment {
         }
     }
 
-    /// The number of the record at which the walk down the page's block chain breaks.
+    /// The LSN of the record at which the walk down the page's block chain breaks.
     pub(crate) fn broken_link(&self, page: u16, point: u64) -> Option<u64>
         ensures breaks { (n : ℕ) → (result ≡ Some n) ↔ BreaksAt self.now page point n }
         ensures sound { (roster : ℕ) (log facts : List AnyFact) (p : Position) → IsSound roster log → MeansAt roster log facts p self.now → point ≤ p.complete → result ≡ None }
@@ -98,7 +98,7 @@ impl Segment {
         }
     }
 
-    /// The linked record of a page with this number.
+    /// The linked record of a page with this LSN.
     fn linked_of(&self, page: u16, number: u64) -> Option<&Record>
         ensures { IsOnlyRecord (λ r. IsLinkedOf self.now page number r × (r.number ≡ number)) (option_copied result) }
     {
@@ -116,14 +116,14 @@ impl Segment {
     }
 }
 
-/// Whether a walk goes on below a record: its page does not begin anew there, and its block backlink is not in the image.
+/// Whether a walk continues below a record: it does not `init` its page, and its block backlink is not in the image.
 fn leads_on(redo: &Record, version: u64) -> bool
     ensures { IsTrue result ↔ ((redo.now.init ≡ false) × (version < redo.now.block_back)) }
 {
     !redo.init() && version < redo.block_back()
 }
 
-/// Whether each record follows the one before it: the first one the image, unless it begins its page anew.
+/// Whether each record follows the one before it: the first one the image, unless it begins its page from zeros.
 fn is_chained(records: &[&Record], version: u64) -> bool
     ensures { IsTrue result → IsChained version (map (λ x. x.now) records.now) }
 {

@@ -4,7 +4,7 @@ use Rattle.segment_core.specs.Transaction.{began, reached}
 use Rattle.segment_core.specs.InOrder.{TakesEach}
 use Rattle.segment_core.proofs.importing.take_cuts.Given as goal
 
--- those so far are taken, and what the union began with stays
+-- those so far are taken, and what the transaction began with stays
 abbrev pub invariant-loop-cut : goal.invariant-loop-cut
 invariant-loop-cut l =
     TakesEach (reached l.fn.union) (map Cut (take l.cut-index l.cuts)) (reached l.union)

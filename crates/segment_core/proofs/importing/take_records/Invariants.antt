@@ -4,7 +4,7 @@ use Rattle.segment_core.specs.Transaction.{began, reached}
 use Rattle.segment_core.specs.InOrder.{TakesEach}
 use Rattle.segment_core.proofs.importing.take_records.Given as goal
 
--- those so far are taken, and what the union began with stays
+-- those so far are taken, and what the transaction began with stays
 abbrev pub invariant-loop-redo : goal.invariant-loop-redo
 invariant-loop-redo l =
     TakesEach (reached l.fn.union) (map (λ r. Record r.now) (take l.redo-index l.records)) (reached l.union)

@@ -2,7 +2,7 @@ use Rattle.std.proofs.Common.{length, drop}
 use Rattle.segment_core.specs.Restoring.{GainsRest}
 use Rattle.segment_core.proofs.restoring.hold_all.Given as goal
 
--- the rest of the records is still to be held
+-- the rest of the records is still to be inserted
 abbrev pub invariant-loop-redo : goal.invariant-loop-redo
 invariant-loop-redo l =
     (goal.iterator-loop-redo).can_next l.redo-iterator ×

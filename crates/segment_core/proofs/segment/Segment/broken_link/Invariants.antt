@@ -3,7 +3,7 @@ use Rattle.segment_theorems.specs.State.{version_of}
 use Rattle.segment_core.specs.BlockChain.{IsLinkedOf, BreaksFrom, BreaksAt}
 use Rattle.segment_core.proofs.segment.Segment.broken_link.Given as goal
 
--- the walk has come to a linked record of the page, and the chain breaks where it breaks from that record on
+-- the walk has reached a linked record of the page, and the chain breaks where it breaks from that record on
 abbrev pub invariant-loop-redo : goal.invariant-loop-redo
 invariant-loop-redo l = record {
   version : l.version ≡ version_of l.self.store l.page;

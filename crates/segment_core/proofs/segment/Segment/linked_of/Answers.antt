@@ -7,7 +7,7 @@ use Rattle.segment_core.proofs.segment.Segment.linked_of.Goals as goal
 pub returns-then-number-sure_point : goal.returns-then-number-sure_point
 returns-then-number-sure_point c = search (rules, only_low)
 
--- a number above the sure point is above the base point
+-- an LSN above the sure point is above the base point
 above : (s t : State) (sure number : ℕ) → s ≡ t → t.base ≤ sure → sure < number → s.base < number
 above s t sure number same base high = search rules
 

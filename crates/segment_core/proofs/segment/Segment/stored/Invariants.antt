@@ -2,7 +2,7 @@ use Rattle.std.proofs.Common.{◌-◌, length}
 use Rattle.segment_core.proofs.Keys.{KeysTo}
 use Rattle.segment_core.proofs.segment.Segment.stored.Given as goal
 
--- the keys so far are those of the first records, and the next is that of the one behind them
+-- the keys so far are those of the first records, and the next is that of the one after them
 abbrev pub invariant-loop-next : goal.invariant-loop-next
 invariant-loop-next l = KeysTo l.self.held l.keys.items l.next
 
