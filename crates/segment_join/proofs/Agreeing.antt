@@ -25,7 +25,7 @@ use Rattle.segment_core.proofs.BarePages.{shows_some}
 use Rattle.segment_core.proofs.OneView.{one_anchor}
 use Rattle.segment_core.proofs.SamePages.{shows_one}
 
--- numbers that are at most each other, place by place
+-- numbers that are at most each other, index by index
 pub at_most_both : (ps qs : List ℕ) → AllZip (λ p q. p ≤ q) ps qs → AllZip (λ p q. p ≤ q) qs ps → ps ≡ qs
 at_most_both [] [] up down = refl
 at_most_both [] (q ∷ qs) up down = absurd up
@@ -38,7 +38,7 @@ at_most_itself : (ps : List ℕ) → AllZip (λ p q. p ≤ q) ps ps
 at_most_itself [] = tt
 at_most_itself (p ∷ ps) = (omega arith, at_most_itself ps)
 
--- a meaning that a state tells covers itself
+-- a meaning that a state has covers itself
 pub covers_itself : (s : State) (y : Meaning) → IsSegment s → HasMeaning s y → Covers y y
 covers_itself s y form has = (
   s.book.complete,
@@ -158,7 +158,7 @@ same_by_pages s t y x form other_form hy hx up down =
       λ same. shown_pages s t y x form other_form hy hx (ap (λ (m : Meaning). m.pages) same),
     )
 
--- so a comparison of the pages at the anchors tells whether they mean the same
+-- so a comparison of the pages at the anchors decides whether they mean the same
 pub tells_same : (s t : State) (point other : ℕ) (same : Bool) → IsSegment s → IsSegment t
     → HasAnchor s point → HasAnchor t other
     → ((y x : Meaning) → HasMeaning s y → HasMeaning t x → Covers y x × Covers x y)
@@ -177,7 +177,7 @@ pub not_covered : (s t : State) (covered : Bool) → IsSegment s
     → ((y x : Meaning) → HasMeaning s y → HasMeaning t x → IsTrue covered ↔ Covers y x) → covered ≡ false → ReportsSame s t false
 not_covered s t covered form tells fails y x hy hx = search (rules, covers_itself)
 
--- inside one sound log the meanings that two states tell are those of the parts
+-- inside one sound log the meanings that two states have are those of the parts
 pub by_parts : SameMeaning → (s t : State) (answer : Bool) → ReportsSame s t answer → SameByParts s t answer
 by_parts law s t answer tells roster log F G y x sound mf mg my mx =
     tells y x ((law roster log F s y sound mf).1 my) ((law roster log G t x sound mg).1 mx)

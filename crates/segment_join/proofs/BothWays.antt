@@ -27,7 +27,7 @@ use Rattle.segment_join.proofs.Agreeing.{at_most_both}
 epoch_of_set : (cs ds : List CutData) (j k : ℕ) → SameSet cs ds → IsCompleteEpoch cs j → IsCompleteEpoch ds k → j ≡ k
 epoch_of_set cs ds j k same a b = search (rules, greatest_unique, cuts_to_by, same_sym)
 
--- two parts, each where it stands and with its meaning, of which the second covers the first; they have one epoch and one anchor
+-- two parts, each at its position and with its meaning, of which the second covers the first; they have one epoch and one anchor
 record IsCovered (roster : ℕ) (F G : List Fact) (f g : Position) (x y : Meaning) : Type 0 where
   lower : IsMeaningAt roster F f x
   upper : IsMeaningAt roster G g y

@@ -1,4 +1,4 @@
--- Which records a state holds more, once it has taken what a book and records tell.
+-- Which more records a state stores, once it has taken what a book and records export.
 use Rattle.std.proofs.Common.{◌≡◌, ◌⊎◌, inl, inr, ⊎_elim, List, [], ◌∷◌, ◌++◌, map, refl, sym, ap, ◌∙◌, subst}
 use Rattle.std.specs.List.{Contains}
 use Rattle.std.proofs.lemmas.List.Elements.{Contains-append_left}
@@ -17,7 +17,7 @@ use Rattle.segment_core.proofs.TakingAll.{IsLate, leaves_all}
 use Rattle.segment_core.proofs.ToldFacts.{listed_record}
 use Rattle.segment_core.proofs.TellingAll.{in_two}
 
--- the records that a state holds more than another one are of a list, and none is dead in its view
+-- the records that a state stores and another one does not are of a list, and none is dead in its view
 pub record Brings (s : State) (rs : List RecordData) (t : State) : Type 0 where
   pub book : t.book ≡ s.book
   pub more : (r : RecordData) → Contains t.held r → Contains s.held r ⊎ (Contains rs r × (IsDead s.book.cuts s.book.complete r.epoch r.number → ⊥))
@@ -72,13 +72,13 @@ pub takes_apart : (s u : State) (fs gs : List Fact) → TakesEach s (fs ++ gs) u
 takes_apart s u [] gs takes = (s, refl, takes)
 takes_apart s u (f ∷ fs) gs takes = let rest = takes_apart takes.0 u fs gs takes.2 in (rest.0, (takes.0, takes.1, rest.1), rest.2)
 
--- a book tells no record
+-- a book exports no record
 no_record : (b : BookData) (r : RecordData) → Contains (book_facts b) (Record r) → ⊥
 no_record b r h =
     none_in r ((listed_record b [] (exported_facts b []) refl r).0
     (subst (λ fs. Contains fs (Record r)) (in_two b []) (Contains-append_left (book_facts b) [] (Record r) h)))
 
--- what a book and records tell brings in only records of the list that are not dead then
+-- what a book and records export brings in only records of the list that are not dead then
 pub brings_told : (s : State) (b : BookData) (rs : List RecordData) (t : State) → IsLate s → TakesEach s (exported_facts b rs) t → (r : RecordData)
     → Contains t.held r → Contains s.held r ⊎ (Contains rs r × (IsDead t.book.cuts t.book.complete r.epoch r.number → ⊥))
 brings_told s b rs t late takes r h =

@@ -78,7 +78,7 @@ of_meanings anchor upper base lower y x rising top low hy hx covers =
           (at.kept r ((hx.kept.members r).1 (subst (λ n. IsKeptBy lower n r) ax has)));
     }
 
--- an answer that tells the order of two states tells that of their meanings
+-- an answer that gives the order of two states gives that of their meanings
 pub by_meanings : (upper lower : State) (answer : Bool) → IsSegment upper
     → ((anchor base : ℕ) → HasAnchor upper anchor → HasAnchor lower base
     → IsTrue answer ↔ CoversState anchor upper base lower)

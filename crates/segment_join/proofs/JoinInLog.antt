@@ -18,7 +18,7 @@ use Rattle.segment_core.proofs.ToldInLog.{ReportsPart, none_of_part}
 use Rattle.segment_join.proofs.JoinedStates.{HaveOneRecordAKey, joins_whole}
 
 module _ (roster : ℕ) (log : List Fact) (sound : IsSound roster log) where
-  -- ---- what a state of the log tells
+  -- ---- what a state of the log exports
   module _ (other : State) (facts G : List Fact) (means : Means roster log G other) (told : AreExported other facts) where
     m : MeansAt roster log G means.0 other
     m = means.1

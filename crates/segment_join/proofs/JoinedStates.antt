@@ -1,4 +1,4 @@
--- What a state and another one know together, when each fact that the other tells was taken.
+-- What a state and another one know together, when each fact that the other exports was taken.
 use Rattle.std.proofs.Common.{◌≡◌, ℕ, ◌<◌, ◌≤◌, ◌⊎◌, ◌↔◌, inl, inr, ⊎_elim, List, max, sym, ap, ◌∙◌, subst, arith, rules}
 use Rattle.std.specs.List.{Contains}
 use Rattle.redo_core.specs.Data.{RecordData}
@@ -28,7 +28,7 @@ use Rattle.segment_core.proofs.ToldFacts.{told_cut, told_advance, told_record}
 use Rattle.segment_core.proofs.BookTaken.{late_of, HasBook, all, book_joined, least_fits}
 use Rattle.segment_join.proofs.Bringing.{brings_told}
 
--- a state has taken what the other tells
+-- a state has taken what the other exports
 pub record IsTold (old other taken : State) (facts : List Fact) : Type 0 where
   pub own : IsSegment old
   pub shown : IsSegment other
@@ -36,14 +36,14 @@ pub record IsTold (old other taken : State) (facts : List Fact) : Type 0 where
   pub told : AreExported other facts
   pub takes : TakesEach old facts taken
 
--- and holds the rest, and the new state is what the two know together
+-- and stores the rest, and the new state is what the two know together
 pub record IsUnion (old other taken joined : State) (facts : List Fact) (images : List StoredImage) (new : State) : Type 0 where
   pub first : IsTold old other taken facts
   pub holds : HoldsRest taken other joined
   pub newer : AreNewer old.store other.store images
   pub unites : Unites joined other.base other.store.floor images new
 
--- what another state tells is its book's
+-- what another state exports is its book's
 module _ (old other taken : State) (facts : List Fact) (d : IsTold old other taken facts) where
   pub of_told : HasBook old other.book facts taken
   of_told = search (rules, late_of, told_cut, told_advance)
@@ -51,7 +51,7 @@ module _ (old other taken : State) (facts : List Fact) (d : IsTold old other tak
   told_all : LeavesAll old facts taken
   told_all = all old taken other.book facts of_told
 
-  -- the other's base point is at most the least point of what took the facts and holds the rest
+  -- the other's base point is at most the least point of what took the facts and stores the rest
   pub base_fits_joined : (joined : State) → HoldsRest taken other joined → other.base ≤ min_of joined
   base_fits_joined joined holds = search (rules, least_fits, of_told)
 
@@ -84,7 +84,7 @@ module _ (old other taken joined new : State) (facts : List Fact) (images : List
       omega (arith, e, x))
       (some_or_none (λ (i : StoredImage). i.page ≡ g) (λ i. settled_eq i.page g) other.store.images)
 
-  -- a page that is zeros at the floor has no image in the other
+  -- a page that is zeros at the default version has no image in the other
   floored_of : (g : ℕ) → version_of old.store g < version_of new.store g → IsFloored other.store.floor images new.store g
       → (version_of new.store g ≡ version_of other.store g) × (image_of new.store g ≡ image_of other.store g)
   floored_of g up floored =
@@ -116,7 +116,7 @@ module _ (old other taken joined new : State) (facts : List Fact) (images : List
   held_is : (r : RecordData) → Contains joined.held r ↔ Contains new.held r
   held_is r = (λ h. subst (λ hs. Contains hs r) (sym u.unites.held) h, λ h. subst (λ hs. Contains hs r) u.unites.held h)
 
-  -- what is held after the facts comes from a side
+  -- what is stored after the facts comes from a side
   from_sides : (r : RecordData) → Contains taken.held r → Contains old.held r ⊎ Contains other.held r
   from_sides r h =
       ⊎_elim
@@ -124,7 +124,7 @@ module _ (old other taken joined new : State) (facts : List Fact) (images : List
       (λ (x : Contains facts (Record r)). inr ((told_record other facts u.first.told r).0 x).0)
       ((told_all old other taken facts u.first).more r h)
 
-  -- another record of its key was held before
+  -- another record of its key was stored before
   held_before : (r : RecordData) → Contains other.held r → HoldsOther taken r → HoldsOther old r
   held_before r h o =
       ⊎_elim
@@ -142,7 +142,7 @@ module _ (old other taken joined new : State) (facts : List Fact) (images : List
   still_in_image : (r : RecordData) → InOtherImage new other r → InOtherImage taken other r
   still_in_image r image = (subst (λ b. r.epoch ≤ b.complete) book_is image.0, image.1, image.2)
 
-  -- what is told was kept by the other, and what the rest brings in is not needless
+  -- what is exported was kept by the other, and what the rest brings in is not needless
   brought_told : (r : RecordData) → Contains taken.held r → Contains old.held r ⊎ IsBroughtIn other new r
   brought_told r h =
       let told = u.first.told in
@@ -204,12 +204,12 @@ module _ (old other taken joined new : State) (facts : List Fact) (images : List
   pub joins_both : JoinsInto old other new
   joins_both = search (rules, book_is, book_joined, of_told, base_joined, own_joined, others_joined, brought_in, images_joined, newest_of)
 
--- no two different records stand under one key
+-- no two different records have one key
 abbrev pub HaveOneRecordAKey : State → State → Type 0
 HaveOneRecordAKey s t =
     (r q : RecordData) → Contains s.held r → Contains t.held q → r.epoch ≡ q.epoch → r.number ≡ q.number → r ≡ q
 
--- where no two records of one key stand in them, that is what the two know together
+-- where no two records of them have one key, that is what the two know together
 pub joins_whole : (old other new : State) → JoinsInto old other new → HaveOneRecordAKey old other → Joins old other new
 joins_whole old other new j one = record {
   book = j.book;

@@ -17,7 +17,7 @@ use Rattle.segment_core.proofs.Keys.{one_of_key}
 use Rattle.segment_join.specs.Covering.{HasRecord, HasAllKept, HasAt, IsHeldAt}
 use Rattle.segment_core.proofs.Scanning.{of_member}
 
--- a record that waits or is alive above the anchor is there exactly where it is held
+-- a record that waits or is alive above the anchor is there exactly where it is stored
 pub wanted_is_held : (s : State) (anchor : ℕ) (r : RecordData) → KeepsKey s.book anchor (key_of r) → HasRecord s anchor r → Contains s.held r
 wanted_is_held s anchor r wanted has = search rules
 
@@ -29,7 +29,7 @@ needless_has s anchor r needless = search rules
 pub of_key : (s : State) (anchor : ℕ) (key : Key) (r : RecordData) → HasKey key r → KeepsKey s.book anchor key ↔ KeepsKey s.book anchor (key_of r)
 of_key s anchor key r is = search rules
 
--- where a segment holds a record under a key, another one has that where it holds the same there
+-- where a segment stores a record under a key, another one has that where it stores the same there
 pub same_at : (s t : State) (key : Key) (r x : RecordData) (same : Bool) → IsRising RecordBefore s.held → IsRising RecordBefore t.held
     → IsRecordAt t.held key (Some r) → IsRecordAt s.held key (Some x) → IsTrue same ↔ (x ≡ r) → IsTrue same ↔ IsHeldAt s t key
 same_at s t key r x same rising other_rising at held tells = (
@@ -38,7 +38,7 @@ same_at s t key r x same rising other_rising at held tells = (
   λ each. tells.1 (one_of_key s.held x r rising held.0 (each r at.0 at.1) (held.1.0 ∙ sym at.1.0) (held.1.1 ∙ sym at.1.1)),
 )
 
--- a record that is held is kept, or needed no more
+-- a record that is stored is kept, or needed no more
 pub own_record : (s : State) (anchor : ℕ) (r : RecordData) → Contains s.held r → HasRecord s anchor r
 own_record s anchor r has =
     ⊎_elim

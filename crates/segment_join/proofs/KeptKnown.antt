@@ -1,4 +1,4 @@
--- What the other's meaning keeps is known once it is taken, and stays so while more is held.
+-- What the other's meaning keeps is known once it is taken, and stays so while more is stored.
 use Rattle.std.proofs.Common.{◌≡◌, ℕ, inl, inr, ⊎_elim, List, [], ◌∷◌, map, refl, sym, ◌∙◌, subst, rules}
 use Rattle.std.specs.List.{Contains}
 use Rattle.redo_core.specs.Data.{RecordData}
@@ -19,7 +19,7 @@ use Rattle.segment_core.proofs.TellingAll.{in_two}
 use Rattle.segment_join.specs.Knowing.{TakesAll, KnowsKept}
 use Rattle.segment_join.proofs.Bringing.{takes_apart}
 
--- t is s with more records held, or the same
+-- t is s with more records stored, or the same
 pub record HoldsMore (s t : State) : Type 0 where
   pub book : t.book ≡ s.book
   pub rest : SameBase s t
@@ -91,7 +91,7 @@ knows_taken own other taken takes anchor r above kept =
     (learns_each parts.0 told.kept taken parts.2).known r ((told.kept_are.members r).1 (subst (λ n. IsKeptBy other n r) same kept))
 
 -- ---- what the state keeps of it
--- what is known and waits, or is alive above the anchor, is held
+-- what is known and waits, or is alive above the anchor, is stored
 pub known_is_held : (s : State) (anchor : ℕ) (r : RecordData) → HasAnchor s anchor → KeepsKey s.book anchor (key_of r) → IsKnown s (Record r)
     → Contains s.held r
 known_is_held s anchor r above keeps known = search rules

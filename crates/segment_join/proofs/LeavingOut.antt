@@ -1,4 +1,4 @@
--- What the one holds already need not be told: left out, it changes nothing of what is taken or refused.
+-- What the one stores already need not be exported: left out, it changes nothing of what is taken or refused.
 use Rattle.std.proofs.Common.{◌≡◌, ℕ, ◌<◌, ◌⊎◌, ◌↔◌, inl, inr, ⊎_elim, List, [], ◌∷◌, ◌++◌, map, refl, sym, ap, ◌∙◌, subst, rules}
 use Rattle.std.specs.List.{Contains, AllByRecursion}
 use Rattle.redo_core.specs.Data.{RecordData}
@@ -27,7 +27,7 @@ use Rattle.segment_join.proofs.Alike.{settled_record}
 use Rattle.segment_join.proofs.Telling.{takes_all, refuses_all}
 use Rattle.segment_core.proofs.TellingAll.{in_two}
 
--- ---- the list without what is held
+-- ---- the list without what is stored
 pub settled_held : (held : List RecordData) (r : RecordData) → Settled (Contains held r)
 settled_held held r =
     ⊎_elim
@@ -35,7 +35,7 @@ settled_held held r =
     (λ (none : (x : RecordData) → Contains held x → x ≡ r → ⊥). inr (λ h. none r h refl))
     (some_or_none (λ x. x ≡ r) (λ x. settled_record x r) held)
 
--- a record stands in front of the rest, unless it is held
+-- a record comes before the rest, unless it is stored
 abbrev unless_held : (held : List RecordData) (r : RecordData) → Settled (Contains held r) → List RecordData → List RecordData
 unless_held held r (inl has) rest = rest
 unless_held held r (inr lacks) rest = r ∷ rest
@@ -80,7 +80,7 @@ left_rising held (r ∷ rs) rising =
     (all_of (RecordBefore r) (left_out held rs) (λ x h. each (RecordBefore r) rs x rising.0 ((left_members held rs x).0 h).0))
     (left_rising held rs rising.1)
 
--- a list of just those that are not held is the full one without what is held
+-- a list of just those that are not stored is the full one without what is stored
 is_left_out : (P : RecordData → Type 0) (held full rest : List RecordData) → Lists RecordBefore P full
     → Lists RecordBefore (λ r. P r × (Contains held r → ⊥)) rest → rest ≡ left_out held full
 is_left_out P held full rest all lists =
@@ -110,12 +110,12 @@ kept_exists s anchor held =
 abbrev OneOfKey : List RecordData → Type 0
 OneOfKey held = (r x : RecordData) → Contains held r → Contains held x → r.epoch ≡ x.epoch → r.number ≡ x.number → r ≡ x
 
--- what was held is held, and each key has one record
+-- what was stored is stored, and each key has one record
 record HoldsStill (before now : List RecordData) : Type 0 where
   has : (r : RecordData) → Contains before r → Contains now r
   one : OneOfKey now
 
--- a record that is new and not refused has a key that no held one has
+-- a record that is new and not refused has a key that no stored one has
 puts_one : (s t : State) (r : RecordData) → OneOfKey s.held → ((why : Refusal) → Refuses s (Record r) why → ⊥) → (IsKnown s (Record r) → ⊥)
     → PutsRecord s r t → OneOfKey t.held
 puts_one s t r one free new puts x y hx hy e n =
@@ -153,11 +153,11 @@ still_one held s t fact still takes =
     (λ (new : (IsKnown s fact → ⊥) × Stores s fact t). still_stored held s t fact still takes.free new.0 new.1)
     takes.takes
 
--- a held record is known, and no other one is under its key, so it is taken and nothing changes
+-- a stored record is known, and no other one is under its key, so it is taken and nothing changes
 takes_held : (s : State) (r : RecordData) → OneOfKey s.held → Contains s.held r → TakesOne s (Record r) s
 takes_held s r one has = search rules
 
--- ---- the records, with those that are held
+-- ---- the records, with those that are stored
 takes_at : (held : List RecordData) (r : RecordData) (rest rs : List RecordData) (t : State) (known : Settled (Contains held r))
     → ((u : State) → HoldsStill held u.held → TakesEach u (map Record rest) t → TakesEach u (map Record rs) t)
     → (s : State) → HoldsStill held s.held → TakesEach s (map Record (unless_held held r known rest)) t → TakesEach s (map Record (r ∷ rs)) t
@@ -188,8 +188,8 @@ refuses_full held [] why s still refused = refused
 refuses_full held (r ∷ rs) why s still refused =
     refuses_at held r (left_out held rs) rs why (settled_held held r) (refuses_full held rs why) s still refused
 
--- ---- behind other facts
--- behind the same facts another list is taken, where it is so in each state that holds still
+-- ---- after other facts
+-- after the same facts another list is taken, where it is so in each state that stores still
 takes_behind : (held : List RecordData) (facts short long : List Fact) (t : State)
     → ((u : State) → HoldsStill held u.held → TakesEach u short t → TakesEach u long t)
     → (s : State) → HoldsStill held s.held → TakesEach s (facts ++ short) t → TakesEach s (facts ++ long) t
@@ -211,7 +211,7 @@ refuses_behind held (fact ∷ facts) short long why more s still refused =
     inr (x.0, x.1, refuses_behind held facts short long why more x.0 (still_one held s x.0 fact still x.1) x.2))
     refused
 
--- ---- all that the other tells
+-- ---- all that the other exports
 module _ (old other : State) (anchor : ℕ) (rest : List RecordData) (own : IsHeld old.held) (others : IsHeld other.held) (above : HasAnchor other anchor)
     (lists : Lists RecordBefore (λ r. IsKeptBy other anchor r × (Contains old.held r → ⊥)) rest) where
   full : List RecordData
@@ -221,16 +221,16 @@ module _ (old other : State) (anchor : ℕ) (rest : List RecordData) (own : IsHe
   unfolding full
   kept = (kept_exists other anchor others).1
 
-  -- at first all that was held is, and it rises by key
+  -- at first all that was stored is, and it rises by key
   still : HoldsStill old.held old.held
   still = record { has = λ r h. h; one = λ r x hr hx e n. one_of_key old.held r x own.rising hr hx e n }
 
-  -- what is told behind the facts of the book is the list without what is held
+  -- what is exported after the facts of the book is the list without what is stored
   told_is : exported_facts other.book rest ≡ book_facts other.book ++ map Record (left_out old.held full)
   told_is =
       ap (exported_facts other.book) (is_left_out (IsKeptBy other anchor) old.held full rest kept lists) ∙ sym (in_two other.book (left_out old.held full))
 
-  -- what the one holds already need not be told
+  -- what the one stores already need not be exported
   pub takes_left_out : (new : State) → TakesEach old (exported_facts other.book rest) new → TakesAll old other new
   takes_left_out new takes =
       takes_all other anchor full above kept old new
@@ -238,7 +238,7 @@ module _ (old other : State) (anchor : ℕ) (rest : List RecordData) (own : IsHe
       (takes_behind old.held (book_facts other.book) (map Record (left_out old.held full)) (map Record full) new (takes_full old.held full new) old still
       (subst (λ facts. TakesEach old facts new) told_is takes)))
 
-  -- and a refusal of what is told is one of all
+  -- and a refusal of what is exported is one of all
   pub refuses_left_out : (why : Refusal) → RefusesOne old (exported_facts other.book rest) why → RefusesAll old other why
   refuses_left_out why refused =
       refuses_all other anchor full above kept old why

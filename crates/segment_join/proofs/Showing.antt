@@ -10,7 +10,7 @@ use Rattle.segment_core.specs.Comparing.{ReportsSamePage}
 use Rattle.segment_join.specs.Sameness.{ShowOne, ReportsPages, IsUnwritten}
 use Rattle.segment_core.proofs.BarePages.{shows_some, IsBare, bare_is_zeros, bare_or_not}
 
--- a property of pages that holds of those with an image or a held record
+-- a property of pages that holds of those with an image or a stored record
 pub record HoldsOfStored (s : State) (P : ℕ → Type 0) : Type 0 where
   pub images : All (λ (i : StoredImage). P i.page) s.store.images
   pub written : (r : RecordData) → Contains s.held r → P r.page
@@ -45,7 +45,7 @@ all_pages s point t other form other_form own others page =
     (λ (shown : P page). shown)
     (stored_or_bare s P page own)
 
--- a comparison of what is shown tells whether the two show the same
+-- a comparison of what is shown decides whether the two show the same
 pub tells_page : (s : State) (point : ℕ) (t : State) (other page : ℕ) (same : Bool) → IsSegment s → IsSegment t
     → ReportsSamePage s point t other page same → ReportsPages s point t other (λ P. P page) same
 tells_page s point t other page same form other_form tells =

@@ -1,4 +1,4 @@
--- What a state holds after a loop over the other state's held records, and which images a loop has picked.
+-- What a state stores after a loop over the other state's stored records, and which images a loop has picked.
 use Rattle.std.proofs.Common.{◌≡◌, ◌↔◌, ℕ, ◌+◌, ◌<◌, ◌≤◌, ◌⊎◌, inl, inr, ⊎_elim, List, [], ◌∷◌, ◌++◌, length, get_or, take, Some, refl, sym, ap, subst, ◌∙◌, rules, arith}
 use Rattle.std.specs.List.{Contains}
 use Rattle.std.proofs.lemmas.List.{take_more, take_all}
@@ -80,7 +80,7 @@ needless_by s t other r same rest h = search rules
 same_back : (s t : State) → SameBase s t → SameBase t s
 same_back s t rest = record { base = sym rest.base; store = sym rest.store }
 
--- another one under its key is not of the other state's held records, so the old state held it
+-- another one under its key is not of the other state's stored records, so the old state stored it
 spared_before : (old other mid : State) (r : RecordData) → IsRising RecordBefore other.held → Contains other.held r
     → ((x : RecordData) → Contains mid.held x → Contains old.held x ⊎ (Contains other.held x × (IsNeedless old other x → ⊥))) → mid.book ≡ old.book
     → SameBase old mid → IsSpared mid other r → IsSpared old other r
@@ -167,7 +167,7 @@ picks_left P xs picked i x lt is not picks y = (
 pub picks_all : {X : Type 0} (P : X → Type 0) (xs picked : List X) (i : ℕ) → length xs ≤ i → Picks P xs i picked → (y : X) → Contains picked y ↔ (Contains xs y × P y)
 picks_all P xs picked i end picks y = subst (λ ys. Contains picked y ↔ (Contains ys y × P y)) (take_all i xs end) (picks y)
 
--- under a held key nothing comes in: it is the same record, or another one that spares it
+-- under a stored key nothing comes in: it is the same record, or another one that spares it
 pub holds_known : (s other : State) (key : Key) (own : RecordData) → Contains s.held own × HasKey key own → HoldsAt s other key s
 holds_known s other key own at = record {
   book = refl;

@@ -1,4 +1,4 @@
--- What a segment tells, and what of a state that takes it.
+-- What a segment exports, and what of a state that takes it.
 use Rattle.std.proofs.Common.{ℕ, List, rules}
 use Rattle.redo_core.specs.Data.{RecordData}
 use Rattle.redo_core.specs.Order.{Lists, RecordBefore}

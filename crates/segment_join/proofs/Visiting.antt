@@ -1,4 +1,4 @@
--- Going over the pages that held records write, from the least on.
+-- Scanning the pages that stored records write, from the least on.
 use Rattle.std.proofs.Common.{◌≡◌, ℕ, ◌-◌, ◌≤◌, ◌⊎◌, ◌↔◌, ⊎_elim, List, ◌++◌, min, Option, Some, None, Bool, IsTrue, false, sym, subst, ◌∙◌, arith, rules}
 use Rattle.std.specs.List.{Contains}
 use Rattle.std.specs.Option.{SomeIff}
@@ -7,7 +7,7 @@ use Rattle.redo_core.specs.Data.{RecordData}
 use Rattle.hot_log.specs.Found.{IsPageAfter, IsPageAbove}
 use Rattle.segment_core.proofs.Pages.{IsPassed, none_passed}
 
--- a held record writes the next page, where there is one
+-- a stored record writes the next page, where there is one
 abbrev pub IsWritten : List RecordData → Option ℕ → Type 0
 IsWritten held None = Unit {0}
 IsWritten held (Some page) = (r : RecordData) × Contains held r × (r.page ≡ page)
@@ -69,7 +69,7 @@ pub from_page_on : (page : ℕ) (below : Option ℕ) → SomeIff below (1 ≤ pa
     → IsPageAbove below page × ((p : ℕ) → IsPageAbove below p → page ≤ p)
 from_page_on page below is = search rules
 
--- the least page above the one below a page tells whether that page is written
+-- the least page above the one below a page decides whether that page is written
 pub next_is_written : (held : List RecordData) (page : ℕ) (below : Option ℕ) (next : ℕ) → IsPageAfter held below (Some next) → next ≡ page
     → ((r : RecordData) → Contains held r → r.page ≡ page → ⊥) → ⊥
 next_is_written held page below next is same none = none is.0.0 is.0.1 (is.0.2 ∙ same)

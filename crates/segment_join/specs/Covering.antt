@@ -26,11 +26,11 @@ HasKept upper anchor lower base r = IsKeptBy lower base r → HasRecord upper an
 abbrev pub HasAllKept : State → ℕ → State → ℕ → Type 0
 HasAllKept upper anchor lower base = (r : RecordData) → HasKept upper anchor lower base r
 
--- so of the record that the lower segment holds under a key
+-- so of the record that the lower segment stores under a key
 abbrev pub HasAt : State → ℕ → State → Key → Type 0
 HasAt upper anchor lower key = (r : RecordData) → Contains lower.held r → HasKey key r → HasRecord upper anchor r
 
--- that record is held in the upper segment
+-- that record is stored in the upper segment
 abbrev pub IsHeldAt : State → State → Key → Type 0
 IsHeldAt upper lower key = (r : RecordData) → Contains lower.held r → HasKey key r → Contains upper.held r
 

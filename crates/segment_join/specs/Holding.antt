@@ -1,4 +1,4 @@
--- What a state holds of another one, besides the facts that it took.
+-- What a state stores of another one, besides the facts that it took.
 use Rattle.std.specs.Prelude.{◌≡◌, ◌≤◌, ◌⊎◌}
 use Rattle.std.specs.List.{Contains}
 use Rattle.redo_core.specs.Data.{RecordData}
@@ -15,11 +15,11 @@ InOtherImage s other r = (r.epoch ≤ s.book.complete) × (r.number ≤ other.ba
 abbrev pub IsNeedless : State → State → RecordData → Type 0
 IsNeedless s other r = IsDead s.book.cuts s.book.complete r.epoch r.number ⊎ (IsInImage s r ⊎ InOtherImage s other r)
 
--- a record needs no place in a state: the state holds another one under its key, or nothing of it is missing
+-- a state need not store a record: it stores another one under its key, or nothing of it is missing
 abbrev pub IsSpared : State → State → RecordData → Type 0
 IsSpared s other r = HoldsOther s r ⊎ IsNeedless s other r
 
--- what the state held is held, and of the other's held records each that is not spared, and none that is needless
+-- what the state stored is stored, and of the other's stored records each that is not spared, and none that is needless
 pub record HoldsRest (old other new : State) : Type 0 where
   pub book : new.book ≡ old.book
   pub rest : SameBase old new

@@ -27,14 +27,14 @@ MeansUnion old other new =
 abbrev pub AreOfOneLog : State → State → Type 0
 AreOfOneLog s t = (roster : ℕ) × (log F G : List Fact) × IsSound roster log × Means roster log F s × Means roster log G t
 
--- the other holds a record that is not dead in the new view, and keeps it, or has it in no image
+-- the other stores a record that is not dead in the new view, and keeps it, or has it in no image
 abbrev pub IsBroughtIn : State → State → RecordData → Type 0
 IsBroughtIn other new r =
     Contains other.held r × (IsDead new.book.cuts new.book.complete r.epoch r.number → ⊥)
     × (((anchor : ℕ) × HasAnchor other anchor × IsKeptBy other anchor r) ⊎ (InOtherImage new other r → ⊥))
 
--- What the two know together, over any facts. The segment keeps its own records; one of the other that is not dead is held, or its
--- page's image has it, or another one stands under its key in the segment; no other record comes in. A page takes the other's image
+-- What the two know together, for arbitrary facts. The segment keeps its own records; one of the other that is not dead is stored, or its
+-- page's image has it, or another one is under its key in the segment; no other record comes in. A page takes the other's image
 -- only where that is newer.
 pub record JoinsInto (old other new : State) : Type 0 where
   pub book : JoinsBooks old.book other.book new.book
@@ -47,7 +47,7 @@ pub record JoinsInto (old other new : State) : Type 0 where
       ⊎ ((version_of old.store page < version_of new.store page) × SamePage other.store new.store page)
   pub newest : (page : ℕ) → version_of other.store page ≤ version_of new.store page
 
--- of one roster, and each fact that the other tells is taken in order
+-- of one roster, and each fact that the other exports is taken in order
 pub record TakesTold (old other : State) : Type 0 where
   pub one_roster : roster_of old.book ≡ roster_of other.book
   pub facts : List Fact
@@ -55,7 +55,7 @@ pub record TakesTold (old other : State) : Type 0 where
   pub taken : State
   pub takes : TakesEach old facts taken
 
--- the two are of two rosters, or else one of the facts that the other tells is refused
+-- the two are of two rosters, or else one of the facts that the other exports is refused
 abbrev pub RefusesJoin : State → State → Refusal → Type 0
 RefusesJoin old other why =
     ((roster_of old.book ≢ roster_of other.book) × (why ≡ OtherRoster (roster_of old.book) (roster_of other.book)))

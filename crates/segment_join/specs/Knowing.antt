@@ -1,4 +1,4 @@
--- How one segment comes to know and hold what another one tells.
+-- How one segment learns and stores what another one exports.
 use Rattle.std.specs.Prelude.{◌≡◌, ℕ, ◌⊎◌, List}
 use Rattle.std.specs.List.{Contains}
 use Rattle.redo_core.specs.Data.{RecordData}
@@ -14,13 +14,13 @@ use Rattle.segment_core.specs.Exported.{AreExported}
 use Rattle.segment_core.specs.InOrder.{TakesEach, RefusesOne}
 use Rattle.segment_join.specs.Holding.{IsNeedless, IsSpared, HoldsRest}
 
--- each fact that the other tells is taken, in order
+-- each fact that the other exports is taken, in order
 pub record TakesAll (old other new : State) : Type 0 where
   pub facts : List Fact
   pub told : AreExported other facts
   pub takes : TakesEach old facts new
 
--- one of the facts that the other tells is refused
+-- one of the facts that the other exports is refused
 abbrev pub RefusesAll : State → State → Refusal → Type 0
 RefusesAll old other why = (facts : List Fact) × AreExported other facts × RefusesOne old facts why
 
@@ -28,7 +28,7 @@ RefusesAll old other why = (facts : List Fact) × AreExported other facts × Ref
 abbrev pub KnowsKept : State → State → Type 0
 KnowsKept s other = (anchor : ℕ) (r : RecordData) → HasAnchor other anchor → IsKeptBy other anchor r → IsKnown s (Record r)
 
--- the other's held record of the key is held, unless it is spared; none that is needless is
+-- the other's stored record of the key is stored, unless it is spared; none that is needless is
 pub record HoldsAt (old other : State) (key : Key) (new : State) : Type 0 where
   pub book : new.book ≡ old.book
   pub rest : SameBase old new
@@ -36,7 +36,7 @@ pub record HoldsAt (old other : State) (key : Key) (new : State) : Type 0 where
   pub more : (r : RecordData) → Contains new.held r → Contains old.held r ⊎ (Contains other.held r × (IsNeedless old other r → ⊥))
   pub each : (r : RecordData) → Contains other.held r → HasKey key r → Contains new.held r ⊎ IsSpared old other r
 
--- the segment has taken what the other tells, and holds the rest of what it holds
+-- the segment has taken what the other exports, and stores the rest of what it stores
 pub record IsJoined (own other new : State) : Type 0 where
   pub taken : State
   pub takes : TakesAll own other taken

@@ -19,7 +19,7 @@ Antisymmetry =
     → IsSound roster log → IsPart part log → IsPart other log → IsMeaning roster part x → IsMeaning roster other y
     → Covers x y → Covers y x → x ≡ y
 
--- the two states tell the same meaning
+-- the two states have the same meaning
 abbrev pub MeanTheSame : State → State → Type 0
 MeanTheSame s t = (m : Meaning) → HasMeaning s m ↔ HasMeaning t m
 

@@ -10,7 +10,7 @@ use Rattle.segment_theorems.specs.Means.{Means}
 use Rattle.segment_theorems.specs.Shows.{Shows}
 use Rattle.segment_theorems.specs.HasMeaning.{HasMeaning}
 
--- By the meanings that the two tell by themselves, over any facts.
+-- By the meanings that the two have by themselves, for arbitrary facts.
 abbrev pub ReportsSame : State → State → Bool → Type 0
 ReportsSame s t answer = (y x : Meaning) → HasMeaning s y → HasMeaning t x → IsTrue answer ↔ (y ≡ x)
 
@@ -25,7 +25,7 @@ SameByParts s t answer =
 abbrev pub ShowOne : State → ℕ → State → ℕ → ℕ → Type 0
 ShowOne s point t other page = (image : List ℕ) × Shows s page point image × Shows t page other image
 
--- no held record of either state writes the page
+-- no stored record of either state writes the page
 abbrev pub IsUnwritten : State → State → ℕ → Type 0
 IsUnwritten s t page = (r : RecordData) → Contains (s.held ++ t.held) r → r.page ≡ page → ⊥
 

@@ -21,15 +21,15 @@ use segment_theorems::same_meaning;
 use std::alloc::AllocError;
 
 /// Whether one segment's meaning is at or above another's: each truncation, reader's point and waiting advance of the lower one is
-/// known, its anchor is reached, and each record that it keeps is kept, dead or settled. The two rosters may differ.
+/// known, its anchor is reached, and each record that it keeps is kept, dead or stable. The two rosters may differ.
 ///
 /// It fails only if memory runs out.
 pub fn covers(upper: &Segment, lower: &Segment) -> Result<bool, AllocError>
-    // By the two meanings, over any facts.
+    // By the two meanings, for arbitrary facts.
     ensures meanings { IfOk result (λ answer. (y x : Meaning) → HasMeaning upper.now y → HasMeaning lower.now x → IsTrue answer ↔ Covers y x) }
-    // Inside one sound log: it means a part that holds a part of the other meaning.
+    // Inside one sound log: it means a part that contains a part of the other meaning.
     ensures parts { IfOk result (CoversByParts upper.now lower.now) }
-    // By what is stored, over any facts.
+    // By what is stored, for arbitrary facts.
     ensures own { IfOk result (λ answer. (anchor base : ℕ) → HasAnchor upper.now anchor → HasAnchor lower.now base → IsTrue answer ↔ CoversState anchor upper.now base lower.now) }
 {
     upper.opens_form();
@@ -71,7 +71,7 @@ fn has_missing(upper: &Segment, anchor: u64, lower: &Segment, base: u64) -> Resu
     Ok(has_records(upper, anchor, lower, base, &missing))
 }
 
-/// Whether an upper segment keeps the record that a lower one holds under each of these keys, or needs it no more.
+/// Whether an upper segment keeps the record that a lower one stores under each of these keys, or needs it no more.
 fn has_keys(upper: &Segment, anchor: u64, lower: &Segment, keys: &[Key]) -> bool
     ensures { IsTrue result ↔ All (HasAt upper.now anchor lower.now) keys.now }
 {
@@ -93,11 +93,11 @@ fn has_at(upper: &Segment, anchor: u64, lower: &Segment, key: Key) -> bool
     holds_at(upper, lower, key)
 }
 
-/// Whether the record that a lower segment holds under a key, if any, is held in an upper one.
+/// Whether the record that a lower segment stores under a key, if any, is stored in an upper one.
 fn holds_at(upper: &Segment, lower: &Segment, key: Key) -> bool
     ensures { IsTrue result ↔ IsHeldAt upper.now lower.now key }
 {
-    // At most one record stands under a key.
+    // A key has at most one record.
     upper.opens_form();
     lower.opens_form();
     let Some(redo) = lower.get(key) else {
@@ -165,7 +165,7 @@ fn has_record(segment: &Segment, anchor: u64, redo: &Record) -> bool
     !segment.keeps(redo.key(), anchor)
 }
 
-/// Whether that is so of a record which a lower segment holds, or the lower one keeps it not.
+/// Whether that is so of a record that a lower segment stores, or the lower one does not keep it.
 fn has_kept(upper: &Segment, anchor: u64, lower: &Segment, base: u64, redo: &Record) -> bool
     requires { IsMissing upper.now.held lower.now.held redo.now }
     ensures { IsTrue result ↔ HasKept upper.now anchor lower.now base redo.now }

@@ -13,8 +13,8 @@ use redo_core::Record;
 use segment_core::{BaseImage, MergeTransaction, Segment, Standing};
 use std::alloc::AllocError;
 
-/// Holds in a segment what another one holds, but for what is dead in the segment's view or folded in one of the two. What the
-/// segment did not hold of it is given, and what the other one keeps of that was taken.
+/// Inserts into a segment what another one stores, but for what is dead in the segment's view or folded in one of the two. `missing` is
+/// what the segment did not store of it; what the other one keeps of that was taken before.
 pub(crate) fn hold_rest(
     union: &mut MergeTransaction<'_>,
     other: &Segment,
@@ -26,7 +26,7 @@ pub(crate) fn hold_rest(
     ensures holds { OnOk result (HoldsRest (reached union.old) other.now (reached union.new)) }
     ensures began { began union.new ≡ began union.old }
 {
-    // At most one record stands under a key.
+    // A key has at most one record.
     other.opens_form();
     for redo in missing {
         hold_one(union, other, redo)?;
@@ -34,7 +34,7 @@ pub(crate) fn hold_rest(
     Ok(())
 }
 
-/// Holds the other segment's record, where the segment holds none under its key.
+/// Inserts the other segment's record, where the segment stores none under its key.
 fn hold_one(
     union: &mut MergeTransaction<'_>,
     other: &Segment,
@@ -45,7 +45,7 @@ fn hold_one(
     ensures holds { OnOk result (HoldsAt (reached union.old) other.now (key_of redo.now) (reached union.new)) }
     ensures began { began union.new ≡ began union.old }
 {
-    // At most one record stands under a key.
+    // A key has at most one record.
     other.opens_form();
     // Much of what is missing was taken just now, or was folded in the segment, and no look-up is spent on it.
     if is_taken(union.segment(), other, redo) {
@@ -60,8 +60,8 @@ fn hold_one(
     union.hold(redo.copy()?)
 }
 
-/// Whether both segments keep a record that the other one holds. The segment has taken all that the other one keeps, so it then holds
-/// the record too. That is told by comparing alone.
+/// Whether both segments keep a record that the other one stores. The segment has taken all that the other one keeps, so it then stores
+/// the record too. The test needs no look-up.
 fn is_taken(segment: &Segment, other: &Segment, redo: &Record) -> bool
     requires held { Contains other.now.held redo.now }
     requires taken { KnowsKept segment.now other.now }

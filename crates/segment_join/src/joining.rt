@@ -14,7 +14,7 @@ use crate::missing::kept_among;
 use redo_core::Record;
 use segment_core::{MergeTransaction, Refusal, Savepoint, Segment, book_ref, import_facts};
 
-/// Brings what another segment means into a segment, whatever each has folded and thrown away.
+/// Merges what another segment means into a segment, whatever each has folded and dropped.
 ///
 /// Errors: `OtherRoster` where the two rosters differ; else as of the first fact that `take` would refuse, of the other's truncations, each
 /// reader's point in the other's complete epoch, its waiting advances and its kept records; `Memory`. The segment is then as it was.
@@ -22,7 +22,7 @@ pub fn join(segment: &mut Segment, other: &Segment) -> Result<(), Refusal>
     // Inside one sound log.
     ensures means { OnOk result (MeansUnion segment.old other.now segment.new) }
     ensures sound { IfErr result (λ e. AreOfOneLog segment.old other.now → e ≡ MemoryOf) }
-    // Over any facts.
+    // For arbitrary facts.
     ensures joins { OnOk result (JoinsInto segment.old other.now segment.new) }
     ensures takes { OnOk result (TakesTold segment.old other.now) }
     ensures refused { IfErr result (λ e. (e ≡ MemoryOf) ⊎ RefusesJoin segment.old other.now e) }
@@ -36,8 +36,8 @@ pub fn join(segment: &mut Segment, other: &Segment) -> Result<(), Refusal>
     bring_in(segment, other)
 }
 
-/// Takes what another segment of the same roster tells, holds the rest of what it holds, and takes its newer images. A refusal leaves
-/// the segment as it was: it drops the union, which rolls it back.
+/// Takes what another segment of the same roster exports, inserts the rest of what it stores, and takes its newer images. A refusal leaves
+/// the segment as it was: it drops the transaction, which rolls it back.
 fn bring_in(segment: &mut Segment, other: &Segment) -> Result<(), Refusal>
     requires { roster_of segment.old.book ≡ roster_of other.now.book }
     ensures joins { OnOk result (JoinsInto segment.old other.now segment.new) }
@@ -68,7 +68,7 @@ fn join_saved(segment: &mut Segment, saved: &mut Savepoint, other: &Segment) -> 
     Ok(())
 }
 
-/// Takes what another segment tells, and holds the rest of what it holds.
+/// Takes what another segment exports, and inserts the rest of what it stores.
 fn know_and_hold(union: &mut MergeTransaction<'_>, other: &Segment) -> Result<(), Refusal>
     ensures joined { OnOk result (IsJoined (reached union.old) other.now (reached union.new)) }
     ensures refused { IfErr result (λ e. (e ≡ MemoryOf) ⊎ RefusesAll (reached union.old) other.now e) }
@@ -83,7 +83,7 @@ fn know_and_hold(union: &mut MergeTransaction<'_>, other: &Segment) -> Result<()
     Ok(())
 }
 
-/// Takes each fact that another segment tells. What the segment holds already tells it nothing: it is not looked at.
+/// Takes each fact that another segment exports, but skips the records that the segment stores already: they would change nothing.
 fn take_all(
     union: &mut MergeTransaction<'_>,
     other: &Segment,

@@ -1,15 +1,15 @@
-//! The laws of merging, for the parts of every sound log, whatever each segment has folded and thrown away.
+//! The theorems of merging, for the parts of every sound log, whatever each segment has folded and dropped.
 //!
-//! `order_by_parts`: one meaning covers another exactly where it means a part of the log that holds a part of the other meaning.
+//! `order_by_parts`: one meaning covers another exactly where it means a part of the log that contains a part of the other meaning.
 //! `antisymmetry`: two meanings of one log that cover each other are one. `least_upper_bound`: the meaning of a union covers both, and
 //! each meaning that covers both covers it; it depends neither on how the parts are grouped (`associativity`), nor on their order
-//! (`commutativity`), nor on how often each is heard (`idempotence`). `congruence`: two parts of one meaning stay so after each hears
-//! the same facts. `answers`: parts of one meaning have one front, and one page at each read point. `overlap`: a place of the log that a
+//! (`commutativity`), nor on how often each arrives (`idempotence`). `congruence`: two parts of one meaning stay so after each takes
+//! the same facts. `answers`: parts of one meaning have one front, and one page at each read point. `overlap`: a position of the log that a
 //! write quorum has reached is reached by the union of each read quorum that is sure to meet it; of six segments, write four, read
 //! three (`write_four_read_three`).
 //!
-//! `same_meaning`: what a segment tells by itself is the meaning of its facts. `join_means_union`: a segment that knows what two know
-//! together means the union of what they mean. So of segments that are joined: the joined one is the least above both
+//! `same_meaning`: the meaning that a segment has by itself is the meaning of its facts. `join_means_union`: a segment that knows what
+//! two know together means the union of what they mean. So of segments that are joined: the joined one is the least above both
 //! (`joins_are_least`), and which is joined into which, in what order and how often does not matter (`joins_commute`,
 //! `joins_associate`, `join_with_itself`, `joins_agree`).
 ghost use Rattle.segment_join.specs.Laws.{Antisymmetry, JoinsAreLeast, JoinsCommute, JoinsAssociate, JoinWithItself, JoinsAgree, WriteFourReadThree};

@@ -9,8 +9,8 @@ use redo_core::Record;
 use segment_core::Segment;
 use std::alloc::AllocError;
 
-/// Those of a segment's held records that its meaning keeps, of a list by page and key; they rise by key. Its only error is want of
-/// memory.
+/// Those of a segment's stored records that its meaning keeps, of a list by page and key; they rise by key. It fails only if memory
+/// runs out.
 pub(crate) fn kept_among<'a>(
     segment: &Segment,
     records: &[&'a Record],
@@ -19,7 +19,7 @@ pub(crate) fn kept_among<'a>(
     requires held { (r : RecordData) → Contains (map (λ x. x.now) records.now) r → Contains segment.now.held r }
     ensures { (anchor : ℕ) → HasAnchor segment.now anchor → IfOk result (λ v. Lists RecordBefore (λ r. Contains (map (λ x. x.now) records.now) r × IsKeptBy segment.now anchor r) (map (λ x. x.now) v.items)) }
 {
-    // At most one record stands under a key.
+    // A key has at most one record.
     segment.opens_form();
     let anchor = segment.anchor();
     let mut kept = kept_by_page(segment, anchor, records)?;
@@ -28,7 +28,7 @@ pub(crate) fn kept_among<'a>(
     Ok(kept)
 }
 
-/// Those of a segment's held records that wait or are alive above a point, of a list by page and key.
+/// Those of a segment's stored records that wait or are alive above a point, of a list by page and key.
 fn kept_by_page<'a>(
     segment: &Segment,
     point: u64,
@@ -47,7 +47,7 @@ fn kept_by_page<'a>(
     Ok(kept)
 }
 
-/// Whether a held record waits, or is alive above a point.
+/// Whether a stored record waits, or is alive above a point.
 pub(crate) fn keeps(segment: &Segment, point: u64, redo: &Record) -> bool
     ensures { Contains segment.now.held redo.now → IsTrue result ↔ IsKeptBy segment.now point redo.now }
 {

@@ -11,11 +11,11 @@ use segment_core::{BaseImage, ReadFault, Segment};
 use segment_theorems::same_meaning;
 use std::alloc::AllocError;
 
-/// Whether two segments mean the same, whatever each has folded and thrown away. The two rosters may differ.
+/// Whether two segments mean the same, whatever each has folded and dropped. The two rosters may differ.
 ///
 /// Its only error is `Memory`.
 pub fn same(one: &Segment, other: &Segment) -> Result<bool, ReadFault>
-    // By the two meanings, over any facts.
+    // By the two meanings, for arbitrary facts.
     ensures meanings { IfOk result (ReportsSame one.now other.now) }
     // Inside one sound log: the parts that the two mean have one meaning.
     ensures parts { IfOk result (SameByParts one.now other.now) }
@@ -43,7 +43,7 @@ fn has_same_meaning(one: &Segment, other: &Segment) -> Result<bool, AllocError>
     has_same_pages(one, one.anchor(), other, other.anchor())
 }
 
-/// Whether each page is the same. A page that has neither an image nor a held record is zeros.
+/// Whether each page is the same. A page that has neither an image nor a stored record is zeros.
 fn has_same_pages(
     one: &Segment,
     point: u64,
@@ -63,7 +63,7 @@ fn has_same_pages(
     has_same_images(one, point, other, other_point, other.pages())
 }
 
-/// Whether the page of each of these images is the same, where no held record writes it.
+/// Whether the page of each of these images is the same, where no stored record writes it.
 fn has_same_images(
     one: &Segment,
     point: u64,
@@ -81,7 +81,7 @@ fn has_same_images(
     Ok(true)
 }
 
-/// Whether a page is the same, where no held record writes it.
+/// Whether a page is the same, where no stored record writes it.
 fn has_same_unwritten(
     one: &Segment,
     point: u64,
@@ -97,7 +97,7 @@ fn has_same_unwritten(
     has_same_page(one, point, other, other_point, page)
 }
 
-/// Whether each page that a held record of either segment writes is the same.
+/// Whether each page that a stored record of either segment writes is the same.
 fn has_same_written(
     one: &Segment,
     point: u64,
@@ -116,7 +116,7 @@ fn has_same_written(
     Ok(true)
 }
 
-/// The least page above the one given that a held record of either segment writes; the least of all for None.
+/// The least page above the one given that a stored record of either segment writes; the least of all for None.
 fn written_after(one: &Segment, other: &Segment, after: Option<u16>) -> Option<u16>
     ensures { IsPageAfter (one.now.held ++ other.now.held) after result }
 {
@@ -127,7 +127,7 @@ fn written_after(one: &Segment, other: &Segment, after: Option<u16>) -> Option<u
     }
 }
 
-/// Whether a held record of either segment writes a page.
+/// Whether a stored record of either segment writes a page.
 fn is_written(one: &Segment, other: &Segment, page: u16) -> bool
     ensures written { IsTrue result → IsUnwritten one.now other.now page → ⊥ }
     ensures unwritten { result ≡ false → IsUnwritten one.now other.now page }

@@ -10,7 +10,7 @@ use Rattle.segment_core.proofs.Ordered.{memory_or}
 use Rattle.segment_join.proofs.JoinInLog.{sound_join, means_union}
 use Rattle.segment_join.proofs.joining.join.Goals as goal
 
--- of one roster, what is refused of what the other tells refuses the join
+-- of one roster, what is refused of what the other exports refuses the join
 refused_told : (own other : State) (why : Refusal) → roster_of own.book ≡ roster_of other.book → RefusesAll own other why → RefusesJoin own other why
 refused_told own other why same refused = inr (same, refused.0, refused.1, refused.2)
 
