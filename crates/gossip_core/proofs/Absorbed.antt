@@ -1,4 +1,4 @@
--- What a state is after it has taken what a delta tells, with the delta's pages.
+-- What a state is after it has taken what a delta exports, with the delta's pages.
 use Rattle.std.proofs.Common.{◌≡◌, ℕ, ◌<◌, ◌≤◌, ◌⊎◌, inl, inr, ⊎_elim, map, max, refl, sym, ap, ◌∙◌, subst, arith, rules}
 use Rattle.std.specs.List.{Contains}
 use Rattle.redo_core.specs.Data.{RecordData}
@@ -22,7 +22,7 @@ use Rattle.segment_core.proofs.ToldFacts.{listed_cut, listed_advance, listed_rec
 use Rattle.segment_core.proofs.BookTaken.{HasBook, all, book_joined, least_fits, late_of}
 use Rattle.gossip_core.specs.Absorbing.{filling_of, based_image, AbsorbsInto}
 
--- the state has taken what the delta tells
+-- the state has taken what the delta exports
 pub record HasDelta (s : State) (d : DeltaData) (taken : State) : Type 0 where
   pub form : IsSegment s
   pub shape : IsDelta d
@@ -90,7 +90,7 @@ module _ (s : State) (d : DeltaData) (taken new : State) (h : HasDelta s d taken
     images = images;
   }
 
--- ---- what the two know together, where each told record that is not dead is held or in its page's image
+-- ---- what the two know together, where each exported record that is not dead is stored or in its page's image
 module _ (s : State) (d : DeltaData) (new : State) (late : IsLate s) (a : AbsorbsInto s d new)
     (told : (r : RecordData) → Contains d.records r → Matters a.taken.book.cuts a.taken.book.complete r → Contains a.taken.held r ⊎ IsInImage a.taken r) where
   all_left : LeavesAll s (exported_facts d.book d.records) a.taken

@@ -1,4 +1,4 @@
--- The first element of a list that fails a test, and how the standing of a key tells whether it is accounted for.
+-- The first element of a list that fails a test, and how the standing of a key decides whether it is accounted for.
 use Rattle.std.proofs.Common.{◌≡◌, ℕ, ◌<◌, inl, inr, ⊎_elim, List, [], ◌∷◌, zero, suc, length, get_or, take, sym, ap, subst, ◌∙◌, arith}
 use Rattle.std.proofs.lemmas.Grind.{common_steps}
 use Rattle.std.specs.List.{All, AllByRecursion, Contains}

@@ -1,4 +1,4 @@
--- Inside one sound log: a state answers for a summary exactly where its facts do.
+-- Inside one sound log: a state covers a summary exactly where its facts do.
 use Rattle.std.proofs.Common.{◌≡◌, ℕ, ◌<◌, ◌≤◌, ◌⊎◌, ◌↔◌, inl, inr, ⊎_elim, List, Option, Some, None, refl, sym, subst, arith, rules}
 use Rattle.std.specs.List.{Contains}
 use Rattle.redo_core.specs.Data.{RecordData}

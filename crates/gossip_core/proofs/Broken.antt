@@ -1,4 +1,4 @@
--- What a reply with pages tells of broken block chains.
+-- What a reply with pages reports of broken block chains.
 use Rattle.std.proofs.Common.{◌≡◌, ℕ, ◌↔◌, Option, Some, Result, Err, ap, subst}
 use Rattle.segment_theorems.specs.State.{State}
 use Rattle.segment_core.specs.Forgetting.{IsWhole, IsFirstBreak}
@@ -6,7 +6,7 @@ use Rattle.segment_core.specs.declared.answers.ReadFault.{ReadFault}
 use Rattle.segment_core.specs.declared.answers.ReadFault.TheVariants.{BrokenBlockChain}
 use Rattle.segment_core.proofs.FirstBreak.{ReportsFirst}
 
--- a broken chain is told exactly where there is one, and then of the least page
+-- a broken chain is reported exactly where there is one, and then of the least page
 abbrev pub ReportsBreak : (D : Type 0) → State → Result D ReadFault → Type 0
 ReportsBreak D s result = (page n : ℕ) → (result ≡ Err (BrokenBlockChain page n)) ↔ IsFirstBreak s page n
 

@@ -1,4 +1,4 @@
--- Inside one sound log: a state refuses nothing that a delta tells, and what it means after an absorb.
+-- Inside one sound log: a state refuses nothing that a delta exports, and what it means after an absorb.
 use Rattle.std.proofs.Common.{◌≡◌, ℕ, ⊎_elim, List, ◌++◌}
 use Rattle.redo_core.specs.Position.{Position}
 use Rattle.redo_core.specs.declared.facts.Fact.{Fact}

@@ -1,4 +1,4 @@
--- What a state does not answer for is one thing, and an absorb tells it.
+-- What a state does not cover is one thing, and an absorb reports it.
 use Rattle.std.proofs.Common.{◌≡◌, ◌↔◌, ℕ, ⊎_elim, Option, Some, None, Result, Ok, Err, OnOk, IfErr, refl, sym, ap, ◌∙◌, arith, rules}
 use Rattle.std.proofs.lemmas.List.Elements.{All-contains}
 use Rattle.redo_core.specs.Book.{roster_of}

@@ -1,4 +1,4 @@
--- What a segment stores tells one meaning.
+-- What a segment stores determines one meaning.
 use Rattle.std.proofs.Common.{◌≡◌, ◌≢◌, ℕ, ◌<◌, ◌≤◌, ◌⊎◌, inl, inr, ⊎_elim, List, ◌++◌, map, refl, sym, ◌∙◌, subst, arith, rules}
 use Rattle.std.specs.List.{Contains}
 use Rattle.std.proofs.lemmas.List.Elements.{Contains-append_left, Contains-append_right}
@@ -37,7 +37,7 @@ anchor_exists s form =
     (λ _. settled_le n (min_of s)))
     (min_of s) (λ n h. h.1)
 
--- the pages that have an image, and those that held records write
+-- the pages that have an image, and those that stored records write
 stored_pages : State → List ℕ
 stored_pages s = map (λ (i : StoredImage). i.page) s.store.images ++ map (λ (r : RecordData). r.page) s.held
 

@@ -1,4 +1,4 @@
--- Books and keys that are equal part by part, and where an anchor stands.
+-- Books and keys that are equal part by part, and where an anchor is.
 use Rattle.std.proofs.Common.{ℕ, ◌≤◌}
 use Rattle.redo_core.specs.Linked.Linked.{start}
 use Rattle.segment_theorems.specs.State.{State}

@@ -1,4 +1,4 @@
--- The delta of which a size is told, before it is made.
+-- The delta of which a size is returned, before it is made.
 use Rattle.std.proofs.Common.{◌≡◌, ℕ, ◌<◌, ◌≤◌, min, List, [], length, refl}
 use Rattle.std.specs.List.{AllByRecursion}
 use Rattle.redo_core.specs.Data.{RecordData}

@@ -1,4 +1,4 @@
--- A key of a summary that a segment answers for is one that the facts that it means answer for.
+-- A key of a summary that a segment covers is one that the facts that it means cover.
 use Rattle.std.proofs.Common.{◌≡◌, ℕ, inl, ⊎_elim, List, [], ◌∷◌, sym, subst, arith, Some, None}
 use Rattle.std.specs.List.{Contains}
 use Rattle.redo_core.specs.Order.{IsFirst}
@@ -23,7 +23,7 @@ module _ (roster : ℕ) (log F : List Fact) (f : Position) (s : State) (sound : 
   one : SummaryData → Key → SummaryData
   one x key = record { book = x.book; anchor = 0; keys = key ∷ [] }
 
-  -- a key that the segment answers for is answered for by its facts
+  -- a key that the segment covers is covered by its facts
   pub accounted : SummaryData → (key : Key) → IsCovered s anchor key → IsAccounted F f key
   unfolding one
   accounted x key covers =

@@ -45,12 +45,12 @@ MeansBoth old summary d new =
 abbrev pub IsOfOneLog : State → SummaryData → DeltaData → Type 0
 IsOfOneLog s summary d = (roster : ℕ) × (log F G : List Fact) × (f g : Position) × IsAnsweredInLog roster log F G f g s summary d
 
--- ---- over any facts
--- the state answers for the summary
+-- ---- for arbitrary facts
+-- the state answers for (covers) the summary
 abbrev pub Answers : State → SummaryData → Type 0
 Answers s summary = (anchor : ℕ) × HasAnchor s anchor × IsUncovered s anchor summary None
 
--- Of one roster, and each fact that the delta tells is taken in order: the state has what those leave, and the greater base point. A page
+-- Of one roster, and each fact that the delta exports is taken in order: the state has what those leave, and the greater base point. A page
 -- below the delta's base has the delta's image there, or zeros where that has none, and each other page what it had.
 pub record AbsorbsInto (old : State) (d : DeltaData) (new : State) : Type 0 where
   pub one_roster : roster_of old.book ≡ roster_of d.book
@@ -63,21 +63,21 @@ pub record AbsorbsInto (old : State) (d : DeltaData) (new : State) : Type 0 wher
       → ((d.base ≤ version_of old.store page) × SamePage old.store new.store page)
       ⊎ ((version_of old.store page < d.base) × (version_of new.store page ≡ d.base) × HasImage (filling_of d) page (image_of new.store page))
 
--- the delta is of another roster, and the refusal tells both
+-- the delta is of another roster, and the refusal reports both
 abbrev pub IsOfOther : State → DeltaData → Refusal → Type 0
 IsOfOther s d why = (roster_of s.book ≢ roster_of d.book) × (why ≡ OtherRoster (roster_of s.book) (roster_of d.book))
 
--- one of the facts that the delta tells is refused, or memory is wanting
+-- one of the facts that the delta exports is refused, or memory runs out
 abbrev pub RefusesTold : State → DeltaData → Refusal → Type 0
 RefusesTold s d why = (why ≡ Memory) ⊎ RefusesOne s (exported_facts d.book d.records) why
 
--- why an absorb is refused: another roster; else what is uncovered; else lack of memory, or what the delta tells
+-- why an absorb is refused: another roster; else what is uncovered; else lack of memory, or a fact that the delta exports
 abbrev pub RefusesAbsorb : State → SummaryData → DeltaData → AbsorbRefusal → Type 0
 RefusesAbsorb s summary d (Uncovered shown) =
     (roster_of s.book ≡ roster_of d.book) × ((anchor : ℕ) × HasAnchor s anchor × IsUncovered s anchor summary (Some shown))
 RefusesAbsorb s summary d (Refused why) = IsOfOther s d why ⊎ ((roster_of s.book ≡ roster_of d.book) × Answers s summary × RefusesTold s d why)
 
--- a delta of another roster is told as such, whatever else might be said of it
+-- a delta of another roster is reported as such, whatever else may be wrong with it
 abbrev pub ReportsRoster : State → DeltaData → Result (Unit {0}) AbsorbRefusal → Type 0
 ReportsRoster s d answer =
     roster_of s.book ≢ roster_of d.book → answer ≡ Err (Refused (OtherRoster (roster_of s.book) (roster_of d.book)))

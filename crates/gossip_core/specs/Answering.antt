@@ -1,4 +1,4 @@
--- What of a summary a state answers for.
+-- What of a summary a state answers for (covers).
 use Rattle.std.specs.Prelude.{◌≡◌, ℕ, ◌<◌, ◌≤◌, ◌⊎◌, List, Option, Some, None}
 use Rattle.std.specs.List.{Contains, All}
 use Rattle.redo_core.specs.Order.{IsFirst}
@@ -17,7 +17,7 @@ abbrev pub listing_of : SummaryData → Listing
 listing_of summary = record { anchor = summary.anchor; keys = summary.keys }
 
 -- ---- what is uncovered
--- a state with this anchor accounts for the key: it is held, dead, or at or below the anchor and not waiting
+-- a state with this anchor accounts for the key: it is stored, dead, or at or below the anchor and not waiting
 abbrev pub IsCovered : State → ℕ → Key → Type 0
 IsCovered s anchor key =
     HoldsKey s.held key ⊎ (IsDead s.book.cuts s.book.complete key.epoch key.number ⊎ ((key.epoch ≤ s.book.complete) × (key.number ≤ anchor)))

@@ -25,7 +25,7 @@ use Rattle.gossip_core.specs.Absorbing.{filling_of}
 
 -- ---- the records
 
--- a held record is sent where it waits, or is alive above a point, and its key is not listed
+-- a stored record is sent where it waits, or is alive above a point, and its key is not listed
 abbrev pub IsSent : State → ℕ → List Key → RecordData → Type 0
 IsSent s point keys r = IsKeptBy s point r × (Contains keys (key_of r) → ⊥)
 

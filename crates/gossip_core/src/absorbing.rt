@@ -23,12 +23,12 @@ pub enum AbsorbRefusal {
     /// The segment does not answer for the summary that the delta was made for: so much of it is uncovered.
     #[error("the segment does not answer for the summary")]
     Uncovered { shown: Shown },
-    /// What the delta tells is refused.
+    /// A fact that the delta exports is refused.
     #[error("what the delta tells is refused")]
     Refused(Refusal),
 }
 
-/// Brings into a segment what a delta has beyond the summary that it was made for.
+/// Merges into a segment what a delta has beyond the summary that it was made for.
 ///
 /// Errors: `OtherRoster` exactly where the two rosters differ; else `Uncovered` exactly where the segment does not answer for the
 /// summary; else as of the first fact that `take` would refuse, of the delta's truncations, each reader's point in its complete epoch,
@@ -37,7 +37,7 @@ pub fn absorb(segment: &mut Segment, summary: &Summary, delta: &Delta) -> Result
     // Inside one sound log.
     ensures means { OnOk result (MeansBoth segment.old summary.now delta.now segment.new) }
     ensures sound { IfErr result (λ e. IsOfOneLog segment.old summary.now delta.now → (e ≡ RefusedFor MemoryOf) ⊎ ((shown : AnyShown) × (e ≡ UncoveredBy shown))) }
-    // Over any facts.
+    // For arbitrary facts.
     ensures absorbs { OnOk result (AbsorbsInto segment.old delta.now segment.new) }
     ensures answers { OnOk result (Answers segment.old summary.now) }
     ensures refused { IfErr result (RefusesAbsorb segment.old summary.now delta.now) }
@@ -61,8 +61,8 @@ pub fn absorb(segment: &mut Segment, summary: &Summary, delta: &Delta) -> Result
     }
 }
 
-/// Takes what a delta of the same roster tells and its pages, whatever summary it was made for. A refusal leaves the segment as it was:
-/// it drops the union, which rolls it back.
+/// Takes what a delta of the same roster exports and its pages, whatever summary it was made for. A refusal leaves the segment as it was:
+/// it drops the transaction, which rolls it back.
 fn take_delta(segment: &mut Segment, delta: &Delta) -> Result<(), Refusal>
     requires { roster_of segment.old.book ≡ roster_of delta.now.book }
     ensures absorbs { OnOk result (AbsorbsInto segment.old delta.now segment.new) }
@@ -92,7 +92,7 @@ fn take_saved(segment: &mut Segment, saved: &mut Savepoint, delta: &Delta) -> Re
     Ok(())
 }
 
-/// Takes each fact that a delta tells.
+/// Takes each fact that a delta exports.
 fn take_facts(union: &mut MergeTransaction<'_>, delta: &Delta) -> Result<(), Refusal>
     ensures takes { OnOk result (TakesEach (reached union.old) (exported_facts delta.now.book delta.now.records) (reached union.new)) }
     ensures refused { IfErr result (λ e. (e ≡ MemoryOf) ⊎ RefusesOne (reached union.old) (exported_facts delta.now.book delta.now.records) e) }

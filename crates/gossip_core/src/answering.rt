@@ -23,12 +23,12 @@ pub enum Shown {
     Key(Key),
 }
 
-/// What of a summary a segment does not answer for, or None where it answers for all of it: the anchor, where it is above the
-/// segment's own; else the least listed key that is neither held, nor dead, nor at or below the segment's anchor and not waiting.
+/// What of a summary a segment does not answer for, or None where it covers all of it: the anchor, where it is above the
+/// segment's own; else the least listed key that is neither stored, nor dead, nor at or below the segment's anchor and not waiting.
 pub fn uncovered(segment: &Segment, summary: &Summary) -> Option<Shown>
     // Inside one sound log: None exactly where the facts that the segment means answer for the summary.
     ensures facts { (roster : ℕ) (log facts : List AnyFact) (p : Position) → IsSound roster log → MeansAt roster log facts p segment.now → (result ≡ None) ↔ AnswersFor facts p (listing_of summary.now) }
-    // Over any facts.
+    // For arbitrary facts.
     ensures own { (anchor : ℕ) → HasAnchor segment.now anchor → IsUncovered segment.now anchor summary.now result }
 {
     uncovered_above(segment, segment.anchor(), summary)
@@ -52,7 +52,7 @@ fn first_uncovered(segment: &Segment, anchor: u64, keys: &[Key]) -> Option<Key>
     requires { IsRising KeyBefore keys.now }
     ensures { IsFirstUncovered segment.now anchor keys.now result }
 {
-    // A summary mostly comes back to who made it, and lists what that still keeps.
+    // A summary mostly returns to who made it, and lists what that still keeps.
     if keeps_all(segment, anchor, keys) {
         return None;
     }
@@ -64,7 +64,7 @@ fn first_uncovered(segment: &Segment, anchor: u64, keys: &[Key]) -> Option<Key>
     None
 }
 
-/// Whether a segment is seen to keep a record of each key without any being looked up; not so where they are few, or memory lacks.
+/// Whether a segment is seen to keep a record of each key without a look-up; false where the keys are few, or memory runs out.
 fn keeps_all(segment: &Segment, anchor: u64, keys: &[Key]) -> bool
     ensures { IsTrue result → All (IsCovered segment.now anchor) keys.now }
 {
@@ -77,7 +77,7 @@ fn keeps_all(segment: &Segment, anchor: u64, keys: &[Key]) -> bool
     }
 }
 
-/// Whether each of rising keys is seen to be among kept ones, which rise too: both are gone over side by side.
+/// Whether each of rising keys is seen to be among kept ones, which rise too: one scan over both.
 fn are_among(keys: &[Key], kept: &[Key]) -> bool
     ensures { IsTrue result → All (Contains kept.now) keys.now }
 {

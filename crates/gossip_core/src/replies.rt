@@ -10,7 +10,7 @@ use segment_core::{ReadFault, Segment, book_of, pages_at_anchor};
 use segment_theorems::{reply_fills, same_anchor};
 use std::alloc::AllocError;
 
-/// What a segment has beyond a summary, whichever segment told it and when: its book, and records that the summary does not list.
+/// What a segment has beyond a summary, whichever segment made it and when: its book, and records that the summary does not list.
 ///
 /// Where the summary's anchor reaches the base point, those are what waits and what is alive above the lower of that anchor and the
 /// segment's own; else there are the pages at the segment's anchor, and the records that its meaning keeps. Errors: `BrokenBlockChain`
@@ -19,7 +19,7 @@ pub fn reply(segment: &Segment, summary: &Summary) -> Result<Delta, ReadFault>
     // Inside one sound log, for whatever part of it the segment means.
     ensures fills { IfOk result (FillsSummary segment.now summary.now) }
     ensures sound { IfErr result (λ e. IsSoundState segment.now → e ≡ MemoryOf) }
-    // Over any facts.
+    // For arbitrary facts.
     ensures answers { IfOk result (AnswersSummary segment.now summary.now) }
     ensures refused { IfErr result (λ e. (e ≡ MemoryOf) ⊎ ((summary.now.anchor < segment.now.base) × IsLeastBreak segment.now e)) }
     ensures whole { IfOk result (λ _. summary.now.anchor < segment.now.base → IsWhole segment.now) }

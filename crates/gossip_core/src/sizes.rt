@@ -11,7 +11,7 @@ use segment_core::{ReadFault, Segment, book_ref, count_at_anchor};
 use segment_theorems::{reply_fills, same_anchor};
 use std::alloc::AllocError;
 
-/// How many bytes of the wire the reply to a summary has, as `reply` makes it. No part of that is kept: a page that is not folded is
+/// The size in bytes on the wire of the reply to a summary, as `reply` makes it. No part of that is kept: a page that is not folded is
 /// made to see whether it is zeros, one at a time.
 ///
 /// Errors: those of `reply`.

@@ -12,11 +12,11 @@ use segment_core::{Segment, book_of};
 use segment_theorems::same_meaning;
 use std::alloc::AllocError;
 
-/// What a segment tells of itself: its book, its anchor and the keys of the records that its meaning keeps, rising.
+/// The summary of a segment: its book, its anchor and the keys of the records that its meaning keeps, rising.
 ///
 /// It fails only if memory runs out.
 pub fn summary(segment: &Segment) -> Result<Summary, AllocError>
-    // Over any facts.
+    // For arbitrary facts.
     ensures own { IfOk result (Summarizes segment.now) }
     // It depends on the meaning alone.
     ensures meaning { IfOk result (λ s. (m : Meaning) → HasMeaning segment.now m → IsSummaryOf m s) }

@@ -1,4 +1,4 @@
-//! The held records that a summary does not list.
+//! The stored records that a summary does not list.
 ghost use Rattle.std.specs.Prelude.{◌≡◌, map, IfOk};
 ghost use Rattle.redo_core.specs.Order.{IsRising, Lists, RecordBefore};
 ghost use Rattle.redo_core.specs.Keys.{KeyBefore};
@@ -8,7 +8,7 @@ use redo_core::{Key, Record};
 use segment_core::Segment;
 use std::alloc::{AllocError, Global};
 
-/// Copies of the held records that wait, or are alive above a point, and whose keys are not listed, rising by key.
+/// Copies of the stored records that wait, or are alive above a point, and whose keys are not listed, rising by key.
 pub(crate) fn unlisted(
     segment: &Segment,
     point: u64,
