@@ -10,6 +10,6 @@ none_greatest P (suc b) most none =
     (λ n h. let at : n ≤ suc b = most n h in let no : n ≡ suc b → ⊥ = (λ e. none (suc b) (inr (subst P e h), most)) in omega (arith, at, no))
     none
 
--- a number that no greatest one is below is below no bound
+-- a number that is at most any greatest one is at most every bound
 pub at_most_bound : (P : ℕ → Type 0) (q bound : ℕ) → ((n : ℕ) → P n → n ≤ bound) → ((top : ℕ) → IsGreatest P top → top < q → ⊥) → q ≤ bound
 at_most_bound P q bound most none = search (rules, none_greatest)

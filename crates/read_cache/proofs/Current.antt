@@ -36,7 +36,7 @@ is_shown s top images u page kept at = record {
       omega arith;
 }
 
--- images are let go where they may be stale
+-- images are dropped where they may be stale
 pub unless_stale : (s : State) (stale : Bool) (old new : Images) (top low : ℕ)
     → (stale ≡ true → (new ≡ lru_cache [] old.cap) × (low ≡ 0)) → (stale ≡ false → (new ≡ old) × (low ≡ top))
     → (stale ≡ false → IsUpToDate s top old.entries) → IsUpToDate s low new.entries
@@ -90,7 +90,7 @@ pub after_take : (old new : State) (fact : Fact) (top : ℕ) (images : List (ℕ
     → stale ≡ false → IsUpToDate old top images → IsUpToDate new top images
 after_take old new fact top images touched stale result t is stores idle unchanged fresh u = search (rules, stored)
 
--- a page that takes an image, and whose own is let go
+-- a page that takes an image, and whose cached image is dropped
 pub after_commit : (old new : State) (folded : Folded) (top : ℕ) (before after : Images) → Commits old folded new → Forgets before folded.page after
     → IsUpToDate old top before.entries → IsUpToDate new top after.entries
 after_commit old new folded top before after c f u =
@@ -112,7 +112,7 @@ after_commit old new folded top before after c f u =
     })
     (let o : (folded.version ≤ version_of old.store folded.page) ⊎ (version_of old.store folded.page < folded.version) = grind arith in o)
 
--- records that images have are forgotten, and the complete point is not below the points kept
+-- records that images have are dropped, and the complete point is not below the points kept
 pub after_discard : (old new : State) (top complete : ℕ) (images : List (ℕ × KeptImage)) → DiscardsJust old new → HasComplete new complete → top ≤ complete
     → IsUpToDate old top images → IsUpToDate new top images
 after_discard old new top complete images d has high u =

@@ -52,7 +52,7 @@ put_one old page kept e at = elim (Contains-put_entries nat_eq old page kept e a
     pair : (e : ℕ × KeptImage) (page : ℕ) (kept : KeptImage) → e.0 ≡ page → e.1 ≡ kept → e ≡ (page, kept)
     pair e page kept k v = λ i. (k i, v i)
 
--- where memory is wanting, nothing changes
+-- where memory runs out, nothing changes
 pub keeps : {A B : Type 0} (r : Result A B) (old new : Images) (page : ℕ) (kept : KeptImage)
     → OnOk r (new ≡ lru_cache (put_entries nat_eq old page kept) old.cap) → OnErr r (new ≡ old) → CachesOnly old page kept new
 keeps (Ok v) old new page kept put same e at = put_one old page kept e (subst (λ (i : Images). Contains i.entries e) put at)

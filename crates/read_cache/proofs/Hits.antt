@@ -38,7 +38,7 @@ hit_result c page q (Ok image) h roster log facts p sound means =
     let settled : p.anchor ≤ q = omega arith in
     ((least, most), (pages_law log facts p c.segment page q image l means settled most).0 (hit_shows c page q image h))
 
--- no other fault is told than lack of memory
+-- no other fault is reported than lack of memory
 not_told : (c : Cached) (page q : ℕ) (result : Result (List ℕ) ReadFault) → IsHit c page q result → (fault : ReadFault) → (fault ≡ Memory → ⊥)
     → result ≡ Err fault → ⊥
 not_told c page q result h fault other e = search rules

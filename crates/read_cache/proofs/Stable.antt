@@ -1,4 +1,4 @@
--- What a segment shows, where it knows and holds more or less.
+-- What a segment shows, where it knows and stores more or less.
 use Rattle.std.proofs.Common.{◌≡◌, ℕ, ◌<◌, ◌≤◌, ◌↔◌, List, sym, ap, ◌∙◌, rules}
 use Rattle.std.specs.List.{Contains}
 use Rattle.redo_core.specs.Data.{RecordData}
@@ -21,7 +21,7 @@ pub record SameImage (s t : State) (page : ℕ) : Type 0 where
   pub version : version_of t.store page ≡ version_of s.store page
   pub image : image_of t.store page ≡ image_of s.store page
 
--- the two states hold the same records of the page above its version and up to the point
+-- the two states store the same records of the page above its version and up to the point
 abbrev pub SameHeld : State → State → ℕ → ℕ → Type 0
 SameHeld s t page q = (r : RecordData) → IsAlive s.book.cuts s.book.complete r.epoch r.number → r.page ≡ page → version_of s.store page < r.number → r.number ≤ q
     → Contains s.held r ↔ Contains t.held r

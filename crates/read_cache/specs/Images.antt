@@ -1,4 +1,4 @@
--- What a cache of images holds, and how it changes.
+-- What a cache of images contains, and how it changes.
 use Rattle.std.specs.Prelude.{◌≡◌, ◌≢◌, ℕ, ◌⊎◌, List, [], Option, None, Some}
 use Rattle.std.specs.List.{Contains}
 use Rattle.lru.specs.LruCache.{LruCache, lru_cache}

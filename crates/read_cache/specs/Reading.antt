@@ -8,12 +8,12 @@ use Rattle.segment_core.specs.declared.answers.ReadFault.TheVariants.{BrokenBloc
 use Rattle.read_cache.specs.declared.kept.KeptImage.{KeptImage}
 use Rattle.read_cache.specs.Cached.{Cached, IsShown, KeepsNone}
 
--- only a readable point with a broken block chain has it told, and it has where no image of the page is kept that was read there
+-- a broken block chain is reported only at a readable point that has one, and always where no image of the page is kept that was read there
 pub record ReportsUnkeptBreak (c : Cached) (page q : ℕ) (result : Result (List ℕ) ReadFault) : Type 0 where
   pub only : (g n : ℕ) → result ≡ Err (BrokenBlockChain g n) → (g ≡ page) × IsReadable c.segment q × BreaksAt c.segment page q n
   pub unkept : KeepsNone c page q → ReportsBreak c.segment page q result
 
--- a read at a point from the minimum on answers with an image that was kept of it, unless memory is wanting
+-- a read at a point from the minimum on returns an image that was kept of it, unless memory runs out
 pub record IsHit (c : Cached) (page q : ℕ) (result : Result (List ℕ) ReadFault) : Type 0 where
   pub reached : min_of c.segment ≤ q
   pub kept : KeptImage

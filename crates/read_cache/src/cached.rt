@@ -85,7 +85,7 @@ impl CachedSegment {
         }
     }
 
-    /// The segment, to be asked what takes no change. Its own reads go past the cache.
+    /// The segment, for calls that change nothing. Its own reads bypass the cache.
     pub fn segment(&self) -> &Segment
         ensures { result.now ≡ self.now.segment }
     {
@@ -100,7 +100,7 @@ impl CachedSegment {
         self.segment.front()
     }
 
-    /// The greatest linked number that is not above the minimum read point.
+    /// The greatest linked LSN that is not above the minimum read point.
     pub fn anchor(&self) -> u64
         ensures anchor { (roster : ℕ) (log facts : List AnyFact) (p : Position) → IsSound roster log → MeansAt roster log facts p self.now.segment → result ≡ p.anchor }
         ensures own { HasAnchor self.now.segment result }
@@ -108,7 +108,7 @@ impl CachedSegment {
         self.segment.anchor()
     }
 
-    /// The number up to which the segment knows that it is complete, whatever it has thrown away.
+    /// The LSN up to which the segment knows that it is complete, whatever it has dropped.
     pub fn base_point(&self) -> u64
         ensures base { (roster : ℕ) (log facts : List AnyFact) (p : Position) → IsSound roster log → MeansAt roster log facts p self.now.segment → IsLinked facts p.epoch result × (result ≤ p.anchor) }
         ensures own { result ≡ self.now.segment.base }
@@ -126,7 +126,7 @@ impl CachedSegment {
         self.segment.plan_fold(page)
     }
 
-    /// The keys (epoch and number) of the records held, rising. It fails only if memory runs out.
+    /// The keys (epoch and LSN) of the stored records, rising. It fails only if memory runs out.
     pub fn stored(&self) -> Result<Vec<Key>, AllocError>
         ensures keys { IfOk result (λ v. v.items ≡ map key_of self.now.segment.held) }
         ensures rising { IsRising RecordBefore self.now.segment.held }
@@ -175,7 +175,7 @@ impl CachedSegment {
         ensures tells { IfOk result (ReportsChange self.old.segment fact) }
         ensures sound { IfErr result (λ e. FitsSoundLog self.old.segment fact → e.fault ≡ MemoryOf) }
 
-        // Over any facts.
+        // For arbitrary facts.
         ensures takes { TakesExactly self.old.segment fact result self.new.segment }
         ensures drops { (cut : CutData) → fact ≡ OfCut cut → result ≡ Ok ChangedOf → self.new.images ≡ [] }
         ensures idle { IfOk result (λ taken. taken ≡ UnchangedOf → self.new ≡ self.old) }
@@ -189,14 +189,14 @@ impl CachedSegment {
         taken
     }
 
-    /// The page at a read point, as `Segment::read` tells it. A copy of the image is kept where memory allows.
+    /// The page at a read point, as `Segment::read` returns it. A copy of the image is kept where memory allows.
     ///
     /// Errors: `Below` with the minimum read point where the point is below it, else `Above` with the complete point where the
     /// point is above it, else `BrokenBlockChain` with the record whose block backlink leads nowhere, unless an image is kept that was
     /// read there before; `Memory`.
     pub fn read(&mut self, page: u16, point: u64) -> Result<Page, ReadFault>
         ensures result { (roster : ℕ) (log facts : List AnyFact) (p : Position) → IsSound roster log → MeansAt roster log facts p self.old.segment → IsReadResult facts p page point result }
-        // Over any facts.
+        // For arbitrary facts.
         ensures own { IfOk result (λ image. Shows self.old.segment page point image) }
         ensures outside { ReportsOutside self.old.segment point result }
         ensures broken { ReportsUnkeptBreak self.old page point result }
@@ -234,7 +234,7 @@ impl CachedSegment {
         }
     }
 
-    /// Raises the base point to the anchor, and forgets each record at or below it that its page's base image has. It takes no
+    /// Raises the base point to the anchor, and drops each record at or below it that its page's base image has. It takes no
     /// memory.
     pub fn discard(&mut self)
         ensures keeps { KeepsMeaning self.old.segment self.new.segment }
@@ -247,8 +247,8 @@ impl CachedSegment {
         clear_if(stale, &mut self.images, &mut self.top);
     }
 
-    /// Folds each page that has held records to the anchor, discards, and forgets the dead records, as `Segment::tidy` does. Every
-    /// image goes.
+    /// Folds each page that has stored records to the anchor, discards, and drops the dead records, as `Segment::tidy` does. Every
+    /// cached image is dropped.
     ///
     /// Errors: `BrokenBlockChain` of the least page with such a chain at or below the anchor, never over a sound log; `Memory`;
     /// nothing has changed then.
@@ -274,7 +274,7 @@ impl CachedSegment {
 }
 
 impl CachedSegment {
-    /// Brings what a delta has beyond the summary that it was made for into the segment, as `gossip_core::absorb` does. Every image goes.
+    /// Merges into the segment what a delta has beyond its summary, as `gossip_core::absorb` does. Every cached image is dropped.
     ///
     /// Errors: `OtherRoster` exactly where the two rosters differ; else `Uncovered` exactly where the segment does not answer for the
     /// summary; else as of the first fact that `take` would refuse; `Memory`; nothing has changed then, and every image stays.
@@ -283,7 +283,7 @@ impl CachedSegment {
         ensures means { OnOk result (MeansBoth self.old.segment summary.now delta.now self.new.segment) }
         ensures sound { IfErr result (λ e. IsOfOneLog self.old.segment summary.now delta.now → (e ≡ RefusedFor MemoryOf) ⊎ ((shown : AnyShown) × (e ≡ UncoveredBy shown))) }
 
-        // Over any facts.
+        // For arbitrary facts.
         ensures absorbs { OnOk result (AbsorbsInto self.old.segment delta.now self.new.segment) }
         ensures answers { OnOk result (Answers self.old.segment summary.now) }
         ensures refused { IfErr result (RefusesAbsorb self.old.segment summary.now delta.now) }
@@ -301,7 +301,7 @@ impl CachedSegment {
         }
     }
 
-    /// Brings what another segment means into the segment, as `segment_join::join` does. Every image goes.
+    /// Merges what another segment means into the segment, as `segment_join::join` does. Every cached image is dropped.
     ///
     /// Errors: `OtherRoster` where the two rosters differ; else as of the first fact that `take` would refuse; `Memory`; nothing has
     /// changed then, and every image stays.
@@ -310,7 +310,7 @@ impl CachedSegment {
         ensures means { OnOk result (MeansUnion self.old.segment other.now self.new.segment) }
         ensures sound { IfErr result (λ e. AreOfOneLog self.old.segment other.now → e ≡ MemoryOf) }
 
-        // Over any facts.
+        // For arbitrary facts.
         ensures joins { OnOk result (JoinsInto self.old.segment other.now self.new.segment) }
         ensures takes { OnOk result (TakesTold self.old.segment other.now) }
         ensures refused { IfErr result (λ e. (e ≡ MemoryOf) ⊎ RefusesJoin self.old.segment other.now e) }

@@ -119,7 +119,7 @@ fn remove(cache: &mut LruCache<u16, KeptImage>, page: u16)
     ensures forgets { Forgets cache.old page cache.new }
     ensures pages { cache.new.cap ≡ cache.old.cap }
 {
-    // What the length tells of a cache is that its pages are distinct.
+    // Only `len` ensures that the pages of a cache are distinct.
     let _length = cache.len();
     drop(cache.pop(&page));
 }
