@@ -1,4 +1,4 @@
--- A staging that has all pieces of one snapshot: what they bring.
+-- A staging that has all pieces of one snapshot: what they contain.
 use Rattle.std.proofs.Common.{◌≡◌, ℕ, ◌<◌, ◌≤◌, ◌+◌, ◌-◌, ◌*◌, ◌⊎◌, ◌↔◌, ⊎_elim, List, length, take, drop, get_or, Option, Some, None, zero, suc, refl, sym, ap, ◌∙◌, subst, arith, rules}
 use Rattle.std.specs.List.{slice_get, Contains}
 use Rattle.std.proofs.lemmas.List.{length-take, length-drop, get_or-take, get_or-drop}
@@ -16,7 +16,7 @@ use Rattle.snapshot.specs.Stagings.{StagingData, piece_at, IsStaging}
 use Rattle.snapshot.specs.Placing.{IsComplete}
 use Rattle.snapshot.specs.Hydrating.{BringsPage, BringsRecord, IsOfState}
 
--- each piece of the snapshot is there, and stands in its place
+-- each piece of the snapshot is there, and is at its index
 pub record HasAll (d : SnapshotData) (st : StagingData) : Type 0 where
   pub there : (index : ℕ) → index < d.total → (p : PieceData) × (piece_at st index ≡ Some p)
   pub content : (index : ℕ) (p : PieceData) → piece_at st index ≡ Some p → IsContentAt d index p.content
@@ -33,7 +33,7 @@ has_all s d st of form whole = record {
     there_at index lt None e = absurd (whole index (omega (arith, lt, of.total), e))
     there_at index lt (Some p) e = (p, e)
 
--- what stands in the place of the head, of a page and of a batch
+-- what is at the index of the head, of a page and of a batch
 
 pub head_at : (d : SnapshotData) (index : ℕ) (content : PieceContent) → IsContentAt d index content → index ≡ 0 → content ≡ Head d.book d.anchor
 head_at d index content at first = search rules
@@ -46,7 +46,7 @@ pub batch_at : (d : SnapshotData) (index place : ℕ) (content : PieceContent) �
     → content ≡ Records (take max_batch (drop (max_batch * place) d.records))
 batch_at d index place content at is = search (rules, slice_get_within)
 
--- each member of a list stands in one of its batches
+-- each member of a list is in one of its batches
 
 batch_of : (k : ℕ) → (place : ℕ) × (64 * place ≤ k) × (k < 64 * place + 64)
 batch_of zero = (0, omega arith, omega arith)
@@ -80,7 +80,7 @@ in_batch xs x h =
 pub of_batch : {X : Type 0} (n from : ℕ) (xs : List X) (x : X) → Contains (take n (drop from xs)) x → Contains xs x
 of_batch n from xs x h = in_drop from xs x (in_take n (drop from xs) x h)
 
--- so the pieces bring just the records and just the pages of the snapshot
+-- so the pieces contain just the records and just the pages of the snapshot
 
 pub brings_records : (d : SnapshotData) (st : StagingData) → HasAll d st → (r : RecordData) → BringsRecord st r ↔ Contains d.records r
 brings_records d st all r = (

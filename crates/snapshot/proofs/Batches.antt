@@ -17,7 +17,7 @@ batch_is start k n xs e = take_short k n (take (length xs - start) (drop start x
 pub batch_some : {X : Type 0} (place : ℕ) (xs : List X) → 64 * place < length xs → 0 < length (take 64 (drop (64 * place) xs))
 batch_some place xs lt = omega (arith, length-take 64 (drop (64 * place) xs), length-drop (64 * place) xs, lt)
 
--- the element at a place within a list
+-- the element at an index within a list
 pub slice_at : {X : Type 0} (xs : List X) (i : ℕ) (x : X) → i < length xs → x ≡ get_or xs i x → slice_get xs i ≡ Some x
 slice_at [] i x lt e = absurd (omega (arith, lt))
 slice_at (y ∷ ys) zero x lt e = ap Some (sym e)

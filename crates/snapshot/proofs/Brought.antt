@@ -1,4 +1,4 @@
--- What the pieces below an index bring together.
+-- What the pieces below an index contain together.
 use Rattle.std.proofs.Common.{◌≡◌, ℕ, ◌+◌, ◌<◌, ◌≤◌, ◌⊎◌, ◌↔◌, inl, inr, ⊎_elim, List, [], ◌∷◌, ◌++◌, Bool, true, false, Some, ◌==◌, if◌then◌else◌, refl, sym, ap, ◌∙◌, subst, arith, rules}
 use Rattle.std.specs.List.{Contains}
 use Rattle.std.proofs.lemmas.Bool.Decides.{Decides-eqb}
@@ -18,11 +18,11 @@ use Rattle.snapshot.specs.Placing.{IsInOrder}
 use Rattle.snapshot.specs.Hydrating.{records_of, pages_of, BringsRecord, BringsPage, IsBrought}
 use Rattle.snapshot.proofs.InOrder.{within, batch_before}
 
--- a piece below the index brings it
+-- a piece below the index contains it
 abbrev pub IsBelow : {X : Type 0} → (PieceContent → List X) → StagingData → ℕ → X → Type 0
 IsBelow of st n x = (i : ℕ) × (i < n) × (p : PieceData) × (piece_at st i ≡ Some p) × Contains (of p.content) x
 
--- the list has just what the pieces below the index bring
+-- the list has just what the pieces below the index contain
 abbrev pub AreBelow : {X : Type 0} → (PieceContent → List X) → StagingData → ℕ → List X → Type 0
 AreBelow {X} of st n xs = (x : X) → Contains xs x ↔ IsBelow of st n x
 

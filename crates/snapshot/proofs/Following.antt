@@ -1,4 +1,4 @@
--- Records that can stand after a full batch.
+-- Records that can follow a full batch.
 use Rattle.std.proofs.Common.{◌≡◌, ℕ, ◌⊎◌, ⊎_elim, List, length, get_or, ◌+◌, sym, subst, arith}
 use Rattle.std.proofs.lemmas.Grind.{common_steps}
 use Rattle.std.specs.List.{Contains}
@@ -7,7 +7,7 @@ use Rattle.redo_core.specs.Order.{IsRising, RecordBefore}
 use Rattle.redo_core.proofs.Rising.{rising_at}
 use Rattle.redo_core.proofs.Pairs.{record_trans}
 
--- each record of a rising list is the one at a later place or before it, and the one at the first place or after it
+-- each record of a rising list is the one at a later index or before it, and the one at the first index or after it
 up_to : (xs : List RecordData) (n : ℕ) (last : RecordData) → IsRising RecordBefore xs → n + 1 ≡ length xs → last ≡ get_or xs n last → (q : RecordData)
     → Contains xs q → (q ≡ last) ⊎ RecordBefore q last
 up_to xs n last rising len is q h = grind (arith, common_steps, rising_at)

@@ -1,4 +1,4 @@
--- What is put together from all pieces of one snapshot of a state is what that state means, made anew.
+-- What is put together from all pieces of one snapshot of a state is what that state means, made from scratch.
 use Rattle.std.proofs.Common.{◌≡◌, ◌≢◌, ℕ, ◌≤◌, ⊎_elim, List, refl, sym, ◌∙◌, subst, arith}
 use Rattle.redo_core.specs.Sets.{cuts}
 use Rattle.redo_core.specs.Meaning.{ImageData}
@@ -33,7 +33,7 @@ shown_at log F p s anchor page l m has =
 
 module _ {roster : ℕ} (log F : List Fact) (p : Position) (s : State) (d : SnapshotData) (st : StagingData) (l : IsLog roster log)
     (m : MeansAt roster log F p s) (of : IsOfState s d st) (all : HasAll d st) where
-  -- a page that no piece brings is shown as zeros
+  -- a page that no piece contains is shown as zeros
   zeros_shown : (page : ℕ) → ((i : ImageData) → BringsPage st i → i.page ≢ page) → Shows s page d.anchor zeros
   zeros_shown page none =
       let shown = shown_at log F p s d.anchor page l m of.frozen.anchor in

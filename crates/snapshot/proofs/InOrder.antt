@@ -1,4 +1,4 @@
--- Pieces that are in order bring records by rising keys.
+-- Pieces that are in order contain records by rising keys.
 use Rattle.std.proofs.Common.{◌≡◌, ℕ, zero, suc, ◌<◌, ◌⊎◌, inl, inr, ⊎_elim, List, [], ◌∷◌, length, Option, Some, refl, sym, ap, ◌∙◌, subst, arith, rules}
 use Rattle.std.specs.List.{Contains}
 use Rattle.std.proofs.lemmas.Bool.{cases_eq}
@@ -53,7 +53,7 @@ there_at st i o order lt e = search rules
 pub there : (st : StagingData) (i : ℕ) → IsInOrder st → i < st.total → (p : PieceData) × (piece_at st i ≡ Some p)
 there st i order lt = there_at st i (piece_at st i) order lt refl
 
--- behind a piece of records there are records alone
+-- after a piece of records there are records alone
 behind_of : (st : StagingData) (j : ℕ) (p : PieceData) (rs : List RecordData) (content : PieceContent) → IsInOrder st → suc j < st.total → HasRecords st j rs
     → piece_at st (suc j) ≡ Some p → p.content ≡ content → (qs : List RecordData) × HasRecords st (suc j) qs
 behind_of st j p rs (Head book anchor) order lt at is e = absurd (stands st (suc j) order lt (no_head st j p book anchor is e))

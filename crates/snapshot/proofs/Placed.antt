@@ -1,4 +1,4 @@
--- Whether a record is kept, and which pieces stand where they are.
+-- Whether a record is kept, and which pieces are in place.
 use Rattle.std.proofs.Common.{◌≡◌, ℕ, zero, suc, ◌+◌, ◌<◌, ◌≤◌, ⊎_elim, List, Some, None, sym, ◌∙◌, subst, arith, rules}
 use Rattle.std.proofs.lemmas.Option.{none-some}
 use Rattle.std.specs.List.{All}
@@ -26,7 +26,7 @@ spared book anchor r known h =
     all_members (SparesIn book.complete r.epoch r.number) book.cuts (λ c h. (a.0.begun c h, a.0.spared c h)))
     h
 
--- behind this head, a piece above 0 can stand where it can follow the one before
+-- after this head, a piece above 0 is in place where it can follow the one before
 pub stands : (st : StagingData) (book : BookData) (anchor k index : ℕ) (before here : PieceData) → HasHead st book anchor → k + 1 ≡ index
     → piece_at st k ≡ Some before → piece_at st index ≡ Some here → CanFollow book anchor before.content here.content → CanStand st index
 stands st book anchor k zero before here head e b h can = absurd (omega (arith, e))
@@ -37,7 +37,7 @@ pub follows : (st : StagingData) (book : BookData) (anchor k index : ℕ) (befor
     → piece_at st k ≡ Some before → piece_at st index ≡ Some here → CanStand st index → CanFollow book anchor before.content here.content
 follows st book anchor k index before here head e b h can = search rules
 
--- where there is no piece before, or none there, none can stand
+-- where there is no piece before, or none there, none is in place
 pub none_before : (st : StagingData) (k index : ℕ) → k + 1 ≡ index → piece_at st k ≡ None → CanStand st index → ⊥
 none_before st k zero e none can = omega (arith, e)
 none_before st k (suc n) e none can = none-some can.2 (sym (subst (λ i. piece_at st i ≡ None) (omega (arith, e)) none) ∙ can.5)
@@ -46,20 +46,20 @@ pub none_there : (st : StagingData) (index : ℕ) → 1 ≤ index → piece_at s
 none_there st zero above none can = omega (arith, above)
 none_there st (suc n) above none can = none-some can.3 (sym none ∙ can.6)
 
--- one piece more can stand
+-- one more piece is in place
 pub one_place_more : (st : StagingData) (n : ℕ) → ((below : ℕ) → below < n → IsMisplaced st below → ⊥) → CanStand st n → (below : ℕ) → below < n + 1
     → IsMisplaced st below → ⊥
 one_place_more st n before can below lt bad = search rules
 
--- a head that cannot stand is the first that cannot
+-- a head that is not in place is the first that is not
 pub head_bad : (st : StagingData) → (CanStand st 0 → ⊥) → IsLeast (IsMisplaced st) (Some 0)
 head_bad st cannot = search rules
 
--- a book that is told by its parts
+-- a book that is given by its parts
 pub of_parts : (cs ds : List CutData) (k j : ℕ) (ps qs : List ℕ) (vs ws : List AdvanceData) → cs ≡ ds → k ≡ j → ps ≡ qs → vs ≡ ws
     → IsContradicted (book_of cs k ps vs) → IsContradicted (book_of ds j qs ws)
 of_parts cs ds k j ps qs vs ws a b c d h = search rules
 
--- the head of a book that contradicts itself cannot stand
+-- the head of a book that contradicts itself is not in place
 pub head_cannot : (st : StagingData) (book : BookData) (anchor : ℕ) → HasHead st book anchor → IsContradicted book → CanStand st 0 → ⊥
 head_cannot st book anchor head wrong can = search rules

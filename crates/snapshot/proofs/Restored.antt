@@ -1,4 +1,4 @@
--- A state that is made of what pieces in order bring.
+-- A state that is made of what pieces in order contain.
 use Rattle.std.proofs.Common.{◌≡◌, ℕ, ◌≤◌, List, [], ◌∷◌, refl, sym, ◌∙◌, subst, arith}
 use Rattle.std.specs.List.{Contains}
 use Rattle.redo_core.specs.Book.{BookData}

@@ -1,4 +1,4 @@
--- The pieces of one snapshot of a state of a sound log stand where they are.
+-- The pieces of one snapshot of a state of a sound log are in place.
 use Rattle.std.proofs.Common.{◌≡◌, ℕ, ◌<◌, ◌≤◌, ◌+◌, ◌*◌, ◌⊎◌, inr, ⊎_elim, List, length, take, drop, get_or, Some, zero, suc, sym, ap, ◌∙◌, subst, arith, rules}
 use Rattle.std.specs.List.{slice_get, Contains}
 use Rattle.std.proofs.lemmas.List.{length-take, length-drop, drop-drop}
@@ -77,7 +77,7 @@ shown_above log F p s d st i l m of h =
     (λ (lt : 0 < d.anchor). lt)
     (let t : (d.anchor ≡ 0) ⊎ (0 < d.anchor) = grind arith in t)
 
--- pages follow one another by number
+-- pages follow one another by page number
 
 page_follows : (d : SnapshotData) (index : ℕ) (before : PieceContent) (p : ImageData) → IsRising ImageBefore d.pages → IsContentAt d index before
     → slice_get d.pages index ≡ Some p → PageFollows before p

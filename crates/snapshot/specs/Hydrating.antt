@@ -14,7 +14,7 @@ use Rattle.snapshot.specs.Snapshots.{SnapshotData, Freezes, IsPieceOf}
 use Rattle.snapshot.specs.Stagings.{StagingData, piece_at}
 use Rattle.snapshot.specs.Placing.{HasHead}
 
--- the records that a piece brings, and the page with its number
+-- the records that a piece contains, and the page with its page number
 abbrev pub records_of : PieceContent → List RecordData
 records_of (Head book anchor) = []
 records_of (Page p) = []
@@ -25,7 +25,7 @@ pages_of (Head book anchor) = []
 pages_of (Page p) = (p.page, p.bytes) ∷ []
 pages_of (Records rs) = []
 
--- a piece of the staging brings the page
+-- a piece of the staging contains the page
 abbrev pub BringsPage : StagingData → ImageData → Type 0
 BringsPage st image = (index : ℕ) × (p : PieceData) × (piece_at st index ≡ Some p) × (p.content ≡ Page image)
 
@@ -33,13 +33,13 @@ BringsPage st image = (index : ℕ) × (p : PieceData) × (piece_at st index ≡
 abbrev pub BringsRecord : StagingData → RecordData → Type 0
 BringsRecord st r = (index : ℕ) × (p : PieceData) × (rs : List RecordData) × (piece_at st index ≡ Some p) × (p.content ≡ Records rs) × Contains rs r
 
--- the bytes are those of the page that a piece brings, or zeros where none does
+-- the bytes are those of the page that a piece contains, or zeros where none does
 abbrev pub IsBrought : StagingData → ℕ → List ℕ → Type 0
 IsBrought st page bytes =
     ((i : ImageData) × BringsPage st i × (i.page ≡ page) × (i.bytes ≡ bytes))
     ⊎ (((i : ImageData) → BringsPage st i → i.page ≢ page) × (bytes ≡ zeros))
 
--- the state has the head's book and its anchor as the base point, each page as it is brought, at that version, and just the records
+-- the state has the head's book and its anchor as the base point, each page of the pieces, at that version, and just their records
 pub record Hydrates (st : StagingData) (s : State) : Type 0 where
   pub head : HasHead st s.book s.base
   pub versions : (page : ℕ) → version_of s.store page ≡ s.base

@@ -14,7 +14,7 @@ use Rattle.segment_theorems.specs.State.{State}
 use Rattle.segment_theorems.specs.Shows.{Shows}
 use Rattle.segment_theorems.specs.HasMeaning.{HasAnchor, IsKeptBy}
 
--- a name, how many pieces there are, and what they bring together: the book, the anchor, pages and records
+-- a name, how many pieces there are, and what they contain together: the book, the anchor, pages and records
 pub record SnapshotData : Type 0 where
   pub name : ℕ
   pub total : ℕ
@@ -41,7 +41,7 @@ IsBatchCount records batches = (records ≤ max_batch * batches) × (max_batch *
 abbrev pub IsPieceCount : ℕ → ℕ → ℕ → Type 0
 IsPieceCount pages records total = (batches : ℕ) × IsBatchCount records batches × (total ≡ 1 + pages + batches)
 
--- which snapshots there are: a book with an anchor up to its minimum read point, pages by number, none of zeros, records by key
+-- which snapshots there are: a book with an anchor up to its minimum read point, pages by page number, none of zeros, records by key
 pub record IsSnapshot (d : SnapshotData) : Type 0 where
   pub book : IsBook d.book
   pub anchor : d.anchor ≤ least d.book.points
@@ -62,7 +62,7 @@ pub record Freezes (s : State) (d : SnapshotData) : Type 0 where
 abbrev pub max_total : ℕ
 max_total = 4294967295
 
--- the piece of a place brings the head, which is the first; then one of the pages; then one of the batches
+-- the piece of an index contains the head, which is the first; then one of the pages; then one of the batches
 abbrev pub IsContentAt : SnapshotData → ℕ → PieceContent → Type 0
 IsContentAt d index (Head book anchor) = (index ≡ 0) × (book ≡ d.book) × (anchor ≡ d.anchor)
 IsContentAt d index (Page p) = (place : ℕ) × (index ≡ 1 + place) × (slice_get d.pages place ≡ Some p)

@@ -24,7 +24,7 @@ piece_at st index = lookup (is_at (nat_cmp index)) st.pieces
 abbrev pub IsStranger : StagingData → PieceData → Type 0
 IsStranger st p = (p.name ≢ st.name) ⊎ (p.total ≢ st.total)
 
--- each piece stands under its own index, is of the staging's name and total, and has the shape of a piece
+-- each piece is stored under its own index, is of the staging's name and total, and has the shape of a piece
 abbrev pub IsStaging : StagingData → Type 0
 IsStaging st = (index : ℕ) (p : PieceData) → piece_at st index ≡ Some p → (p.index ≡ index) × (IsStranger st p → ⊥) × IsPiece p
 
@@ -36,7 +36,7 @@ pub record Adds (old : StagingData) (p : PieceData) (new : StagingData) : Type 0
   pub there : piece_at new p.index ≡ Some p
   pub others : (index : ℕ) → index ≢ p.index → piece_at new index ≡ piece_at old index
 
--- why a piece is refused: it is of another snapshot; or else one of its index has come; or else memory is wanting
+-- why a piece is refused: it is of another snapshot; or else one of its index has come; or else memory runs out
 abbrev pub RefusesPiece : StagingData → PieceData → AddFault → Type 0
 RefusesPiece st p Stranger = IsStranger st p
 RefusesPiece st p (Double index) = (IsStranger st p → ⊥) × (index ≡ p.index) × ((q : PieceData) × (piece_at st index ≡ Some q))

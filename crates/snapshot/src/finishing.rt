@@ -25,7 +25,7 @@ pub enum FinishFault {
     /// The piece of this index has not come; each below it has.
     #[error("piece {index} is missing")]
     Missing { index: u32 },
-    /// The piece of this index cannot stand there after those before it.
+    /// The piece of this index cannot follow those before it.
     #[error("piece {index} cannot stand where it does")]
     Malformed { index: u32 },
     #[error("out of memory")]
@@ -35,8 +35,8 @@ pub enum FinishFault {
 impl Staging {
     /// The segment that the pieces make. The staging stays as it is, so that a missing piece can still be added.
     ///
-    /// Errors: `Missing` with the least index whose piece has not come; else `Malformed` with the least one whose piece cannot stand
-    /// there after those before it, never for the pieces of one snapshot of a sound log; `Memory`.
+    /// Errors: `Missing` with the least index whose piece has not come; else `Malformed` with the least one whose piece cannot follow
+    /// those before it, never for the pieces of one snapshot of a sound log; `Memory`.
     pub fn finish(&self) -> Result<Segment, FinishFault>
         // Each piece is of the staging's name and total, under its own index.
         ensures form { IsStaging self.now }
@@ -49,7 +49,7 @@ impl Staging {
         ensures malformed { (index : ℕ) → (result ≡ ErrOf (MalformedOf index)) ↔ (IsComplete self.now × IsLeast (IsMisplaced self.now) (Some index)) }
         ensures memory { IfErr result (λ e. e ≡ MemoryOf → IsInOrder self.now) }
     {
-        // For the invariant: each piece stands under its own index.
+        // For the invariant: each piece is stored under its own index.
         let _ = &self.alloc;
         restore_keeps();
         if let Some(index) = self.first_missing() {
@@ -64,7 +64,7 @@ impl Staging {
         }
     }
 
-    /// The segment that pieces make of which each stands in its place.
+    /// The segment that pieces make which are all in place.
     fn restored(&self) -> Result<Segment, AllocError>
         requires { IsInOrder self.now }
         ensures { IfOk result (Hydrates self.now) }
@@ -108,7 +108,7 @@ impl Staging {
     }
 }
 
-/// Adds copies of a piece's records, where it brings any.
+/// Adds copies of a piece's records, where it contains any.
 fn add_records(records: &mut Vec<Record>, piece: &Piece) -> Result<(), AllocError>
     ensures { OnOk result (records.new.items ≡ records.old.items ++ records_of piece.now.content) }
 {
@@ -118,7 +118,7 @@ fn add_records(records: &mut Vec<Record>, piece: &Piece) -> Result<(), AllocErro
     Ok(())
 }
 
-/// Adds a piece's page, where it brings one.
+/// Adds a piece's page, where it contains one.
 fn add_page(pages: &mut Vec<(u16, SharedPage)>, piece: &Piece) -> Result<(), AllocError>
     ensures { OnOk result (pages.new.items ≡ pages.old.items ++ pages_of piece.now.content) }
 {

@@ -1,4 +1,4 @@
-//! Which pieces of a staging can stand where they do.
+//! Which pieces of a staging are in place.
 ghost use Rattle.std.specs.Prelude.{◌≡◌, ◌↔◌, ℕ, ◌≤◌, ◌<◌, length, IsTrue, IfSome, IsNone};
 ghost use Rattle.std.specs.List.{Contains, All};
 ghost use Rattle.redo_core.specs.Book.{BookData};
@@ -30,7 +30,7 @@ impl Staging {
         None
     }
 
-    /// The least index whose piece cannot stand there, where none is missing.
+    /// The least index whose piece is not in place, where none is missing.
     pub(crate) fn first_misplaced(&self) -> Option<u32>
         requires { IsComplete self.now }
         ensures { IsLeast (IsMisplaced self.now) result }
@@ -44,7 +44,7 @@ impl Staging {
         self.first_not_following(book, anchor)
     }
 
-    /// The least index, above 0, whose piece cannot stand after the one before it.
+    /// The least index, above 0, whose piece cannot follow the one before it.
     fn first_not_following(&self, book: &Book, anchor: u64) -> Option<u32>
         requires head { HasHead self.now book.now anchor }
         requires first { CanStand self.now 0 }
@@ -72,7 +72,7 @@ impl Staging {
         }
     }
 
-    /// Whether the piece of an index above 0 can stand after the one before it.
+    /// Whether the piece of an index above 0 can follow the one before it.
     fn can_stand(&self, book: &Book, anchor: u64, index: u32) -> bool
         requires head { HasHead self.now book.now anchor }
         requires behind { 1 ≤ index }
@@ -91,7 +91,7 @@ impl Staging {
     }
 }
 
-/// Whether a piece can stand after another one, behind a head of this book and anchor.
+/// Whether a piece can follow another one, after a head of this book and anchor.
 fn can_follow(book: &Book, anchor: u64, before: &PieceContent, here: &PieceContent) -> bool
     requires before { IsContent before.now }
     requires here { IsContent here.now }

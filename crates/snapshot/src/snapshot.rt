@@ -10,7 +10,7 @@ use std::marker::Model;
 /// A piece has at most so many records.
 pub(crate) const BATCH: usize = 64;
 
-/// A snapshot of a segment under a name, which is told in pieces.
+/// A snapshot of a segment under a name, which is exported in pieces.
 #[derive(Drop)]
 pub struct Snapshot {
     name: u64,
