@@ -15,7 +15,7 @@ use Rattle.replica.specs.declared.replies.Reply.TheVariants as reply
 use Rattle.replica.specs.Replying.{delta_reply, fault_reply}
 use Rattle.replica.specs.Gossiping.{RepliesTo, RepliesWithin, limited_reply}
 
--- a broken chain is told exactly where pages are to be sent and there is one
+-- a broken chain is reported exactly where pages are to be sent and there is one
 abbrev pub ReportsBroken : (A : Type 0) → State → SummaryData → Result A ReadFault → Type 0
 ReportsBroken A s summary answer =
     (page n : ℕ) → (answer ≡ Err (fault.BrokenBlockChain page n)) ↔ ((summary.anchor < s.base) × IsFirstBreak s page n)

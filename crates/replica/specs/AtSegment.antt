@@ -1,4 +1,4 @@
--- What the requests to a segment do, over any facts: each reply, and each new state, is that of the call below.
+-- What the requests to a segment do, for arbitrary facts: each reply, and each new state, is that of the call below.
 use Rattle.std.specs.Prelude.{◌≡◌, ℕ, ◌<◌, ◌⊎◌, List, [], length, Option, Some, Result, Ok, Err, IfOk, IfErr, OnOk, OnErr, MatchOption}
 use Rattle.redo_core.specs.Data.{CutData, RecordData}
 use Rattle.redo_core.specs.declared.keys.Key.{Key}
@@ -57,21 +57,21 @@ pub record Takes (old : Cached) (fact : Fact) (told : Reply) (new : Cached) : Ty
   pub pages : new.pages ≡ old.pages
   pub is : told ≡ taken_reply answer
 
--- the segment tells its own front, which is that of the facts that it means
+-- the segment reports its own front, which is that of the facts that it means
 pub record Fronts (s : State) (told : Reply) : Type 0 where
   pub front : Front
   pub own : IsFrontOf s front
   pub facts : (roster : ℕ) (log facts : List Fact) (p : Position) → IsSound roster log → MeansAt roster log facts p s → IsFrontAt p front
   pub is : told ≡ reply.Front front
 
--- the segment tells what its own complete point waits for, which is what the facts that it means lack
+-- the segment reports what its own complete point waits for, which is what the facts that it means lack
 pub record ReportsGap (s : State) (told : Reply) : Type 0 where
   pub gap : Option Gap
   pub own : IsGapOf s gap
   pub facts : (roster : ℕ) (log facts : List Fact) (p : Position) → IsSound roster log → MeansAt roster log facts p s → IsGapAt log facts p gap
   pub is : told ≡ gap_reply gap
 
--- what the state stores, in numbers
+-- what the state stores, in figures
 pub record IsStatusOf (s : State) (status : Status) : Type 0 where
   pub epoch : status.epoch ≡ s.book.complete
   pub complete : HasComplete s status.complete
@@ -114,14 +114,14 @@ pub record Folds (old : Cached) (page : ℕ) (told : Reply) (new : Cached) : Typ
   pub sound : IfErr plan (λ f. IsSoundState old.segment → f ≡ fault.Memory)
   pub pages : new.pages ≡ old.pages
 
--- the segment forgets what it has folded
+-- the segment drops what it has folded
 pub record Discards (old : Cached) (told : Reply) (new : Cached) : Type 0 where
   pub discards : DiscardsJust old.segment new.segment
   pub keeps : KeepsMeaning old.segment new.segment
   pub pages : new.pages ≡ old.pages
   pub is : told ≡ reply.Discarded
 
--- the segment folds all, and forgets what its meaning does not keep
+-- the segment folds all, and drops what its meaning does not keep
 pub record TidiesUp (old : Cached) (told : Reply) (new : Cached) : Type 0 where
   pub answer : Result (Unit {0}) ReadFault
   pub tidies : OnOk answer (Tidies old.segment new.segment)
@@ -134,11 +134,11 @@ pub record TidiesUp (old : Cached) (told : Reply) (new : Cached) : Type 0 where
   pub pages : new.pages ≡ old.pages
   pub is : told ≡ tidied_reply answer
 
--- the record is told, or there was no memory for a copy
+-- the record is returned, or there was no memory for a copy
 abbrev pub ReportsRecord : State → Key → Reply → Type 0
 ReportsRecord s key told = (r : RecordData) × IsRecordAt s.held key (Some r) × ((told ≡ reply.Next r) ⊎ (told ≡ reply.Memory))
 
--- the held record of the least key above the one given
+-- the stored record of the least key above the one given
 pub record ReportsNext (s : State) (after : Option Key) (told : Reply) : Type 0 where
   pub key : Option Key
   pub least : IsKeyAfter s.held after key

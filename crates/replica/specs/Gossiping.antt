@@ -1,4 +1,4 @@
--- What the requests of gossip do, over any facts.
+-- What the requests of gossip do, for arbitrary facts.
 use Rattle.std.specs.Prelude.{◌≡◌, ℕ, ◌<◌, ◌⊎◌, ◌↔◌, [], Result, Err, IfOk, IfErr, OnOk, OnErr, nat_lt, if◌then◌else◌}
 use Rattle.redo_core.specs.Meaning.{Meaning}
 use Rattle.messages.specs.Summaries.{SummaryData}
@@ -41,7 +41,7 @@ pub record RepliesTo (s : State) (summary : SummaryData) (told : Reply) : Type 0
   pub broken : (page n : ℕ) → (answer ≡ Err (fault.BrokenBlockChain page n)) ↔ ((summary.anchor < s.base) × IsFirstBreak s page n)
   pub is : told ≡ delta_reply answer
 
--- in the place of a delta of more than so many bytes on the wire stands `Large`
+-- `Large` replaces a delta of more than so many bytes on the wire
 abbrev pub limited_reply : ℕ → Reply → Reply
 limited_reply most (reply.Delta d) = if nat_lt most (delta_len d) then reply.Large else reply.Delta d
 limited_reply most told = told

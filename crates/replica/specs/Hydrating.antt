@@ -1,4 +1,4 @@
--- What the requests of snapshots and stagings do, over any facts.
+-- What the requests of snapshots and stagings do, for arbitrary facts.
 use Rattle.std.specs.Prelude.{◌≡◌, ℕ, ◌<◌, ◌≤◌, ◌⊎◌, ◌↔◌, [], Option, Some, None, Result, Ok, Err, IfOk, IfErr, OnOk, OnErr, ◌≢◌}
 use Rattle.messages.specs.Pieces.{PieceData}
 use Rattle.hot_log.specs.Found.{IsLeast}
@@ -44,13 +44,13 @@ FreezesAs s name old told new = LacksMemory old told new ⊎ (HasTooMany s old t
 abbrev pub ReportsPiece : SnapshotData → ℕ → Reply → Type 0
 ReportsPiece d index told = (told ≡ reply.Memory) ⊎ ((p : PieceData) × IsPieceOf d p × (p.index ≡ index) × (told ≡ reply.Piece p))
 
--- whether there is a snapshot is asked first, and then whether it has such a piece
+-- `NoSnapshot` takes precedence over `NoPiece`
 abbrev pub Pieces : Option SnapshotData → ℕ → Reply → Type 0
 Pieces None index told = told ≡ reply.NoSnapshot
 Pieces (Some d) index told = (d.total ≤ index → told ≡ reply.NoPiece) × (index < d.total → ReportsPiece d index told)
 
 -- ---- stagings
--- an empty staging stands in place of an older one
+-- an empty staging replaces an older one
 abbrev pub Stages : ℕ → ℕ → Reply → Option StagingData → Type 0
 Stages name total told new = (told ≡ reply.Staged) × (new ≡ Some (staging_of name total []))
 
@@ -76,7 +76,7 @@ pub record MakesSegment (st : StagingData) (answer : Result State FinishFault) :
   pub malformed : (index : ℕ) → (answer ≡ Err (finish.Malformed index)) ↔ (IsComplete st × IsLeast (IsMisplaced st) (Some index))
   pub memory : IfErr answer (λ e. e ≡ finish.Memory → IsInOrder st)
 
--- The segment that is made stands in place of the old one, with no image in the cache, and the staging is gone; where none is made all
+-- The segment that is made replaces the old one, with no image in the cache, and the staging is gone; where none is made all
 -- stays as it was.
 abbrev pub StandsFor : Cached → StagingData → Result State FinishFault → Reply → Cached → Option StagingData → Type 0
 StandsFor old st (Ok s) told new staging = (told ≡ reply.Restored) × (new ≡ cached s old.pages []) × (staging ≡ None)
@@ -91,7 +91,7 @@ abbrev pub Finishes : Cached → Option StagingData → Reply → Cached → Opt
 Finishes old None told new staging = (told ≡ reply.NoStaging) × (new ≡ old) × (staging ≡ None)
 Finishes old (Some st) told new staging = FinishesStaging old st told new staging
 
--- ---- unions
+-- ---- joins
 -- The segment that is made is joined into the old one, no image stays in the cache, and the staging is gone. Where the join is refused all
 -- stays as it was, the staging too.
 pub record JoinsStaged (old : Cached) (before : Option StagingData) (made : State) (told : Reply) (new : Cached) (after : Option StagingData) : Type 0 where

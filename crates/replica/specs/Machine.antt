@@ -1,4 +1,4 @@
--- One segment as a machine: what is replied to each request, and what it leaves, over any facts.
+-- One segment as a machine: what is replied to each request, and what it leaves, for arbitrary facts.
 use Rattle.std.specs.Prelude.{◌≡◌}
 use Rattle.replica.specs.declared.requests.Request.{Request}
 use Rattle.replica.specs.declared.requests.Request.TheVariants as request

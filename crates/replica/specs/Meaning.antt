@@ -23,9 +23,9 @@ use Rattle.replica.specs.Parts.{ReplicaData}
 use Rattle.replica.specs.Machine.{IsReply}
 
 -- ---- one request
--- the facts that the segment means after a request and its reply, where `brought` are those that a delta or a staging brings: a fact
--- that was taken joins them, and so do those of an absorbed delta and of a united staging; a new segment means none, and one that stands
--- in its place those of its snapshot
+-- the facts that the segment means after a request and its reply, where `brought` are those of a delta or a staging: a fact that was
+-- taken joins them, and so do those of an absorbed delta and of a united staging; a new segment means none, and one that replaces it
+-- those of its snapshot
 abbrev pub facts_after : List Fact → List Fact → Request → Reply → List Fact
 facts_after facts brought (request.Open roster) reply.Opened = []
 facts_after facts brought (request.Take fact) reply.Changed = facts ++ fact ∷ []

@@ -5,7 +5,7 @@ use Rattle.read_cache.specs.Cached.{Cached, cached}
 use Rattle.snapshot.specs.Snapshots.{SnapshotData}
 use Rattle.snapshot.specs.Stagings.{StagingData}
 
--- the segment with the images that are kept of what was read, the snapshot that is told, and the staging that is filled
+-- the segment with the images that are kept of what was read, the snapshot that is exported, and the staging that is filled
 pub record ReplicaData : Type 0 where
   pub cached : Cached
   pub snapshot : Option SnapshotData
@@ -14,7 +14,7 @@ pub record ReplicaData : Type 0 where
 abbrev pub replica_of : Cached → Option SnapshotData → Option StagingData → ReplicaData
 replica_of cached snapshot staging = record { cached = cached; snapshot = snapshot; staging = staging }
 
--- a segment that nothing has reached, for a roster of so many readers, with a cache of at most so many images; nothing is told or filled
+-- a segment that nothing has reached, for a roster of so many readers, with a cache of at most so many images; no snapshot and no staging
 abbrev pub empty_replica : ℕ → ℕ → ReplicaData
 empty_replica roster pages = replica_of (cached (empty_state roster) pages []) None None
 

@@ -13,7 +13,7 @@ use redo_core::{Fact, Key, Roster};
 use segment_core::{CommitFault, Segment};
 use std::alloc::AllocError;
 
-/// Puts a segment that nothing has reached in place of the segment.
+/// Replaces the segment by one that nothing has reached.
 pub fn open(cached: &mut CachedSegment, roster: Roster) -> Reply
     ensures opens { Opens cached.old roster result cached.new }
     ensures refused { IsRefusal result → cached.new ≡ cached.old }
@@ -27,7 +27,7 @@ pub fn open(cached: &mut CachedSegment, roster: Roster) -> Reply
     }
 }
 
-/// Puts another segment in place of the segment. No image stays in the cache.
+/// Replaces the segment by another one. No image stays in the cache.
 pub fn put(cached: &mut CachedSegment, segment: Segment)
     ensures { cached.new ≡ cached_of segment cached.old.pages [] }
 {
@@ -42,7 +42,7 @@ pub fn take(cached: &mut CachedSegment, fact: Fact) -> Reply
     taken_reply(cached.take(fact))
 }
 
-/// Tells the front.
+/// Replies with the front.
 pub fn front(segment: &Segment) -> Reply
     ensures fronts { Fronts segment.now result }
 {
@@ -51,14 +51,14 @@ pub fn front(segment: &Segment) -> Reply
     }
 }
 
-/// Tells what the complete point waits for.
+/// Replies with what the complete point waits for.
 pub fn gap(segment: &Segment) -> Reply
     ensures tells { ReportsGap segment.now result }
 {
     gap_reply(segment.gap())
 }
 
-/// Tells what is stored.
+/// Replies with what is stored.
 pub fn state(segment: &Segment) -> Reply
     ensures tells { ReportsStatus segment.now result }
 {
@@ -115,7 +115,7 @@ pub fn fold(cached: &mut CachedSegment, page: u16) -> Reply
     }
 }
 
-/// Forgets what the images have.
+/// Drops the records that the images have.
 pub fn discard(cached: &mut CachedSegment) -> Reply
     ensures discards { Discards cached.old result cached.new }
 {
@@ -123,7 +123,7 @@ pub fn discard(cached: &mut CachedSegment) -> Reply
     Reply::Discarded
 }
 
-/// Folds all, and forgets what the meaning does not keep.
+/// Folds all, and drops what the meaning does not keep.
 pub fn tidy(cached: &mut CachedSegment) -> Reply
     ensures tidies { TidiesUp cached.old result cached.new }
     ensures refused { IsRefusal result → cached.new ≡ cached.old }
@@ -131,7 +131,7 @@ pub fn tidy(cached: &mut CachedSegment) -> Reply
     tidied_reply(cached.tidy())
 }
 
-/// Tells the held record of the least key above the one given.
+/// Replies with the stored record of the least key above the one given.
 pub fn next(segment: &Segment, after: Option<Key>) -> Reply
     ensures tells { ReportsNext segment.now after result }
 {
@@ -141,7 +141,7 @@ pub fn next(segment: &Segment, after: Option<Key>) -> Reply
     }
 }
 
-/// Tells the held record of a key.
+/// Replies with the stored record of a key.
 fn tell(segment: &Segment, key: Key) -> Reply
     requires { HoldsKey segment.now.held key }
     ensures { ReportsRecord segment.now key result }

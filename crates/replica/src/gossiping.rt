@@ -36,7 +36,7 @@ pub fn answer_within(segment: &Segment, summary: &Summary, most: u64) -> Reply
     }
 }
 
-/// Brings in what a delta has beyond the summary that it was made for.
+/// Merges what a delta has beyond the summary that it was made for.
 pub fn absorb_delta(cached: &mut CachedSegment, summary: &Summary, delta: &Delta) -> Reply
     ensures absorbs { Absorbs cached.old summary.now delta.now result cached.new }
 {

@@ -9,7 +9,7 @@ use read_cache::CachedSegment;
 use segment_core::Segment;
 use snapshot::{FreezeFault, Snapshot, Staging, freeze};
 
-/// Keeps a snapshot of the segment in place of an older one.
+/// Replaces the kept snapshot by one of the segment.
 pub fn freeze_as(segment: &Segment, name: u64, snapshot: &mut Option<Snapshot>) -> Reply
     ensures freezes { FreezesAs segment.now name snapshot.old result snapshot.new }
 {
@@ -24,7 +24,7 @@ pub fn freeze_as(segment: &Segment, name: u64, snapshot: &mut Option<Snapshot>) 
     }
 }
 
-/// Tells a piece of the snapshot.
+/// Replies with a piece of the snapshot.
 pub fn piece(snapshot: &Option<Snapshot>, index: u32) -> Reply
     ensures pieces { Pieces snapshot.now index result }
 {
@@ -53,7 +53,7 @@ pub fn add(staging: &mut Option<Staging>, piece: Piece) -> Reply
     }
 }
 
-/// Puts the segment that the staging's pieces make in place of the segment.
+/// Replaces the segment by the one that the staging's pieces make.
 pub fn finish(cached: &mut CachedSegment, staging: &mut Option<Staging>) -> Reply
     ensures finishes { Finishes cached.old staging.old result cached.new staging.new }
 {

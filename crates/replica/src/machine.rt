@@ -15,7 +15,7 @@ use snapshot::{Snapshot, Staging};
 use std::alloc::{AllocError, Global};
 use std::marker::Model;
 
-/// One segment with its cache, the snapshot that it tells and the staging that it fills: all that a storage node keeps of its part.
+/// One segment with its cache, the snapshot that it exports and the staging that it fills: all that a storage node keeps of its part.
 #[derive(Drop)]
 pub struct Replica {
     cached: CachedSegment,

@@ -6,17 +6,17 @@ use segment_core::{Front, Gap, Refusal};
 /// What a replica replies to a request.
 #[derive(Drop)]
 pub enum Reply {
-    /// The segment is a new one, of the roster asked for.
+    /// The segment is a new one, of the requested roster.
     Opened,
     /// The fact changed what the segment means.
     Changed,
     /// The fact changed nothing.
     Unchanged,
-    /// The fact, or what the delta or the staged segment tells, does not fit what the segment knows. It does not come over a sound log.
+    /// The fact, or one of the delta or the staged segment, does not fit what the segment knows. It does not come over a sound log.
     Refused { why: Refusal },
     Front { front: Front },
     Gap { gap: Gap },
-    /// No held record waits, and none that is alive is above the complete point.
+    /// No stored record waits, and none that is alive is above the complete point.
     NoGap,
     State { status: Status },
     Page { image: Page },
@@ -24,11 +24,11 @@ pub enum Reply {
     Below { min: u64 },
     /// The read point is above the complete point.
     Above { complete: u64 },
-    /// The block chain of the page is broken at this number. It does not come over a sound log.
+    /// The block chain of the page is broken at the record with this LSN. It does not come over a sound log.
     BrokenBlockChain { page: u16, number: u64 },
     Summary { summary: Summary },
     Delta { delta: Delta },
-    /// The delta would have more bytes than were asked for.
+    /// The delta would have more bytes than the request allows.
     Large,
     /// The segment means what it meant and what the answering one meant.
     Absorbed,
@@ -44,7 +44,7 @@ pub enum Reply {
     Piece { piece: Piece },
     /// No snapshot is kept.
     NoSnapshot,
-    /// The index is not below the number of the snapshot's pieces.
+    /// The index is not below the count of the snapshot's pieces.
     NoPiece,
     Staged,
     Added,
@@ -54,22 +54,22 @@ pub enum Reply {
     Double { index: u32 },
     /// There is no staging.
     NoStaging,
-    /// The staged segment stands in place of the segment, and the staging is gone.
+    /// The staged segment has replaced the segment, and the staging is gone.
     Restored,
     /// The segment means what it meant and what the staged one means, and the staging is gone.
     United,
     /// The piece of this index has not come.
     Missing { index: u32 },
-    /// The piece of this index cannot stand there after those before it.
+    /// The piece of this index cannot follow those before it.
     Malformed { index: u32 },
     Next { redo: Record },
-    /// No held record has a key above the one given.
+    /// No stored record has a key above the one given.
     NoNext,
-    /// Memory was wanting, and nothing has changed.
+    /// Memory ran out, and nothing has changed.
     Memory,
 }
 
-/// What a segment stores, in numbers.
+/// What a segment stores, in figures.
 #[derive(Clone, Copy, Debug, PartialEq, Eq)]
 pub struct Status {
     pub epoch: u16,
@@ -77,7 +77,7 @@ pub struct Status {
     pub min: u64,
     pub anchor: u64,
     pub base: u64,
-    /// Held records, and those of them that the meaning keeps.
+    /// Stored records, and those of them that the meaning keeps.
     pub held: usize,
     pub kept: usize,
     /// Stored images of pages.

@@ -1,4 +1,4 @@
-//! How what a call below answers is replied.
+//! The reply for each result of a call below.
 ghost use Rattle.std.specs.Prelude.{◌≡◌};
 ghost use Rattle.replica.specs.Replying.{refusal_reply as refusal_reply_of, taken_reply as taken_reply_of, fault_reply as fault_reply_of};
 ghost use Rattle.replica.specs.Replying.{read_reply as read_reply_of, tidied_reply as tidied_reply_of, delta_reply as delta_reply_of};
@@ -12,6 +12,7 @@ use redo_core::{Fact, Page, Refused};
 use segment_core::{Gap, ReadFault, Refusal, Taken};
 use snapshot::{AddFault, FinishFault};
 
+/// The reply for a refused fact: `Memory` for lack of memory, else `Refused` with the reason.
 pub fn refusal_reply(refusal: Refusal) -> Reply
     ensures { result ≡ refusal_reply_of refusal }
 {
@@ -21,6 +22,7 @@ pub fn refusal_reply(refusal: Refusal) -> Reply
     }
 }
 
+/// The reply for the result of a `take`: `Changed`, `Unchanged`, or that of the refusal. The fact is dropped.
 pub fn taken_reply(taken: Result<Taken, Refused<Fact, Refusal>>) -> Reply
     ensures { result ≡ taken_reply_of taken }
 {
@@ -31,6 +33,7 @@ pub fn taken_reply(taken: Result<Taken, Refused<Fact, Refusal>>) -> Reply
     }
 }
 
+/// The reply for what the complete point waits for: `Gap`, or `NoGap` for None.
 pub fn gap_reply(gap: Option<Gap>) -> Reply
     ensures { result ≡ gap_reply_of gap }
 {
@@ -40,6 +43,7 @@ pub fn gap_reply(gap: Option<Gap>) -> Reply
     }
 }
 
+/// The reply for a failed read, fold, tidy or delta: one reply for each fault, with the same data.
 pub fn fault_reply(fault: ReadFault) -> Reply
     ensures { result ≡ fault_reply_of fault }
 {
@@ -51,6 +55,7 @@ pub fn fault_reply(fault: ReadFault) -> Reply
     }
 }
 
+/// The reply for the result of a read: `Page`, or that of the fault.
 pub fn read_reply(read: Result<Page, ReadFault>) -> Reply
     ensures { result ≡ read_reply_of read }
 {
@@ -60,6 +65,7 @@ pub fn read_reply(read: Result<Page, ReadFault>) -> Reply
     }
 }
 
+/// The reply for the result of a tidy: `Tidied`, or that of the fault.
 pub fn tidied_reply(tidied: Result<(), ReadFault>) -> Reply
     ensures { result ≡ tidied_reply_of tidied }
 {
@@ -69,6 +75,7 @@ pub fn tidied_reply(tidied: Result<(), ReadFault>) -> Reply
     }
 }
 
+/// The reply for the result of an answer to a summary: `Delta`, or that of the fault.
 pub fn delta_reply(replied: Result<Delta, ReadFault>) -> Reply
     ensures { result ≡ delta_reply_of replied }
 {
@@ -78,6 +85,7 @@ pub fn delta_reply(replied: Result<Delta, ReadFault>) -> Reply
     }
 }
 
+/// The reply for the result of an absorb: `Absorbed`, `Uncovered` with what is uncovered, or that of the refusal.
 pub fn absorbed_reply(absorbed: Result<(), AbsorbRefusal>) -> Reply
     ensures { result ≡ absorbed_reply_of absorbed }
 {
@@ -88,6 +96,7 @@ pub fn absorbed_reply(absorbed: Result<(), AbsorbRefusal>) -> Reply
     }
 }
 
+/// The reply for a piece that a staging refused: one reply for each fault, with the same data.
 pub fn unadded_reply(fault: AddFault) -> Reply
     ensures { result ≡ unadded_reply_of fault }
 {
@@ -98,6 +107,7 @@ pub fn unadded_reply(fault: AddFault) -> Reply
     }
 }
 
+/// The reply for a staging that makes no segment: one reply for each fault, with the same data.
 pub fn unfinished_reply(fault: FinishFault) -> Reply
     ensures { result ≡ unfinished_reply_of fault }
 {
