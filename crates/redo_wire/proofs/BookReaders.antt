@@ -29,7 +29,7 @@ use Rattle.redo_wire.proofs.FactReaders.{cut_reads, advance_reads, IsReadAdvance
 use Rattle.redo_wire.proofs.Orders.{All-weaker, All-both, IsNext, rising_from_each, each_from_rising, cut_tests, place_of, wait_tests, wait_above_zero}
 use Rattle.redo_wire.proofs.Epochs.{is_complete}
 
--- ---- truncations in their places
+-- ---- truncations in order
 
 abbrev pub IsNextCut : ℕ → CutData → Type 0
 IsNextCut last c = IsNext (λ last c. ltb last c.epoch) IsWireCut last c
@@ -56,7 +56,7 @@ each_point : (last : ℕ) (ps : List ℕ) → AllByRecursion (λ p. p ≤ max_nu
 each_point last [] h = tt
 each_point last (p ∷ ps) h = let le = h.0 in (omega (arith, le), each_point p ps h.1)
 
--- ---- waiting advances in their places
+-- ---- waiting advances in order
 
 -- an advance that waits at the complete epoch k, of one of so many readers
 abbrev pub IsWait : Bool → ℕ → ℕ → AdvanceData → Type 0
@@ -175,7 +175,7 @@ each_cut b wire =
     let first = All-weaker IsWireCut (λ c. ltb 0 c.epoch ≡ true) (λ c w. lt-ltb 0 c.epoch (epoch_above_zero c w)) b.cuts cuts in
     each_from_rising (λ last c. ltb last c.epoch) (λ (c : CutData). c.epoch) CutBefore IsWireCut cut_tests 0 b.cuts first wire.shape.cuts_rise cuts
 
--- a reader of the roster may stand in the form for that roster
+-- a reader of the roster may be in the form for that roster
 reader_within : (many : Bool) (readers r : ℕ) → IsWithin many 1 2 15 readers → IsReader readers r → IsWithin many 1 1 readers r
 reader_within many readers r roster is = search rules
 

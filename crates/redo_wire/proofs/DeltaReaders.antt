@@ -61,7 +61,7 @@ nonzero_page bytes len written =
       | inr no' ↦ absurd (written (zero_bytes 4096 bytes len no' ∙ sym zeros_is))
     ]
 
--- ---- pages in their places
+-- ---- pages in order
 
 abbrev pub IsReadImage : ImageData → Type 0
 IsReadImage p = IsWireImage p × (is_nonzero p.bytes ≡ true)
@@ -94,7 +94,7 @@ image_reads = record { takes = image_takes; again = image_again }
 next_image_reads : (least : ℕ) → Reads (next_image_at least) image_bytes (IsNextImage least)
 next_image_reads least = ordered_reads (λ p. leb least p.page) image_at image_bytes IsReadImage image_reads
 
--- ---- records in their places
+-- ---- records in order
 
 abbrev pub IsNextRecord : Key → RecordData → Type 0
 IsNextRecord last r = IsNext (λ last r. is_above last (key_of r)) IsWireRecord last r

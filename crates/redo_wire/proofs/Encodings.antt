@@ -1,4 +1,4 @@
--- What a reader that fits a encoding says of whole inputs.
+-- What a reader that fits an encoding says of whole inputs.
 use Rattle.std.proofs.Common.{◌≡◌, ℕ, ◌<◌, eqb, List, [], ◌++◌, length, Result, Ok, Err, refl, sym, ap, subst, ◌∙◌, arith, rules}
 use Rattle.std.proofs.lemmas.Grind.{common_steps}
 use Rattle.std.specs.Prelude.{IfOk, All}

@@ -111,7 +111,7 @@ pub advance_reads : (many : Bool) (least first last : ℕ) → 1 ≤ first → 1
     → Reads (advance_at many least first last) (advance_bytes many) (IsReadAdvance many least first last)
 advance_reads many least first last lo one hi = record { takes = advance_takes many least first last lo one hi; again = advance_again many least first last }
 
--- a number from 2 on stands in the second form alone
+-- a number from 2 on is in the second form alone
 pub second_is : (many : Bool) (last r : ℕ) → IsWithin many 1 2 last r → ltb 1 r ≡ many
 second_is many last r is = search rules
 

@@ -1,4 +1,4 @@
--- A call that fails hands on the first fault, and what stands behind it is not read.
+-- A call that fails returns the first fault, and what follows it is not read.
 use Rattle.std.proofs.Common.{◌≡◌, Bool, Result, IsErrAnd, refl, rules}
 use Rattle.redo_wire.specs.declared.faults.WireFault.{WireFault}
 use Rattle.redo_wire.specs.declared.faults.WireError.{WireError}

@@ -18,7 +18,7 @@ form_again : (first second : ℕ) (form : Bool) (rest : List ℕ) → second ≢
 unfolding form_at
 form_again first second form rest apart = search rules
 
--- a tag, and behind it the part in that form
+-- a tag, and after it the part in that form
 pub form_then : {A : Type 0} (first second : ℕ) (part_at : Bool → List ℕ → Read A) (part_bytes : Bool → A → List ℕ) (which : A → Bool) (Fits : A → Type 0)
     → second ≢ first
     → ((form : Bool) → Reads (part_at form) (part_bytes form) (λ a. Fits a × (which a ≡ form)))

@@ -6,7 +6,7 @@ use Rattle.redo_wire.specs.Reading.{◌>>=◌, Read}
 use Rattle.redo_wire.specs.Lists.{each_at}
 use Rattle.redo_wire.proofs.Readers.{IsBytes, bind_ok, ok_is, Takes, Takes-then, Reads}
 
--- each element is one that may come in its place
+-- each element is one that may come at its index
 abbrev pub EachFrom : {S A : Type 0} → (S → A → Type 0) → (S → A → S) → S → List A → Type 0
 EachFrom IsNext next state [] = Unit {0}
 EachFrom IsNext next state (x ∷ xs) = IsNext state x × EachFrom IsNext next (next state x) xs

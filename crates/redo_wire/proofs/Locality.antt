@@ -1,4 +1,4 @@
--- Reading looks no further than it got: with more bytes behind, what was read is read again, and so is each fault but short.
+-- Reading looks no further than it got: with more bytes after, what was read is read again, and so is each fault but short.
 -- And it never ends in the fault of encoding, a list that is too long.
 use Rattle.std.proofs.Common.{◌≡◌, ℕ, zero, suc, ◌<◌, ◌⊎◌, inl, inr, Bool, true, false, cond, List, [], ◌∷◌, ◌++◌, Result, Ok, Err, refl, ltb, leb, eqb, length, take, drop, arith, rules}
 use Rattle.std.proofs.lemmas.Grind.{common_steps}
@@ -30,7 +30,7 @@ abbrev extended : {A : Type 0} → List ℕ → Read A → Read A
 extended y (Ok x) = Ok (x.0, x.1 ++ y)
 extended y (Err f) = Err f
 
--- r was read of some bytes, and s of the same with y behind
+-- r was read of some bytes, and s of the same with y after
 abbrev Extends : {A : Type 0} → List ℕ → Read A → Read A → Type 0
 Extends y r s = (r ≡ Err Short) ⊎ (s ≡ extended y r)
 
@@ -38,7 +38,7 @@ Extends y r s = (r ≡ Err Short) ⊎ (s ≡ extended y r)
 abbrev IsReading : {A : Type 0} → Result A WireFault → Type 0
 IsReading r = r ≡ Err TooLong → ⊥
 
--- both of a reading of some bytes, and of the same with y behind
+-- both of a reading of some bytes, and of the same with y after
 record Follows {A : Type 0} (y : List ℕ) (r s : Read A) : Type 0 where
   reads : IsReading r
   extends : Extends y r s
@@ -341,12 +341,12 @@ decoded_delta_reads bytes = whole_reads (delta_at bytes) (delta_ext [] bytes).re
 pub decoded_piece_reads : (bytes : List ℕ) → IsReading (decoded_piece bytes)
 decoded_piece_reads bytes = whole_reads (piece_at bytes) (piece_ext [] bytes).reads
 
--- ---- values of any kind: with more bytes behind, the same decoder is asked
+-- ---- values of any kind: with more bytes after, the same decoder is called
 
 valued_ok : {A : Type 0} (kind : A → WireValue) (r : Result A WireFault) (v : WireValue) → valued kind r ≡ Ok v → (x : A) × (r ≡ Ok x)
 valued_ok kind r v e = search rules
 
--- what the three laws say of two inputs, the longer of which has y behind
+-- what the three theorems say of two inputs, the longer of which has y after
 record Local {A : Type 0} (y : List ℕ) (r s : Result A WireFault) : Type 0 where
   stay : (f : WireFault) → r ≡ Err f → (f ≡ Short → ⊥) → (f ≡ Rest → ⊥) → s ≡ Err f
   short : (v : A) → 0 < length y → s ≡ Ok v → r ≡ Err Short

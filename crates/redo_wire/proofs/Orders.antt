@@ -18,7 +18,7 @@ pub All-both : {X : Type 0} (P Q : X → Type 0) (xs : List X) → AllByRecursio
 All-both P Q [] h k = tt
 All-both P Q (x ∷ xs) h k = ((h.0, k.0), All-both P Q xs h.1 k.1)
 
--- a test against the place of the element before, and the order that it tests
+-- a test against the position of the element before, and the order that it tests
 pub record Tests {S A : Type 0} (above : S → A → Bool) (place : A → S) (Before : A → A → Type 0) : Type 0 where
   pub before : (x y : A) → above (place x) y ≡ true → Before x y
   pub passes : (x y : A) → Before x y → above (place x) y ≡ true
@@ -60,7 +60,7 @@ above_from_pair a b c d h = search rules
 pub key_tests : {A : Type 0} (key : A → Key) → Tests (λ last x. is_above last (key x)) key (λ x y. KeyBefore (key x) (key y))
 key_tests key = search rules
 
--- (0, 0) is below each key with a number
+-- (0, 0) is below each key with an LSN above 0
 pub above_zero : (k : Key) → 0 < k.number → is_above (key_in 0 0) k ≡ true
 above_zero k pos = above_from_pair 0 0 k.epoch k.number (elim (cases_lt 0 k.epoch) [ inl lt ↦ inl lt | inr le ↦ inr (omega (arith, le), pos) ])
 
@@ -75,6 +75,6 @@ place_of a = (a.epoch, a.reader, a.point)
 pub wait_tests : Tests (λ last a. is_wait_above last (place_of a)) place_of AdvanceBefore
 wait_tests = search rules
 
--- (0, 0, 0) is below each place with a reader
+-- (0, 0, 0) is below each position with a reader
 pub wait_above_zero : (epoch reader point : ℕ) → 0 < reader → is_wait_above (0, 0, 0) (epoch, reader, point) ≡ true
 wait_above_zero epoch reader point pos = search rules

@@ -32,9 +32,9 @@ use Rattle.messages.proofs.BookMins.{min_small}
 use Rattle.redo_wire.proofs.BookReaders.{book_reads}
 use Rattle.redo_wire.proofs.DeltaReaders.{IsNextRecord, next_record_reads, each_record, image_reads, read_image, written_page}
 
--- ---- what a piece brings
+-- ---- what a piece contains
 
--- a content that may be read behind a kind, in the form for one reader or for several
+-- a content that may be read after a kind, in the form for one reader or for several
 pub record IsRead (many : Bool) (kind : ℕ) (c : PieceContent) : Type 0 where
   pub kind_is : kind_of c ≡ kind
   pub many_is : is_for_many c ≡ many
@@ -118,7 +118,7 @@ page_takes bytes x fits e =
 page_again : (p : ImageData) (rest : List ℕ) → IsRead false 1 (Page p) → mapped Page (image_at (image_bytes p ++ rest)) ≡ Ok (Page p, rest)
 page_again p rest fits = ap (mapped Page) (image_reads.again p rest (read_image p (fits.wire, fits.shape)))
 
--- a content behind each kind that the form has
+-- a content after each kind that the form has
 content_takes : (many : Bool) (kind : ℕ) → kind ≤ last_kind many → (bytes : List ℕ) (x : PieceContent × List ℕ) → IsBytes bytes
     → content_at many kind bytes ≡ Ok x → Takes bytes (content_bytes many x.0) x.1 × IsRead many kind x.0
 unfolding content_at
@@ -133,7 +133,7 @@ content_again : (many : Bool) (c : PieceContent) (rest : List ℕ) → is_for_ma
 unfolding content_at
 content_again many c rest many_is shape wire = search (rules, head_again, page_again, records_again)
 
--- ---- kinds in their places
+-- ---- kinds in order
 
 known_ok : {A : Type 0} (rule : A → Bool) (r : Read A) (y : A × List ℕ) → known rule r ≡ Ok y → (r ≡ Ok y) × (rule y.0 ≡ true)
 known_ok rule r y e = search rules

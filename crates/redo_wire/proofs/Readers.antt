@@ -1,4 +1,4 @@
--- A reader and a encoding that fit: what is read is encoded so, and what is encoded so is read.
+-- A reader and an encoding that fit: what is read is encoded so, and what is encoded so is read.
 use Rattle.std.proofs.Common.{◌≡◌, ℕ, ◌+◌, ◌<◌, Bool, true, false, cond, List, ◌∷◌, ◌++◌, get_or, take, drop, Result, Ok, Err, refl, sym, ap, ◌∙◌, append_assoc, arith, rules}
 use Rattle.std.proofs.lemmas.Grind.{common_steps}
 use Rattle.std.proofs.lemmas.List.{get_or-drop}
@@ -44,7 +44,7 @@ pub record Takes (bytes text rest : List ℕ) : Type 0 where
 pub Takes-then : (a x b y c : List ℕ) → Takes a x b → Takes b y c → Takes a (x ++ y) c
 Takes-then a x b y c p q = record { parts = p.parts ∙ ap (λ (t : List ℕ). x ++ t) q.parts ∙ sym (append_assoc x y c); rest_fits = q.rest_fits }
 
--- a tag in front
+-- a tag before a value
 pub tag_takes : (tag : ℕ) (bytes text rest : List ℕ) → Takes bytes text rest → Takes (tag ∷ bytes) (tag ∷ text) rest
 tag_takes tag bytes text rest t = record { parts = ap (λ (r : List ℕ). tag ∷ r) t.parts; rest_fits = t.rest_fits }
 
@@ -56,7 +56,7 @@ pub record Reads {A : Type 0} (read : List ℕ → Read A) (encode : A → List 
 ordered_ok : {A : Type 0} (rule : A → Bool) (r : Read A) (y : A × List ℕ) → ordered rule r ≡ Ok y → (r ≡ Ok y) × (rule y.0 ≡ true)
 ordered_ok rule r y e = search rules
 
--- the same for an element in its place
+-- the same for an element at its index
 pub ordered_reads : {A : Type 0} (rule : A → Bool) (read : List ℕ → Read A) (encode : A → List ℕ) (Fits : A → Type 0) → Reads read encode Fits
     → Reads (λ bytes. ordered rule (read bytes)) encode (λ a. (rule a ≡ true) × Fits a)
 ordered_reads rule read encode Fits reads = record {
@@ -64,7 +64,7 @@ ordered_reads rule read encode Fits reads = record {
   again = λ a rest fits. rw (reads.again a rest fits.1, fits.0) refl;
 }
 
--- the same of values that are told apart in other words
+-- the same of values that another predicate describes
 pub reads_as : {A : Type 0} (read : List ℕ → Read A) (encode : A → List ℕ) (Fits Told : A → Type 0) → Reads read encode Fits → ((a : A) → Fits a → Told a)
     → ((a : A) → Told a → Fits a) → Reads read encode Told
 reads_as read encode Fits Told reads there back = record {

@@ -91,7 +91,7 @@ record HasParts (r : RecordData) : Type 0 where
 parts_of : (r : RecordData) → IsWireRecord r → HasParts r
 parts_of r wire = search rules
 
--- the number of a record is at least 1
+-- the LSN of a record is at least 1
 pub number_above_zero : (r : RecordData) → IsWireRecord r → 0 < r.number
 number_above_zero r wire = (parts_of r wire).head.positive
 
@@ -110,7 +110,7 @@ form_is : (full : Bool) (n : ℕ) (ps : List Patch) → IsWithin full 0 0 1 n �
     → (not full || is_full_body (eqb n 1) ps) ≡ true → is_full_body (eqb n 1) ps ≡ full
 form_is full n ps is each rule = search (rules, none_filled)
 
--- ---- records behind their tags
+-- ---- records after their tags
 
 pub record_part_steps : (full : Bool) (bytes : List ℕ) (head : RecordHead × List ℕ) (flags count : ℕ × List ℕ) (patches : List Patch × List ℕ) → IsBytes bytes
     → head_at bytes ≡ Ok head → within_at full 0 0 1 head.1 ≡ Ok flags → byte_at flags.1 ≡ Ok count → count.0 ≤ 64

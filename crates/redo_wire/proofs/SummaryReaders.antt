@@ -24,7 +24,7 @@ use Rattle.redo_wire.proofs.Orders.{All-weaker, All-both, IsNext, rising_from_ea
 use Rattle.messages.proofs.BookMins.{min_small}
 use Rattle.redo_wire.proofs.BookReaders.{book_reads}
 
--- ---- keys in their places
+-- ---- keys in order
 
 abbrev pub IsWireKey : Key → Type 0
 IsWireKey k = IsKey k × (k.epoch < 2 ^ 16)

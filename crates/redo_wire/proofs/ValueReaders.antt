@@ -60,7 +60,7 @@ value_from_read (tag ∷ rest) v fits e =
     (chosen (is_delta_tag tag) delta (cond (is_piece_tag tag) piece fact) v h))
     (chosen (is_summary_tag tag) (valued Summary (decoded_summary bytes)) (cond (is_delta_tag tag) delta (cond (is_piece_tag tag) piece fact)) v e)
 
--- ---- the decoder that the first byte of a encoding names
+-- ---- the decoder that the first byte of an encoding names
 
 summary_first : (many : Bool) (text : List ℕ)
     → decoded_value (form_bytes 16 32 many ++ text) ≡ valued Summary (decoded_summary (form_bytes 16 32 many ++ text))

@@ -36,7 +36,7 @@ last_point last p = p
 abbrev pub wait_place : WaitPlace → AdvanceData → WaitPlace
 wait_place last a = (a.epoch, a.reader, a.point)
 
--- an advance that waits while k is the complete epoch, of one of so many readers, after one at the place `last`
+-- an advance that waits while k is the complete epoch, of one of so many readers, after one at the position `last`
 abbrev pub next_wait_at : Bool → ℕ → ℕ → WaitPlace → List ℕ → Read AdvanceData
 next_wait_at many k readers last bytes = ordered (λ a. is_wait_above last (a.epoch, a.reader, a.point)) (advance_at many (k + 1) 1 readers bytes)
 

@@ -22,11 +22,11 @@ is_long_book b = nat_le count16_end (length b.cuts) || nat_le count32_end (lengt
 
 -- ---- encoding
 
--- the points; for several readers their number stands before them
+-- the points; for several readers their count comes before them
 abbrev pub points_bytes : Bool → List ℕ → List ℕ
 points_bytes many points = byte_in many (length points) ++ flat_map u48 points
 
--- a book in the form for one reader or for several; the complete epoch has no bytes, for the truncations tell it
+-- a book in the form for one reader or for several; the complete epoch has no bytes, for it follows from the truncations
 abbrev pub book_bytes : Bool → BookData → List ℕ
 book_bytes many b =
     u16 (length b.cuts) ++ flat_map cut_bytes b.cuts ++ points_bytes many b.points ++ u32 (length b.waits) ++ flat_map (advance_bytes many) b.waits

@@ -32,7 +32,7 @@ image_at bytes = do
   image ← shaped is_nonzero (bytes_at page_len page.1)
   Ok (image_of page.0 image.0, image.1)
 
--- the least number that a page after p may have
+-- the least page number that a page after p may have
 abbrev pub page_after : ℕ → ImageData → ℕ
 page_after least p = p.page + 1
 
@@ -45,7 +45,7 @@ record_place last r = key_of r
 abbrev pub next_record_at : Key → List ℕ → Read RecordData
 next_record_at last bytes = ordered (λ r. is_above last (key_of r)) (record_at bytes)
 
--- a delta behind its tag, in the form for one reader or for several
+-- a delta after its tag, in the form for one reader or for several
 unfoldable pub delta_part_at : Bool → List ℕ → Read DeltaData
 delta_part_at many bytes = do
   book ← book_at many bytes

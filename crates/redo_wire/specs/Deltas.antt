@@ -34,7 +34,7 @@ is_long_delta d = is_long_book d.book || nat_le count32_end (length d.pages) || 
 abbrev pub image_bytes : ImageData → List ℕ
 image_bytes p = u16 p.page ++ p.bytes
 
--- a delta behind its tag, in the form for one reader or for several
+-- a delta after its tag, in the form for one reader or for several
 abbrev pub delta_part_bytes : Bool → DeltaData → List ℕ
 delta_part_bytes many d =
     book_bytes many d.book ++ u48 d.base ++ u32 (length d.pages) ++ flat_map image_bytes d.pages ++ u32 (length d.records) ++ flat_map record_bytes d.records

@@ -11,7 +11,7 @@ use Rattle.redo_wire.specs.Tags.{record_tag, full_record_tag, cut_tag, advance_t
 use Rattle.redo_wire.specs.Forms.{form_at, within_at}
 use Rattle.redo_wire.specs.RecordReading.{record_at}
 
--- a truncation behind its tag, and as an element of a list
+-- a truncation after its tag, and as an element of a list
 unfoldable pub cut_at : List ℕ → Read CutData
 cut_at bytes = do
   epoch ← shaped (λ e. nat_lt 0 e) (u16_at bytes)

@@ -26,11 +26,11 @@ IsWireFact (Advance a) = IsWireAdvance a
 
 -- ---- encoding
 
--- a truncation behind its tag, and as an element of a list
+-- a truncation after its tag, and as an element of a list
 abbrev pub cut_bytes : CutData → List ℕ
 cut_bytes c = u16 c.epoch ++ u48 c.lo ++ u48 c.hi
 
--- an advance behind its tag, and as an element of a list; the forms for several readers name the reader
+-- an advance after its tag, and as an element of a list; the forms for several readers name the reader
 abbrev pub advance_bytes : Bool → AdvanceData → List ℕ
 advance_bytes many a = u16 a.epoch ++ byte_in many a.reader ++ u48 a.point
 

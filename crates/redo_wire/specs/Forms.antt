@@ -1,4 +1,4 @@
--- Values that have two forms, told apart by their tags, and the bytes that only the second form has.
+-- Values that have two forms, distinguished by their tags, and the bytes that only the second form has.
 use Rattle.std.specs.Prelude.{ℕ, Bool, true, false, List, [], ◌∷◌, Ok, Err, nat_le, ◌==◌, ◌&&◌, if◌then◌else◌}
 use Rattle.redo_wire.specs.declared.faults.WireFault.TheVariants.{UnknownTag}
 use Rattle.redo_wire.specs.Reading.{◌>>=◌, Read, shaped}

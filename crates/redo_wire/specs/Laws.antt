@@ -7,7 +7,7 @@ use Rattle.redo_wire.specs.declared.faults.WireFault.TheVariants.{Short, Rest, T
 abbrev pub HasOneEncoding : {A : Type 0} → (A → List ℕ → Type 0) → Type 0
 HasOneEncoding {A} Encodes = (v : A) (x y : List ℕ) → Encodes v x → Encodes v y → x ≡ y
 
--- a encoding has one value
+-- an encoding has one value
 abbrev pub HasOneValue : {A : Type 0} → (A → List ℕ → Type 0) → Type 0
 HasOneValue {A} Encodes = (v w : A) (x : List ℕ) → Encodes v x → Encodes w x → v ≡ w
 
@@ -27,10 +27,10 @@ NeverTooLong decoded = (bytes : List ℕ) → decoded bytes ≡ Err TooLong → 
 abbrev pub FaultsStay : {A : Type 0} → (List ℕ → Result A WireFault) → Type 0
 FaultsStay {A} decoded = (x y : List ℕ) (f : WireFault) → decoded x ≡ Err f → (f ≡ Short → ⊥) → (f ≡ Rest → ⊥) → decoded (x ++ y) ≡ Err f
 
--- each proper beginning of a encoding is short
+-- each proper beginning of an encoding is short
 abbrev pub BeginningsAreShort : {A : Type 0} → (List ℕ → Result A WireFault) → Type 0
 BeginningsAreShort {A} decoded = (x y : List ℕ) (v : A) → 0 < length y → decoded (x ++ y) ≡ Ok v → decoded x ≡ Err Short
 
--- bytes behind a encoding are a rest
+-- bytes after an encoding are a rest
 abbrev pub RestIsBehind : {A : Type 0} → (List ℕ → Result A WireFault) → Type 0
 RestIsBehind {A} decoded = (x y : List ℕ) (v : A) → 0 < length y → decoded x ≡ Ok v → decoded (x ++ y) ≡ Err Rest

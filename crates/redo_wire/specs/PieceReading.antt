@@ -35,14 +35,14 @@ records_content_at bytes = do
   records ← each_at next_record_at record_place count.0 (key_in 0 0) count.1
   Ok (Records records.0, records.1)
 
--- what a piece of a kind brings
+-- what a piece of a kind contains
 unfoldable pub content_at : Bool → ℕ → List ℕ → Read PieceContent
 content_at many kind bytes =
     if kind == head_kind then head_content_at many bytes
     else if kind == page_kind then mapped Page (image_at bytes)
     else records_content_at bytes
 
--- a piece behind its tag, in the form for one reader or for several
+-- a piece after its tag, in the form for one reader or for several
 unfoldable pub piece_part_at : Bool → List ℕ → Read PieceData
 piece_part_at many bytes = do
   name ← u64_at bytes

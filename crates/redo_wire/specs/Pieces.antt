@@ -47,13 +47,13 @@ is_for_many (Head book anchor) = has_many book
 is_for_many (Page p) = false
 is_for_many (Records rs) = false
 
--- what a piece brings, behind its kind; the count of records in one byte
+-- what a piece contains, after its kind; the count of records in one byte
 abbrev pub content_bytes : Bool → PieceContent → List ℕ
 content_bytes many (Head book anchor) = book_bytes many book ++ u48 anchor
 content_bytes many (Page p) = image_bytes p
 content_bytes many (Records rs) = (length rs ∷ []) ++ flat_map record_bytes rs
 
--- a piece behind its tag, in the form for one reader or for several
+-- a piece after its tag, in the form for one reader or for several
 abbrev pub piece_part_bytes : Bool → PieceData → List ℕ
 piece_part_bytes many p = u64 p.name ++ u32 p.index ++ u32 p.total ++ (kind_of p.content ∷ []) ++ content_bytes many p.content
 

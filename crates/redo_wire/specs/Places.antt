@@ -1,4 +1,4 @@
--- The order in which lists of keys, records and waiting advances are read: each element is to be above the place of the last.
+-- The order in which lists of keys, records and waiting advances are read: each element is to be above the position of the last.
 use Rattle.std.specs.Prelude.{ℕ, Bool, nat_lt, ◌==◌, ◌&&◌, ◌||◌}
 use Rattle.redo_core.specs.declared.keys.Key.{Key}
 
@@ -6,11 +6,11 @@ use Rattle.redo_core.specs.declared.keys.Key.{Key}
 abbrev pub is_pair_above : ℕ → ℕ → ℕ → ℕ → Bool
 is_pair_above a b c d = nat_lt a c || (a == c && nat_lt b d)
 
--- l is above k: of a later epoch, or of the same with a greater number; the key (0, 0) is below that of every record
+-- l is above k: of a later epoch, or of the same with a greater LSN; the key (0, 0) is below that of every record
 abbrev pub is_above : Key → Key → Bool
 is_above k l = is_pair_above k.epoch k.number l.epoch l.number
 
--- an epoch, a reader and a point; (0, 0, 0) is below the place of every advance
+-- an epoch, a reader and a point; (0, 0, 0) is below the position of every advance
 abbrev pub WaitPlace : Type 0
 WaitPlace = ℕ × ℕ × ℕ
 

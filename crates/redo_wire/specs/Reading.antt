@@ -18,7 +18,7 @@ abbrev pub shaped : {A : Type 0} → (A → Bool) → Read A → Read A
 shaped rule (Ok x) = if rule x.0 then Ok x else Err Shape
 shaped rule (Err f) = Err f
 
--- a tag or a kind that may stand here, judged as soon as it is read
+-- a tag or a kind that may come here, judged as soon as it is read
 abbrev pub known : {A : Type 0} → (A → Bool) → Read A → Read A
 known rule (Ok x) = if rule x.0 then Ok x else Err UnknownTag
 known rule (Err f) = Err f

@@ -15,7 +15,7 @@ use Rattle.redo_wire.specs.Tags.{record_tag, full_record_tag, bytes_kind, fill_k
 use Rattle.redo_wire.specs.Forms.{form_at, within_at}
 use Rattle.redo_wire.specs.Records.{is_full_body}
 
--- A write's length is judged before its bytes; `left` is the number of bytes that the writes from here on may bring.
+-- A write's length is judged before its bytes; `left` is how many bytes the writes from here on may have.
 unfoldable pub write_at : ℕ → List ℕ → Read WriteData
 write_at left bytes = do
   offset ← u16_at bytes
@@ -23,7 +23,7 @@ write_at left bytes = do
   text ← bytes_at len.0 len.1
   Ok (record { offset = offset.0; bytes = text.0 }, text.1)
 
--- a fill behind its kind
+-- a fill after its kind
 unfoldable pub fill_at : List ℕ → Read Patch
 fill_at bytes = do
   offset ← u16_at bytes
@@ -59,7 +59,7 @@ head_at bytes = do
 abbrev pub record_from : RecordHead → Bool → List Patch → RecordData
 record_from head init patches = record_with head.epoch head.number head.back head.page head.block_back init patches
 
--- a record behind its tag; what the plain form can say is refused in the full form, as soon as all patches are read
+-- a record after its tag; what the plain form can encode is refused in the full form, as soon as all patches are read
 unfoldable pub record_part_at : Bool → List ℕ → Read RecordData
 record_part_at full bytes = do
   head ← head_at bytes

@@ -22,7 +22,7 @@ abbrev pub is_fill : Patch → Bool
 is_fill (Bytes w) = false
 is_fill (Fill offset len byte) = true
 
--- It begins its page anew or fills a range, which the full form alone can say; a record of writes alone has the plain form.
+-- It begins its page from zeros or fills a range, which the full form alone can encode; a record of writes alone has the plain form.
 abbrev pub is_full_body : Bool → List Patch → Bool
 is_full_body init patches = init || list_any is_fill patches
 
@@ -51,7 +51,7 @@ head_bytes r = u16 r.epoch ++ u48 r.number ++ u48 r.back ++ u16 r.page ++ u48 r.
 abbrev pub body_bytes : Bool → RecordData → List ℕ
 body_bytes full r = byte_in full (flags_of r) ++ (length r.patches ∷ []) ++ flat_map (patch_bytes full) r.patches
 
--- a record behind its tag
+-- a record after its tag
 abbrev pub record_part_bytes : Bool → RecordData → List ℕ
 record_part_bytes full r = head_bytes r ++ body_bytes full r
 

@@ -26,7 +26,7 @@ is_long_summary s = is_long_book s.book || nat_le count32_end (length s.keys)
 abbrev pub key_bytes : Key → List ℕ
 key_bytes k = u16 k.epoch ++ u48 k.number
 
--- a summary behind its tag, in the form for one reader or for several
+-- a summary after its tag, in the form for one reader or for several
 abbrev pub summary_part_bytes : Bool → SummaryData → List ℕ
 summary_part_bytes many s = book_bytes many s.book ++ u48 s.anchor ++ u32 (length s.keys) ++ flat_map key_bytes s.keys
 

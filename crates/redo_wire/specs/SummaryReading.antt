@@ -25,7 +25,7 @@ key_place last k = k
 abbrev pub next_key_at : Key → List ℕ → Read Key
 next_key_at last bytes = ordered (λ k. is_above last k) (key_at bytes)
 
--- a summary behind its tag, in the form for one reader or for several
+-- a summary after its tag, in the form for one reader or for several
 unfoldable pub summary_part_at : Bool → List ℕ → Read SummaryData
 summary_part_at many bytes = do
   book ← book_at many bytes

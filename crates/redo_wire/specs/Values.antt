@@ -1,4 +1,4 @@
--- Values of any kind: a fact, a summary, a delta or a piece. The first byte tells which.
+-- Values of any kind: a fact, a summary, a delta or a piece. The first byte determines which.
 use Rattle.std.specs.Prelude.{ℕ, Bool, List, [], ◌∷◌, Result, Ok, Err, ◌==◌, ◌||◌, if◌then◌else◌}
 use Rattle.redo_wire.specs.declared.faults.WireFault.{WireFault}
 use Rattle.redo_wire.specs.declared.faults.WireFault.TheVariants.{Short}

@@ -78,7 +78,7 @@ fn read_delta_part(alloc: Global, has_many: bool, bytes: &[u8]) -> Result<(Delta
     Ok((Delta::new(book, base, pages, records), rest))
 }
 
-// The base, the pages and the records of a delta, behind its book.
+// The base, the pages and the records of a delta, after its book.
 #[tactic(auto, unfolding(crate::specs::DeltaReading::delta_part_at))]
 fn read_delta_lists<'a>(
     alloc: Global,

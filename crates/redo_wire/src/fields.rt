@@ -8,6 +8,7 @@ use crate::faults::{WireError, WireFault};
 use bytes::{BufMut, BytesMut};
 use std::alloc::AllocError;
 
+/// Reads one byte; returns it and the bytes after it. Error: `Short` where there is none.
 pub fn read_byte(bytes: &[u8]) -> Result<(u8, &[u8]), WireError>
     ensures { Gives (λ x. (x.0, x.1.now)) result (byte_at bytes.now) }
 {
@@ -17,6 +18,7 @@ pub fn read_byte(bytes: &[u8]) -> Result<(u8, &[u8]), WireError>
     }
 }
 
+/// Reads `len` bytes; returns them and the bytes after them. Error: `Short` where there are fewer.
 pub fn read_bytes(len: usize, bytes: &[u8]) -> Result<(&[u8], &[u8]), WireError>
     ensures value { Gives (λ x. (x.0.now, x.1.now)) result (bytes_at len bytes.now) }
     ensures len { IfOk result (λ x. length x.0.now ≡ len) }
@@ -27,6 +29,7 @@ pub fn read_bytes(len: usize, bytes: &[u8]) -> Result<(&[u8], &[u8]), WireError>
     Ok(bytes.split_at(len))
 }
 
+/// Reads a number of 16 bits; returns it and the bytes after it. Error: `Short` where there are fewer than 2 bytes.
 #[tactic(auto, unfolding(crate::specs::Fields::number_at))]
 pub fn read_u16(bytes: &[u8]) -> Result<(u16, &[u8]), WireError>
     ensures { Gives (λ x. (x.0, x.1.now)) result (u16_at bytes.now) }
@@ -35,6 +38,7 @@ pub fn read_u16(bytes: &[u8]) -> Result<(u16, &[u8]), WireError>
     Ok((u16::from_be_bytes([text[0], text[1]]), rest))
 }
 
+/// Reads a number of 32 bits; returns it and the bytes after it. Error: `Short` where there are fewer than 4 bytes.
 #[tactic(auto, unfolding(crate::specs::Fields::number_at))]
 pub fn read_u32(bytes: &[u8]) -> Result<(u32, &[u8]), WireError>
     ensures { Gives (λ x. (x.0, x.1.now)) result (u32_at bytes.now) }
@@ -46,6 +50,7 @@ pub fn read_u32(bytes: &[u8]) -> Result<(u32, &[u8]), WireError>
     ))
 }
 
+/// Reads a number of 64 bits; returns it and the bytes after it. Error: `Short` where there are fewer than 8 bytes.
 #[tactic(auto, unfolding(crate::specs::Fields::number_at))]
 pub fn read_u64(bytes: &[u8]) -> Result<(u64, &[u8]), WireError>
     ensures { Gives (λ x. (x.0, x.1.now)) result (u64_at bytes.now) }
@@ -57,6 +62,7 @@ pub fn read_u64(bytes: &[u8]) -> Result<(u64, &[u8]), WireError>
     Ok((number, rest))
 }
 
+/// Reads a number of 48 bits; returns it and the bytes after it. Error: `Short` where there are fewer than 6 bytes.
 #[tactic(auto, unfolding(crate::specs::Fields::u48_at))]
 pub fn read_u48(bytes: &[u8]) -> Result<(u64, &[u8]), WireError>
     ensures value { Gives (λ x. (x.0, x.1.now)) result (u48_at bytes.now) }
@@ -67,6 +73,7 @@ pub fn read_u48(bytes: &[u8]) -> Result<(u64, &[u8]), WireError>
     Ok((number, rest))
 }
 
+/// Appends a number of 16 bits. It fails only if memory runs out.
 #[tactic(auto, unfolding(crate::specs::Fields::number))]
 pub fn put_u16(out: &mut BytesMut, n: u16) -> Result<(), AllocError>
     ensures { OnOk result (out.new.items ≡ out.old.items ++ u16 n) }
@@ -74,6 +81,7 @@ pub fn put_u16(out: &mut BytesMut, n: u16) -> Result<(), AllocError>
     out.put_u16(n)
 }
 
+/// Appends a number of 32 bits. It fails only if memory runs out.
 #[tactic(auto, unfolding(crate::specs::Fields::number))]
 pub fn put_u32(out: &mut BytesMut, n: u32) -> Result<(), AllocError>
     ensures { OnOk result (out.new.items ≡ out.old.items ++ u32 n) }
@@ -81,6 +89,7 @@ pub fn put_u32(out: &mut BytesMut, n: u32) -> Result<(), AllocError>
     out.put_u32(n)
 }
 
+/// Appends a number of 64 bits. It fails only if memory runs out.
 #[tactic(auto, unfolding(crate::specs::Fields::number))]
 pub fn put_u64(out: &mut BytesMut, n: u64) -> Result<(), AllocError>
     ensures { OnOk result (out.new.items ≡ out.old.items ++ u64 n) }
@@ -88,6 +97,7 @@ pub fn put_u64(out: &mut BytesMut, n: u64) -> Result<(), AllocError>
     out.put_u64(n)
 }
 
+/// Appends the low 48 bits of a number. It fails only if memory runs out.
 #[tactic(auto, unfolding(crate::specs::Fields::u48))]
 pub fn put_u48(out: &mut BytesMut, n: u64) -> Result<(), AllocError>
     ensures { OnOk result (out.new.items ≡ out.old.items ++ u48 n) }

@@ -1,4 +1,4 @@
-//! What tells the two forms of a value apart: the tag, and the bytes that only the second form has.
+//! What distinguishes the two forms of a value: the tag, and the bytes that only the second form has.
 
 ghost use Rattle.std.specs.Prelude.{◌≡◌, ◌≤◌, ◌++◌, OnOk};
 ghost use Rattle.redo_wire.specs.Forms.{form_at, form_bytes, within_at, byte_in};
@@ -9,7 +9,7 @@ use crate::fields::read_byte;
 use bytes::{BufMut, BytesMut};
 use std::alloc::AllocError;
 
-/// Whether the tag in front is that of the second form. Every other tag but the first form's is unknown.
+/// Whether the first byte is the tag of the second form. Every other tag but the first form's is unknown.
 #[tactic(auto, unfolding(crate::specs::Forms::form_at))]
 pub fn read_form(first: u8, second: u8, bytes: &[u8]) -> Result<(bool, &[u8]), WireError>
     ensures { Gives (λ x. (x.0, x.1.now)) result (form_at first second bytes.now) }
@@ -24,6 +24,7 @@ pub fn read_form(first: u8, second: u8, bytes: &[u8]) -> Result<(bool, &[u8]), W
     Err(WireError::Fault(WireFault::UnknownTag))
 }
 
+/// Appends the tag of the first or the second form. It fails only if memory runs out.
 pub fn put_form(
     out: &mut BytesMut,
     first: u8,
@@ -58,6 +59,7 @@ pub fn read_within(
     Ok((n, rest))
 }
 
+/// Appends a byte that only the second form has; nothing in the first. It fails only if memory runs out.
 pub fn put_within(out: &mut BytesMut, is_second: bool, n: u8) -> Result<(), AllocError>
     ensures { OnOk result (out.new.items ≡ out.old.items ++ byte_in is_second n) }
 {

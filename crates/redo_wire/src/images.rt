@@ -13,7 +13,7 @@ use messages::PageImage;
 use redo_core::{PAGE_LEN, Page, SharedPage};
 use std::alloc::{AllocError, Global};
 
-/// Pages by number, none of zeros.
+/// Pages by page number, none of zeros.
 #[derive(Clone, Copy)]
 pub struct ImageList;
 
@@ -22,7 +22,7 @@ impl ListReader for ImageList {
 
     type Item = PageImage;
 
-    /// The least number that the page may have.
+    /// The least page number that the page may have.
     type State = u32;
 
     ghost step = { λ _. next_image_at };
@@ -74,6 +74,9 @@ fn page_of(alloc: Global, bytes: &[u8]) -> Result<SharedPage, AllocError>
     Ok(SharedPage::new(alloc, page)?)
 }
 
+/// Reads a page with its page number; returns it and the bytes after it.
+///
+/// Errors: `Short`; `Shape` where the page is zeros; `Memory`.
 #[tactic(auto, unfolding(crate::specs::DeltaReading::image_at))]
 pub fn read_image(alloc: Global, bytes: &[u8]) -> Result<(PageImage, &[u8]), WireError>
     ensures { Gives (λ x. (x.0, x.1.now)) result (image_at bytes.now) }

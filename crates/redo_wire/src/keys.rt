@@ -13,7 +13,7 @@ use bytes::BytesMut;
 use redo_core::Key;
 use std::alloc::{AllocError, Global};
 
-/// Keys by epoch and number.
+/// Keys by epoch and LSN.
 #[derive(Clone, Copy)]
 pub struct KeyList;
 

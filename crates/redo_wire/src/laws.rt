@@ -17,9 +17,9 @@ ghost use Rattle.redo_wire.specs.Values.{EncodesValue, decoded_value};
 ghost use Rattle.redo_wire.specs.BookReading.{complete};
 ghost use Rattle.redo_wire.specs.Laws.{HasOneEncoding, HasOneValue, BeginsNoOther, ReadsEncodings, NeverTooLong, FaultsStay, BeginningsAreShort, RestIsBehind};
 
-/// A fact has one encoding and a encoding one fact, none begins another, reading finds just what is encoded, and
-/// never a list that is too long. A fault other than short or rest stays whatever follows, a proper beginning of a encoding
-/// is short, and what stands behind a encoding is a rest.
+/// A fact has one encoding and an encoding one fact, none begins another, reading finds just what is encoded, and
+/// never a list that is too long. A fault other than short or rest stays whatever follows, a proper beginning of an encoding
+/// is short, and bytes after an encoding are a rest.
 pub fn fact_encodings()
     ensures one_encoding { HasOneEncoding EncodesFact }
     ensures one_value { HasOneValue EncodesFact }

@@ -1,12 +1,13 @@
 //! The wire: bytes of facts, of the summaries and deltas that nodes exchange, and of the pieces of snapshots.
 //!
 //! Each value has one encoding. `encode_*` appends it; `decode_*` takes the whole of its input, which a hostile peer may have
-//! written, and answers the value exactly where the input is a encoding, else the first fault from front to back. `specs/`
-//! has the encoding and the reading apart, and `laws` says that they agree, that a encoding has one value, and that no
+//! written, and returns the value exactly where the input is an encoding, else the first fault from front to back. `specs/`
+//! has the encoding and the reading apart, and `laws` proves that they agree, that an encoding has one value, and that no
 //! encoding begins another.
 //!
-//! Some values have two forms, told apart by their tags: records of writes alone and the others, advances of reader 1 and of
-//! the others, summaries, deltas and heads of snapshots for a roster of one reader and of several. Which form a value has follows from its data.
+//! Some values have two forms, distinguished by their tags: records of writes alone and the others, advances of reader 1 and of
+//! the others, summaries, deltas and heads of snapshots for a roster of one reader and of several. Which form a value has follows from
+//! its data.
 #![tactic(auto)]
 
 mod advances;

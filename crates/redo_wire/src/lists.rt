@@ -50,7 +50,7 @@ pub trait ListWriter: Copy {
         ensures wire { OnOk result (fits self item.now) };
 }
 
-/// So many elements, one after the other. `size` is the size of an element in memory; what the count promises is reserved
+/// Reads `count` elements, one after the other. `size` is the size of an element in memory; what the count promises is reserved
 /// only as far as the bytes that are left.
 pub fn read_list<R: ListReader>(
     reader: R,
@@ -75,6 +75,7 @@ pub fn read_list<R: ListReader>(
     Ok((items, rest))
 }
 
+/// Appends the elements, one after the other. It fails only if memory runs out: some of the bytes may then be appended.
 pub fn put_list<W: ListWriter>(
     writer: W,
     out: &mut BytesMut,

@@ -30,7 +30,7 @@ impl ListReader for PatchList {
 
     type Item = Patch;
 
-    /// How many bytes the writes from here on may bring.
+    /// How many bytes the writes from here on may have.
     type State = usize;
 
     ghost step = { λ l. patch_at l.is_full };
@@ -171,6 +171,8 @@ fn put_listed(out: &mut BytesMut, is_full: bool, patches: &[Patch]) -> Result<()
     Ok(())
 }
 
+/// Appends the patches of a record, in the plain or the full form; each must be within its page. It fails only if memory runs out: some
+/// of the bytes may then be appended.
 pub fn put_patches(out: &mut BytesMut, is_full: bool, body: &Body) -> Result<(), AllocError>
     requires { list_any is_patch_off_page (patches_of body.now) ≡ false }
     ensures { OnOk result (out.new.items ≡ out.old.items ++ flat_map (patch_bytes is_full) (patches_of body.now)) }
@@ -193,6 +195,7 @@ pub fn has_fill(patches: &[Patch]) -> bool
     })
 }
 
+/// Whether a record's body has a fill, which only the full form can encode.
 pub fn body_has_fill(body: &Body) -> bool
     ensures { result ≡ list_any is_fill (patches_of body.now) }
 {

@@ -110,7 +110,7 @@ fn read_records_content(alloc: Global, bytes: &[u8]) -> Result<(PieceContent, &[
     Ok((PieceContent::Records(RecordBatch::new(records)), rest))
 }
 
-/// What a piece of a kind brings.
+/// What a piece of a kind contains.
 #[tactic(auto, unfolding(crate::specs::PieceReading::content_at))]
 fn read_content(
     alloc: Global,

@@ -15,7 +15,7 @@ use std::mem::size_of;
 /// The size of a record in memory, without what it leads to.
 pub const RECORD_SIZE: usize = size_of::<Record>();
 
-/// Records by epoch and number, each with its tag.
+/// Records by epoch and LSN, each with its tag.
 #[derive(Clone, Copy)]
 pub struct RecordList;
 

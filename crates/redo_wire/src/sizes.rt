@@ -16,7 +16,7 @@ use crate::records::is_full_record;
 use messages::BookRef;
 use redo_core::{Body, PAGE_LEN, Patch, Record, Write};
 
-/// The bytes of a page with its number.
+/// The bytes of a page with its page number.
 const IMAGE_LEN: u128 = 2 + PAGE_LEN as u128;
 
 /// How many bytes the delta of a book, so many pages and some records has, whatever its base is.

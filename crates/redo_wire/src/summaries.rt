@@ -75,7 +75,7 @@ fn read_summary_part(
     Ok((Summary::new(book, anchor, keys), rest))
 }
 
-// The anchor and the keys of a summary, behind its book.
+// The anchor and the keys of a summary, after its book.
 #[tactic(auto, unfolding(crate::specs::SummaryReading::summary_part_at))]
 fn read_summary_keys<'a>(
     alloc: Global,
