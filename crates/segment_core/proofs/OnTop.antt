@@ -118,7 +118,7 @@ end_of_chain b old new base top anchor p r flag t on =
     } in
     on_top b old new base p (record { complete = top; anchor = anchor; straight = true; since = p.since }) r t.joins t.back flag t.has moved
 
--- ---- from what the calls say
+-- ---- from the contracts of the calls
 pub ended : (b : BookData) (held : List RecordData) (base number top anchor : ℕ) (p : Points) → JoinsOnTop b held base number p
     → (((s : RecordData) × IsHeldAlive b held s × (p.complete < s.number) × (s.number < number)) → ⊥) → IsStraightEnd b held number top
     → AnchorsOn b held number p.anchor anchor → HasPoints b held base (record { complete = top; anchor = anchor; straight = true; since = p.since })

@@ -192,7 +192,7 @@ opened b c held base n from since p q o is moved =
       since = moved.since;
     }
 
--- ---- from what the calls say
+-- ---- from the contracts of the calls
 pub opening : (c : BookData) (held : List RecordData) (base epoch : ℕ) (p : Points) (s : Spared) → IsHeld held → IsBook c → (were : WerePoints c held base epoch p s)
     → IsTrue p.straight → IsUntouched c held epoch s → Opening were.earlier c held base s.number p
 opening c held base epoch p s form book were straight untouched =

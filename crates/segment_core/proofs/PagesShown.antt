@@ -99,8 +99,8 @@ pub passed_all : (s : State) (point : ℕ) (pages : List ImageData) → ListsPas
 passed_all s point pages lists =
     lists_as ImageBefore (λ i. IsShown s point i × IsPassed None i.page) (IsShown s point) pages (λ i. (λ h. h.0, λ h. (h, tt))) lists
 
--- ---- their number
--- no more pages are passed than there are numbers below the next one
+-- ---- how many they are
+-- no more pages are passed than there are page numbers below the next one
 abbrev pub AreFew : Option ℕ → ℕ → Type 0
 AreFew None count = count ≤ 65536
 AreFew (Some next) count = count ≤ next

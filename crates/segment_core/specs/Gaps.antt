@@ -49,7 +49,7 @@ pub record LacksRecord (log facts : List Fact) (p : Position) (n : ℕ) : Type 0
   pub named : (r : RecordData) × IsAliveOf facts p r × (r.back ≡ n)
   pub next : (r : RecordData) → IsAliveOf facts p r → p.complete < r.number → n < r.number
 
--- All that is alive is linked, and records wait: the log has the truncation of the next epoch, and the facts have it not.
+-- All that is alive is linked, and records wait: the log has the truncation of the next epoch, and the facts do not.
 pub record LacksTruncation (log facts : List Fact) (p : Position) (epoch : ℕ) : Type 0 where
   pub linked : AllLinked facts p
   pub waiting : (r : RecordData) × Contains (records facts) r × IsWaiting p.epoch r.epoch

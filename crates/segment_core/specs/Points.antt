@@ -1,4 +1,4 @@
--- The points that a segment keeps beside its records, so that neither is searched for.
+-- The points that a segment keeps beside its records, so that a read of them needs no search.
 use Rattle.std.specs.Prelude.{◌≡◌, ℕ, ◌<◌, ◌≤◌, ◌⊎◌, IsTrue, true, List}
 use Rattle.std.specs.List.{Contains}
 use Rattle.redo_core.specs.Data.{RecordData, CutData}

@@ -1,4 +1,4 @@
--- What a front and a read answer for the facts that a segment means.
+-- What a front and a read return for the facts that a segment means.
 use Rattle.std.specs.Prelude.{◌≡◌, ℕ, ◌<◌, ◌≤◌, ◌↔◌, List, Result, Ok, Err}
 use Rattle.redo_core.specs.Position.{Position}
 use Rattle.redo_core.specs.Answer.{IsReadAnswer}
@@ -29,7 +29,7 @@ IsReadFault facts p page q (Above complete) = IsReadAnswer facts p page q (OfAbo
 IsReadFault facts p page q (BrokenBlockChain g number) = ⊥
 IsReadFault facts p page q Memory = Unit {0}
 
--- what a read of a page at q answers
+-- what a read of a page at q returns
 abbrev pub IsReadResult : List Fact → Position → ℕ → ℕ → Result (List ℕ) ReadFault → Type 0
 IsReadResult facts p page q (Ok image) = IsReadAnswer facts p page q (OfImage image)
 IsReadResult facts p page q (Err fault) = IsReadFault facts p page q fault

@@ -18,7 +18,7 @@ pub record SavepointData : Type 0 where
   pub due : PendingData
   pub came : List Key
 
--- one key more is noted
+-- one more key is noted
 abbrev pub NotesKey : SavepointData → Key → SavepointData → Type 0
 NotesKey saved key noted = noted ≡ record { book = saved.book; points = saved.points; due = saved.due; came = saved.came ++ key ∷ [] }
 
@@ -54,7 +54,7 @@ pub record IsFormOf (s : State) (points : Points) (due : PendingData) : Type 0 w
 abbrev pub CanRollBack : Began → Type 0
 CanRollBack b = IsFormOf b.state b.points b.due
 
--- it was taken of the state as it is, and nothing has come in since
+-- it was taken of the state as it is, and nothing has come in after that
 pub record IsSavepointOf (s : State) (saved : SavepointData) : Type 0 where
   pub book : saved.book ≡ s.book
   pub came : saved.came ≡ []

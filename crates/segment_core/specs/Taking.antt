@@ -1,4 +1,4 @@
--- What a take answers.
+-- What a take returns.
 use Rattle.std.specs.Prelude.{◌≡◌, ℕ, ◌↔◌, List, [], ◌∷◌, ◌++◌}
 use Rattle.std.specs.List.{Contains}
 use Rattle.redo_core.specs.Sound.{IsSound}
@@ -12,7 +12,7 @@ use Rattle.segment_theorems.specs.Learning.{StoresCut, StoresAdvance, PutsRecord
 use Rattle.segment_core.specs.declared.answers.Taken.{Taken}
 use Rattle.segment_core.specs.declared.answers.Taken.TheVariants.{Unchanged}
 
--- Unchanged is answered exactly where the facts, and the facts with the new one, have one meaning.
+-- Unchanged is returned exactly where the facts, and the facts with the new one, have one meaning.
 abbrev pub ReportsChange : State → Fact → Taken → Type 0
 ReportsChange old fact taken =
     (roster : ℕ) (log facts : List Fact) (m : Meaning) → IsSound roster log → Contains log fact → Means roster log facts old → IsMeaning roster facts m

@@ -37,7 +37,7 @@ pub fn count_at_anchor(segment: &Segment) -> Result<usize, AllocError>
     let mut next = stored_page_after(segment, None);
     while let Some(page) = next {
         if let Some(image) = image_at_anchor(segment, page)? {
-            // It is called for what it ensures: the length of a page.
+            // Called only for its postcondition: the length of a page.
             let _bytes = image.page().bytes();
             count += 1;
         }

@@ -1,5 +1,5 @@
-//! What the contracts fix, so that no other body meets them: a question to a segment has one answer.
-//! Each function states its law and is called by nobody.
+//! What the contracts determine, so that no other body meets them: each call to a segment has one result.
+//! Each function states its law; no code calls it.
 
 ghost use Rattle.std.specs.Prelude.{◌≡◌, IfOk};
 

@@ -75,7 +75,7 @@ impl FoldPlan {
     }
 }
 
-/// Puts records into a page, in order.
+/// Applies records to a page, in order.
 fn apply_owned(records: &[Record], page: &mut Page)
     ensures { page.new ≡ after_records page.old records.now }
 {

@@ -24,7 +24,7 @@ pub struct MergeTransaction<'a> {
 impl<'a> MergeTransaction<'a> {
     ghost use Rattle.segment_core.specs.Transaction.{began, reached};
 
-    /// Begins with a segment as it is, of which a savepoint was taken.
+    /// Begins a transaction on a segment as it is, of which `saved` is a savepoint.
     pub fn begin(segment: &'a mut Segment, saved: &'a mut Savepoint) -> MergeTransaction<'a>
         requires { IsSavepointOf segment.old saved.old }
         ensures lent { (began result).lent ≡ segment.entry.ghost_name }
@@ -44,7 +44,7 @@ impl<'a> MergeTransaction<'a> {
 
     /// Takes one fact into the segment.
     ///
-    /// Errors: as of the segment's `take`, and lack of memory for the note; the segment is then as it was, and the fact is gone.
+    /// Errors: as of the segment's `take`, and lack of memory for the note; the segment is then as it was, and the fact is dropped.
     pub fn take(&mut self, fact: Fact) -> Result<Taken, Refusal>
         ensures takes { TakesNoted (reached self.old) fact result (reached self.new) }
         ensures began { began self.new ≡ began self.old }
@@ -138,7 +138,7 @@ impl Drop for MergeTransaction<'_> {
     }
 }
 
-/// What was taken, or why not, without the fact.
+/// The result without the fact.
 fn taken_or_fault(answer: Result<Taken, Refused<Fact, Refusal>>) -> Result<Taken, Refusal>
     ensures { FaultAlone answer result }
 {

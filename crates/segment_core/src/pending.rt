@@ -50,7 +50,7 @@ impl PendingPages {
         }
     }
 
-    /// The same with memory of its own. It fails only if memory runs out.
+    /// A copy with memory of its own. It fails only if memory runs out.
     pub(crate) fn copy(&self) -> Result<Self, AllocError>
         ensures { IfOk result (λ due. due ≡ self.now) }
     {

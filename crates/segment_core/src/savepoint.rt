@@ -35,7 +35,7 @@ impl Model for Savepoint {
 }
 
 impl Savepoint {
-    /// Notes a key. It fails only if memory runs out; what is noted is then as it was.
+    /// Notes a key. It fails only if memory runs out; the notes are then as they were.
     pub(crate) fn note(&mut self, key: Key) -> Result<(), AllocError>
         ensures notes { OnOk result (NotesKey self.old key self.new) }
         ensures unchanged { OnErr result (self.new ≡ self.old) }
@@ -46,7 +46,7 @@ impl Savepoint {
         }
     }
 
-    /// Takes the note of the last key back.
+    /// Removes the note of the last key.
     pub(crate) fn forget_last(&mut self)
         ensures { (before : SavepointData) (key : Key) → NotesKey before key self.old → self.new ≡ before }
     {

@@ -115,10 +115,10 @@ impl Segment {
         })
     }
 
-    /// Takes one fact into the segment, and says whether that changed what the segment means.
+    /// Takes one fact into the segment, and returns whether that changed what the segment means.
     ///
     /// A record that is dead, or alive at or below the anchor, changes nothing and is not compared.
-    /// Errors: `OtherRoster`, `OtherCut`, `Contradiction`, `OtherRecord`, `Memory`; the segment is then as it was, and the fact comes back.
+    /// Errors: `OtherRoster`, `OtherCut`, `Contradiction`, `OtherRecord`, `Memory`; the segment is then as it was, and the error returns the fact.
     pub fn take(&mut self, fact: Fact) -> Result<Taken, Refused<Fact, Refusal>>
         // For the facts that the segment means.
         ensures means { OnOk result (TakesFact self.old fact self.new) }
@@ -185,7 +185,7 @@ impl Segment {
         self.base
     }
 
-    /// It does nothing. It is called for what it ensures: a segment has the form of one.
+    /// Does nothing. A caller uses it for its postcondition: a segment has the form of one.
     pub fn opens_form(&self)
         ensures form { IsSegment self.now }
     {
@@ -271,7 +271,7 @@ impl Segment {
     }
 }
 
-/// Puts records into a page, in order.
+/// Applies records to a page, in order.
 fn apply_all(records: &[&Record], page: &mut Page)
     ensures { page.new ≡ after_records page.old (map (λ x. x.now) records.now) }
 {

@@ -78,11 +78,11 @@ impl Segment {
     /// Takes a folded page as the base image of its page. A version not above the page's own changes nothing.
     ///
     /// `image` has to be the page at `version`. Errors: `Ahead` where the version is above the anchor; `Memory`; the segment is
-    /// then as it was, and the fold comes back.
+    /// then as it was, and the error returns the fold.
     pub fn commit_fold(&mut self, folded: Folded) -> Result<(), Refused<Folded, CommitFault>>
         // For a page of the log that is final.
         ensures keeps { OnOk result (KeepsMeaningWith self.old folded.page folded.version folded.image self.new) }
-        // Over any image.
+        // For arbitrary images.
         ensures commits { OnOk result (Commits self.old folded self.new) }
         ensures ahead { RefusesAhead self.old folded result }
         ensures refused { IfErr result (λ e. RefusesCommit self.old folded e.fault) }

@@ -19,7 +19,7 @@ known_or_stored : (s : State) (fact : Fact) (t : State) (taken : Taken) → Repo
 known_or_stored s fact t Changed known stores idle = inr (λ h. let e : Changed ≡ Unchanged = known.1 h in absurd (cc), stores refl)
 known_or_stored s fact t Unchanged known stores idle = inl (known.0 refl, idle refl)
 
--- what a take without the fact says
+-- what a take without the fact ensures
 Told : State → Fact → State → Result Taken Refusal → Type 0
 Told s fact t result = OnOk result (TakesOne s fact t) × IfErr result (λ e. (e ≡ Memory) ⊎ RefusesOne s (fact ∷ []) e)
 
