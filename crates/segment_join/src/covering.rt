@@ -63,7 +63,7 @@ fn has_all(upper: &Segment, anchor: u64, lower: &Segment, base: u64) -> Result<b
     has_missing(upper, anchor, lower, base)
 }
 
-/// The same by a walk over all that the two hold, side by side.
+/// The same by one scan over the records of both, side by side.
 fn has_missing(upper: &Segment, anchor: u64, lower: &Segment, base: u64) -> Result<bool, AllocError>
     ensures { IfOk result (λ answer. IsTrue answer ↔ HasAllKept upper.now anchor lower.now base) }
 {
@@ -86,7 +86,7 @@ fn has_keys(upper: &Segment, anchor: u64, lower: &Segment, keys: &[Key]) -> bool
 fn has_at(upper: &Segment, anchor: u64, lower: &Segment, key: Key) -> bool
     ensures { IsTrue result ↔ HasAt upper.now anchor lower.now key }
 {
-    // What is needed no more is looked up in neither segment.
+    // A record that is needed no more is looked up in neither segment.
     if !upper.keeps(key, anchor) {
         return true;
     }

@@ -47,7 +47,7 @@ fn hold_one(
 {
     // A key has at most one record.
     other.opens_form();
-    // Much of what is missing was taken just now, or was folded in the segment, and no look-up is spent on it.
+    // Much of what is missing has just been taken, or was folded in the segment: both tests are cheaper than a look-up.
     if is_taken(union.segment(), other, redo) {
         return Ok(());
     }

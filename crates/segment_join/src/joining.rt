@@ -49,7 +49,7 @@ fn bring_in(segment: &mut Segment, other: &Segment) -> Result<(), Refusal>
     join_saved(segment, &mut saved, other)
 }
 
-/// The same, of a segment of which a savepoint was taken just now.
+/// The same, with a savepoint of the segment as it is.
 fn join_saved(segment: &mut Segment, saved: &mut Savepoint, other: &Segment) -> Result<(), Refusal>
     requires roster { roster_of segment.old.book ≡ roster_of other.now.book }
     requires saved { IsSavepointOf segment.old saved.old }
@@ -97,7 +97,7 @@ fn take_all(
     union.segment().opens_form();
     other.opens_form();
     let kept = kept_among(other, missing)?;
-    // It is called for what it ensures: the kept records are those above the anchor.
+    // Called only for its postcondition: the kept records are those above the anchor.
     let _anchor = other.anchor();
     import_facts(union, &book_ref(other), &kept)
 }

@@ -23,7 +23,7 @@ pub(crate) fn kept_among<'a>(
     segment.opens_form();
     let anchor = segment.anchor();
     let mut kept = kept_by_page(segment, anchor, records)?;
-    // Often few of the records are kept, and no sort is spent on the others.
+    // Often few of the records are kept: filtering first saves the sort of the others.
     kept.sort_unstable_by_key(|redo| redo.key());
     Ok(kept)
 }
