@@ -17,7 +17,7 @@ pub record Summarizes (s : State) (summary : SummaryData) : Type 0 where
   pub kept_are : Lists RecordBefore (IsKeptBy s summary.anchor) kept
   pub keys : summary.keys ≡ map key_of kept
 
--- the summary of a meaning: all that it has but its pages, and of its kept records the keys
+-- the summary of a meaning: all of it but its pages, and the keys alone of its kept records
 pub record IsSummaryOf (m : Meaning) (summary : SummaryData) : Type 0 where
   pub cuts : summary.book.cuts ≡ m.cuts
   pub complete : IsCompleteEpoch m.cuts summary.book.complete

@@ -20,7 +20,7 @@ use thiserror::Error;
 /// Why a delta is not absorbed.
 #[derive(Clone, Copy, Debug, PartialEq, Eq, Error)]
 pub enum AbsorbRefusal {
-    /// The segment does not answer for the summary that the delta was made for: so much of it is uncovered.
+    /// The segment does not answer for the summary that the delta was made for: `shown` is uncovered.
     #[error("the segment does not answer for the summary")]
     Uncovered { shown: Shown },
     /// A fact that the delta exports is refused.
@@ -45,7 +45,7 @@ pub fn absorb(segment: &mut Segment, summary: &Summary, delta: &Delta) -> Result
     ensures unchanged { OnErr result (segment.new ≡ segment.old) }
 {
     delta.opens_form();
-    // It is called for what it ensures: a segment has an anchor.
+    // Called only for its postcondition: a segment has an anchor.
     let _anchor = segment.anchor();
     let own = segment.readers();
     let shown = delta.book().readers();
@@ -73,7 +73,7 @@ fn take_delta(segment: &mut Segment, delta: &Delta) -> Result<(), Refusal>
     take_saved(segment, &mut saved, delta)
 }
 
-/// The same, of a segment of which a savepoint was taken just now.
+/// The same, with a savepoint of the segment as it is.
 fn take_saved(segment: &mut Segment, saved: &mut Savepoint, delta: &Delta) -> Result<(), Refusal>
     requires roster { roster_of segment.old.book ≡ roster_of delta.now.book }
     requires saved { IsSavepointOf segment.old saved.old }

@@ -1,4 +1,4 @@
-//! What the contracts fix, so that no other body meets them. Each function states its law and is called by nobody.
+//! What the contracts determine, so that no other body meets them. Each function states its law; no code calls it.
 
 ghost use Rattle.std.specs.Prelude.{◌≡◌, ◌↔◌, Some, Err, IfOk};
 ghost use Rattle.redo_core.specs.Book.{roster_of};
@@ -16,7 +16,7 @@ use std::alloc::AllocError;
 fn what_is_uncovered_is_one(segment: &Segment, summary: &Summary) -> (Option<Shown>, Option<Shown>)
     ensures { result.0 ≡ result.1 }
 {
-    // It is called for what it ensures: there is an anchor.
+    // Called only for its postcondition: there is an anchor.
     let _anchor = segment.anchor();
     (uncovered(segment, summary), uncovered(segment, summary))
 }
