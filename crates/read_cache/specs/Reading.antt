@@ -1,4 +1,4 @@
--- What a read through the cache answers.
+-- What a read through the cache returns.
 use Rattle.std.specs.Prelude.{◌≡◌, ℕ, ◌≤◌, List, Result, Err, IfOk, IfErr}
 use Rattle.std.specs.List.{Contains}
 use Rattle.segment_theorems.specs.State.{min_of}

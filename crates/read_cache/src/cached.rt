@@ -65,9 +65,9 @@ impl Model for CachedSegment {
 }
 
 impl CachedSegment {
-    /// A segment that keeps at most so many images, at first none; with 0 pages it never keeps one.
+    /// A segment that keeps at most `pages` images, at first none; with 0 pages it never keeps one.
     ///
-    /// The only error is lack of memory: the segment comes back.
+    /// The only error is lack of memory: it returns the segment.
     pub fn new(segment: Segment, pages: usize) -> Result<Self, Refused<Segment, AllocError>>
         ensures made { IfOk result (λ c. c ≡ cached segment pages []) }
         ensures back { IfErr result (λ e. e.value ≡ segment) }
@@ -142,7 +142,7 @@ impl CachedSegment {
         self.images.len()
     }
 
-    /// The segment itself. The images go.
+    /// The segment itself. The images are dropped.
     pub fn into_segment(self) -> Segment
         ensures { result ≡ self.segment }
     {
@@ -154,7 +154,7 @@ impl CachedSegment {
     ghost use Rattle.segment_core.specs.contracts.segment.Segment.{the_row as segment_row};
     ghost use Rattle.read_cache.specs.contracts.cached.CachedSegment.{the_row};
 
-    /// The segment, to be changed in any way. Every image goes first.
+    /// The segment, to be changed in any way. Every image is dropped first.
     pub fn segment_mut(&mut self) -> &mut Segment
         ensures* lends { sem 𝓛 (Lends the_row segment_row self.entry result (λ segment. cached segment self.old.pages [])) }
         ensures lent { result.now ≡ self.old.segment }
@@ -166,10 +166,10 @@ impl CachedSegment {
 }
 
 impl CachedSegment {
-    /// Takes one fact into the segment, as `Segment::take` does. Every image goes with a truncation that is new, and with a record at
-    /// or below a point that one was read at.
+    /// Takes one fact into the segment, as `Segment::take` does. A new truncation drops every image, and so does a new record at or below
+    /// a point that one was read at.
     ///
-    /// Errors: `OtherRoster`, `OtherCut`, `Contradiction`, `OtherRecord`, `Memory`; nothing has changed then, and the fact comes back.
+    /// Errors: `OtherRoster`, `OtherCut`, `Contradiction`, `OtherRecord`, `Memory`; nothing has changed then, and the error returns the fact.
     pub fn take(&mut self, fact: Fact) -> Result<Taken, Refused<Fact, Refusal>>
         // For the facts that the segment means.
         ensures tells { IfOk result (ReportsChange self.old.segment fact) }
@@ -209,14 +209,14 @@ impl CachedSegment {
         }
     }
 
-    /// Takes a folded page as the base image of its page, as `Segment::commit_fold` does. The page's image goes.
+    /// Takes a folded page as the base image of its page, as `Segment::commit_fold` does. The page's cached image is dropped.
     ///
     /// `image` has to be the page at `version`. Errors: `Ahead` where the version is above the anchor; `Memory`; nothing has changed
-    /// then, and the fold comes back.
+    /// then, and the error returns the fold.
     pub fn commit_fold(&mut self, folded: Folded) -> Result<(), Refused<Folded, CommitFault>>
         // For a page of the log that is final.
         ensures keeps { OnOk result (KeepsMeaningWith self.old.segment folded.page folded.version folded.image self.new.segment) }
-        // Over any image.
+        // For arbitrary images.
         ensures commits { OnOk result (Commits self.old.segment folded self.new.segment) }
         ensures ahead { RefusesAhead self.old.segment folded result }
         ensures refused { IfErr result (λ e. RefusesCommit self.old.segment folded e.fault) }
@@ -330,7 +330,7 @@ impl CachedSegment {
 }
 
 impl CachedSegment {
-    /// What a read answers from the page's image, where one is kept that was read at the point, and the point may be read.
+    /// What a read returns from the page's image, where one is kept that was read at the point, and the point may be read.
     pub(crate) fn find(&mut self, page: u16, point: u64) -> Option<Result<Page, ReadFault>>
         ensures hit { IfSome result (IsHit self.old page point) }
         ensures segment { self.new.segment ≡ self.old.segment }
@@ -345,7 +345,7 @@ impl CachedSegment {
         }
     }
 
-    /// What the segment answers to a read, of which a copy is kept.
+    /// What the segment returns for a read. A copy of it is kept.
     fn read_anew(&mut self, page: u16, point: u64) -> Result<Page, ReadFault>
         ensures result { (roster : ℕ) (log facts : List AnyFact) (p : Position) → IsSound roster log → MeansAt roster log facts p self.old.segment → IsReadResult facts p page point result }
         ensures own { IfOk result (λ image. Shows self.old.segment page point image) }

@@ -12,7 +12,7 @@ use std::alloc::{AllocError, Global};
 use std::marker::Model;
 use std::num::NonZeroUsize;
 
-/// Images by page, at most so many. Contracts see them as an `lru` cache, also where none may be kept.
+/// Images by page, at most as many as the cache may keep. Contracts see them as an `lru` cache, even where none may be kept.
 #[derive(Drop)]
 pub(crate) struct Images {
     cache: Option<LruCache<u16, KeptImage>>,
@@ -27,7 +27,7 @@ impl Model for Images {
 }
 
 impl Images {
-    /// No images, of which at most so many are kept. No room is taken before there is one.
+    /// An empty cache for at most `pages` images. It takes no room before it keeps one.
     pub(crate) fn new(alloc: Global, pages: usize) -> Result<Self, AllocError>
         ensures { IfOk result (λ i. i ≡ lru_cache [] pages) }
     {
@@ -62,7 +62,7 @@ impl Images {
         }
     }
 
-    /// Keeps an image as the page's, where memory allows. The one read longest ago goes where there are too many.
+    /// Keeps an image as the page's, where memory allows. The one read longest ago is dropped where there are too many.
     pub(crate) fn keep(&mut self, page: u16, point: u64, image: Page)
         ensures keeps { CachesOnly self.old page (kept_at point image) self.new }
         ensures pages { self.new.cap ≡ self.old.cap }
@@ -72,7 +72,7 @@ impl Images {
         }
     }
 
-    /// Lets the page's image go.
+    /// Drops the page's image.
     pub(crate) fn forget(&mut self, page: u16)
         ensures forgets { Forgets self.old page self.new }
         ensures pages { self.new.cap ≡ self.old.cap }
@@ -83,7 +83,7 @@ impl Images {
         }
     }
 
-    /// Lets every image go.
+    /// Drops every image.
     pub(crate) fn clear(&mut self)
         ensures { self.new ≡ lru_cache [] self.old.cap }
     {
