@@ -43,7 +43,7 @@ impl Staging {
         // Inside a sound log, for the pieces of one snapshot.
         ensures means { IfOk result (MeansFrozen self.now) }
         ensures sound { IfErr result (λ e. IsOfSoundState self.now → (index : ℕ) → e ≡ MalformedOf index → ⊥) }
-        // Over any pieces.
+        // For arbitrary pieces.
         ensures hydrates { IfOk result (Hydrates self.now) }
         ensures missing { (index : ℕ) → (result ≡ ErrOf (MissingOf index)) ↔ IsLeast (IsMissingPiece self.now) (Some index) }
         ensures malformed { (index : ℕ) → (result ≡ ErrOf (MalformedOf index)) ↔ (IsComplete self.now × IsLeast (IsMisplaced self.now) (Some index)) }

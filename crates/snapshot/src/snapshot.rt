@@ -7,7 +7,7 @@ use redo_core::Record;
 use std::alloc::{AllocError, Global};
 use std::marker::Model;
 
-/// A piece has at most so many records.
+/// The most records of a piece.
 pub(crate) const BATCH: usize = 64;
 
 /// A snapshot of a segment under a name, which is exported in pieces.

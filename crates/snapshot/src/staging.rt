@@ -42,7 +42,7 @@ impl Model for Staging {
 }
 
 impl Staging {
-    /// A staging for the snapshot of a name that has so many pieces, of which none has come.
+    /// A staging for the snapshot of this name and `total` pieces, of which none has come.
     pub fn new(alloc: Global, name: u64, total: u32) -> Self
         ensures empty { result ≡ staging_of name total [] }
         ensures form { IsStaging result }
@@ -58,7 +58,7 @@ impl Staging {
     /// Takes a piece.
     ///
     /// Errors: `Stranger` where it is of another name or total (so its index is always below the total); else `Double` where the piece of
-    /// its index has come; `Memory`. The staging is then as it was, and the piece comes back.
+    /// its index has come; `Memory`. The staging is then as it was, and the error returns the piece.
     pub fn add(&mut self, piece: Piece) -> Result<(), Refused<Piece, AddFault>>
         ensures adds { OnOk result (Adds self.old piece self.new) }
         ensures form { IsStaging self.new }
