@@ -28,7 +28,7 @@ IsRefusal reply.NoNext = Unit {0}
 IsRefusal reply.Memory = Unit {0}
 IsRefusal told = ⊥
 
--- After a refused read the cache may keep other images. After any other refused request all is as it was, the cache too.
+-- After a refused read the cache may keep other images. After any other refused request nothing has changed, in the cache either.
 abbrev pub IsAfterRefusal : Request → ReplicaData → ReplicaData → Type 0
 IsAfterRefusal (request.Read page point) old new = IsUnchanged old new
 IsAfterRefusal asked old new = new ≡ old

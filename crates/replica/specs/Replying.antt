@@ -1,4 +1,4 @@
--- How what a call below answers is replied.
+-- The reply for each result of a call below.
 use Rattle.std.specs.Prelude.{ℕ, List, Option, Some, None, Result, Ok, Err}
 use Rattle.redo_core.specs.declared.facts.Fact.{Fact}
 use Rattle.redo_core.specs.declared.refusal.Refused.{Refused}
@@ -19,7 +19,7 @@ use Rattle.snapshot.specs.declared.finishing.FinishFault.TheVariants as finish
 use Rattle.replica.specs.declared.replies.Reply.{Reply}
 use Rattle.replica.specs.declared.replies.Reply.TheVariants as reply
 
--- lack of memory is replied as such
+-- lack of memory has a reply of its own
 abbrev pub refusal_reply : Refusal → Reply
 refusal_reply refusal.Memory = reply.Memory
 refusal_reply other = reply.Refused other

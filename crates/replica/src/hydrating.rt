@@ -40,7 +40,7 @@ pub fn piece(snapshot: &Option<Snapshot>, index: u32) -> Reply
     }
 }
 
-/// Gives the staging a piece.
+/// Adds a piece to the staging.
 pub fn add(staging: &mut Option<Staging>, piece: Piece) -> Reply
     ensures adds { AddsTo staging.old piece result staging.new }
 {

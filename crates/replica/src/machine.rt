@@ -32,7 +32,7 @@ impl Model for Replica {
 }
 
 impl Replica {
-    /// A replica of a roster of readers that no fact has reached. Its cache keeps at most so many images of pages, with 0 none.
+    /// A replica of a roster of readers that no fact has reached. Its cache keeps at most `pages` images; with 0 it keeps none.
     ///
     /// It fails only if memory runs out.
     pub fn new(alloc: Global, roster: Roster, pages: usize) -> Result<Self, AllocError>

@@ -32,12 +32,12 @@ pub enum Reply {
     Large,
     /// The segment means what it meant and what the answering one meant.
     Absorbed,
-    /// The segment does not answer for the summary that the delta was made for: so much of it is uncovered.
+    /// The segment does not answer for the summary that the delta was made for: `shown` is uncovered.
     Uncovered { shown: Shown },
     Folded,
     Discarded,
     Tidied,
-    /// A snapshot of so many pieces is kept.
+    /// A snapshot of `pieces` pieces is kept.
     Frozen { pieces: u32 },
     /// The snapshot would have more than 2^32 - 1 pieces.
     TooMany,

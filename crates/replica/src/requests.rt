@@ -6,9 +6,9 @@ use redo_core::{Fact, Key, Roster};
 pub enum Request {
     /// Replace the segment by an empty one of this roster of readers.
     Open { roster: Roster },
-    /// A fact has come.
+    /// Take a fact.
     Take { fact: Fact },
-    /// How far the segment has come.
+    /// The complete epoch, the complete point and the minimum read point.
     Front,
     /// What the complete point waits for.
     Gap,
@@ -20,7 +20,7 @@ pub enum Request {
     Ask,
     /// What the segment has beyond the summary that another one sent.
     Answer { summary: Summary },
-    /// The same, where it has at most so many bytes on the wire.
+    /// The same, where it has at most `most` bytes on the wire.
     AnswerWithin { summary: Summary, most: u64 },
     /// What another replica answered to a summary of this one.
     Absorb { summary: Summary, delta: Delta },
@@ -30,17 +30,17 @@ pub enum Request {
     Discard,
     /// Fold each page, and drop all but what the meaning keeps.
     Tidy,
-    /// A snapshot under this name is to be kept until the next one.
+    /// Keep a snapshot under this name until the next one.
     Freeze { name: u64 },
     /// The piece of the kept snapshot at an index, from 0.
     Piece { index: u32 },
-    /// Replace the staging by an empty one for the snapshot of this name and so many pieces.
+    /// Replace the staging by an empty one for the snapshot of this name and `total` pieces.
     Stage { name: u64, total: u32 },
-    /// A piece for the staging has come.
+    /// Add a piece to the staging.
     Add { piece: Piece },
     /// Replace the segment by the one that the staging's pieces make.
     Finish,
-    /// The segment that the staging's pieces make is to be joined into the segment.
+    /// Join the segment that the staging's pieces make into the segment.
     Unite,
     /// The stored record with the least key above this one, or above none.
     Next { after: Option<Key> },
