@@ -1,4 +1,4 @@
--- What encodings are good for, of any relation between values and bytes.
+-- What encodings guarantee, for any relation between values and bytes.
 use Rattle.std.specs.Prelude.{◌≡◌, ℕ, ◌<◌, ◌↔◌, List, [], ◌++◌, Result, Ok, Err, All, length}
 use Rattle.redo_wire.specs.declared.faults.WireFault.{WireFault}
 use Rattle.redo_wire.specs.declared.faults.WireFault.TheVariants.{Short, Rest, TooLong}

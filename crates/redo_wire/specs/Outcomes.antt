@@ -14,6 +14,6 @@ abbrev pub Gives : {X Y : Type 0} → (X → Y) → Result X WireError → Resul
 Gives view (Ok x) read = read ≡ Ok (view x)
 Gives view (Err e) read = Fails e read
 
--- the same, of a value that is seen as it is
+-- the same, for a value without a view
 abbrev pub GivesRead : {X : Type 0} → Result X WireError → Result X WireFault → Type 0
 GivesRead result read = Gives (λ x. x) result read

@@ -68,7 +68,7 @@ record_part_at full bytes = do
   patches ← shaped (λ ps. not full || is_full_body (flags.0 == 1) ps) (each_at (patch_at full) left_after count.0 max_bytes count.1)
   Ok (record_from head.0 (flags.0 == 1) patches.0, patches.1)
 
--- a record with its tag; every other tag is unknown here, also that of another fact
+-- a record with its tag; every other tag is unknown here, even that of another fact
 unfoldable pub record_at : List ℕ → Read RecordData
 record_at bytes = do
   full ← form_at record_tag full_record_tag bytes

@@ -37,7 +37,7 @@ abbrev pub valued : {A : Type 0} → (A → WireValue) → Result A WireFault �
 valued kind (Ok x) = Ok (kind x)
 valued kind (Err f) = Err f
 
--- the value that all of the bytes encode, or the first fault: what the decoder of the first byte answers
+-- the value that all of the bytes encode, or the first fault: what the decoder of the first byte returns
 abbrev pub decoded_value : List ℕ → Result WireValue WireFault
 decoded_value [] = Err Short
 decoded_value (tag ∷ rest) =

@@ -1,4 +1,4 @@
-//! Advances of readers' points, both ways, as facts and as those that wait in a book.
+//! Reading and writing advances of readers' points, as facts and as those that wait in a book.
 
 ghost use Rattle.std.specs.Prelude.{◌≡◌, ◌≤◌, ◌+◌, ◌++◌, OnOk};
 ghost use Rattle.redo_core.specs.Shape.{max_readers};

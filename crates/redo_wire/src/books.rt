@@ -1,4 +1,4 @@
-//! Books, both ways.
+//! Reading and writing books.
 
 ghost use Rattle.std.specs.Prelude.{◌≡◌, ◌++◌, false, OnOk};
 ghost use Rattle.redo_wire.specs.Outcomes.{Gives};

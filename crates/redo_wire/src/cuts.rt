@@ -1,4 +1,4 @@
-//! Truncations, both ways, as facts and as elements of a list.
+//! Reading and writing truncations, as facts and as elements of a list.
 
 ghost use Rattle.std.specs.Prelude.{◌≡◌, ◌++◌, OnOk};
 ghost use Rattle.redo_wire.specs.Outcomes.{Gives};

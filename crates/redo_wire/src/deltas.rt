@@ -1,4 +1,4 @@
-//! Deltas, both ways.
+//! Reading and writing deltas.
 
 ghost use Rattle.std.specs.Prelude.{◌≡◌, ◌↔◌, ◌⊎◌, ◌++◌, Bool, ℕ, List, true, false, IfOk, IfErr, OnOk, OnErr, Ok, IsErrOf};
 ghost use Rattle.redo_wire.specs.declared.faults.WireError.{WireError};
@@ -36,7 +36,7 @@ pub fn decode_delta(alloc: Global, bytes: &[u8]) -> Result<Delta, WireError>
     // What the bytes encode is read, unless memory runs out.
     ensures encoded { (d : DeltaData) → EncodesDelta d bytes.now → GivesRead result (Ok d) }
 
-    // Which fault comes where they encode nothing.
+    // Which fault is returned where they encode nothing.
     ensures fault { GivesRead result (decoded_delta bytes.now) }
 {
     whole_delta(alloc, bytes)

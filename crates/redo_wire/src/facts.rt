@@ -1,4 +1,4 @@
-//! Facts, both ways.
+//! Reading and writing facts.
 
 ghost use Rattle.std.specs.Prelude.{◌≡◌, ◌++◌, IfOk, OnOk, OnErr, Ok};
 ghost use Rattle.redo_core.specs.declared.facts.Fact.{Fact};
@@ -26,7 +26,7 @@ pub fn decode_fact(alloc: Global, bytes: &[u8]) -> Result<Fact, WireError>
     // What the bytes encode is read, unless memory runs out.
     ensures encoded { (f : Fact) → EncodesFact f bytes.now → GivesRead result (Ok f) }
 
-    // Which fault comes where they encode nothing.
+    // Which fault is returned where they encode nothing.
     ensures fault { GivesRead result (decoded_fact bytes.now) }
 {
     whole_fact(alloc, bytes)

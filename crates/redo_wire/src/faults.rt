@@ -6,7 +6,7 @@ use std::alloc::{AllocError, AllocFailed};
 use std::fmt;
 use thiserror::Error;
 
-/// Why bytes are no value, as the first fault from front to back, or why a value has no bytes.
+/// Why bytes encode no value, as the first fault from front to back, or why a value has no encoding.
 #[derive(Clone, Copy, Debug, PartialEq, Eq, Error)]
 pub enum WireFault {
     Short,
@@ -14,7 +14,7 @@ pub enum WireFault {
     Shape,
     Order,
     Rest,
-    /// Comes from encoding alone.
+    /// Returned by encoding alone.
     TooLong,
 }
 

@@ -1,4 +1,4 @@
-//! The fields, both ways: single bytes, runs of bytes, and numbers of 16, 32, 48 and 64 bits, most significant byte first.
+//! Reading and writing fields: single bytes, runs of bytes, and numbers of 16, 32, 48 and 64 bits, most significant byte first.
 
 ghost use Rattle.std.specs.Prelude.{◌≡◌, ◌<◌, ◌^◌, ◌++◌, length, IfOk, OnOk};
 ghost use Rattle.redo_wire.specs.Fields.{byte_at, bytes_at, u16_at, u32_at, u48_at, u64_at, u16, u32, u48, u64};

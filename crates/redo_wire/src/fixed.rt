@@ -1,5 +1,5 @@
-//! What the contracts fix, so that no other body meets them: what is written is read again. Each function states its law and is called
-//! by nobody.
+//! What the contracts determine, so that no other body meets them: what is written is read again. Each function states its law; no code
+//! calls it.
 
 ghost use Rattle.std.specs.Prelude.{◌≡◌, ◌⊎◌, IfOk, IfErr};
 ghost use Rattle.redo_wire.specs.declared.faults.WireError.{WireError};

@@ -1,4 +1,4 @@
-//! Page images, both ways.
+//! Reading and writing page images.
 
 ghost use Rattle.std.specs.Prelude.{◌≡◌, ◌++◌, length, IfOk, OnOk};
 ghost use Rattle.redo_core.specs.Shape.{page_len};

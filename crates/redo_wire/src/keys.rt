@@ -1,4 +1,4 @@
-//! Keys of records, both ways.
+//! Reading and writing keys of records.
 
 ghost use Rattle.std.specs.Prelude.{◌≡◌, ◌<◌, ◌^◌, ◌++◌, OnOk};
 ghost use Rattle.redo_wire.specs.Outcomes.{Gives};

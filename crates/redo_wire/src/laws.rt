@@ -1,4 +1,4 @@
-//! What the encodings are good for. Each law is the contract of a function that does nothing.
+//! What the encodings guarantee. Each law is the contract of a function that does nothing.
 
 ghost use Rattle.redo_core.specs.Data.{CutData};
 ghost use Rattle.redo_core.specs.Order.{IsRising, CutBefore};

@@ -1,4 +1,4 @@
-//! Counted lists, both ways: one loop reads the elements of every list, and one writes them.
+//! Reading and writing counted lists: one loop reads the elements of every list, and one writes them.
 
 ghost use Rattle.std.specs.Prelude.{◌≡◌, ◌<◌, ◌++◌, IfOk, OnOk};
 ghost use Rattle.std.specs.List.{AllByRecursion, flat_map};

@@ -1,4 +1,4 @@
-//! The patches of records, both ways: writes and fills.
+//! Reading and writing the patches of records: writes and fills.
 
 ghost use Rattle.std.specs.Prelude.{◌≡◌, ◌≤◌, ◌+◌, ◌++◌, ◌&&◌, true, false, length, nat_lt, nat_le, OnOk};
 ghost use Rattle.std.specs.List.{list_any, flat_map};
@@ -70,7 +70,7 @@ fn read_write(alloc: Global, left: usize, bytes: &[u8]) -> Result<(Write, &[u8])
     Ok((Write::of_slice(alloc, offset, text)?, rest))
 }
 
-/// Whether so many bytes from the offset on are some, and end inside the page.
+/// Whether a range from the offset on is not empty, and ends inside the page.
 fn is_placed(offset: u16, len: usize) -> bool
     requires { len ≤ 65535 }
     ensures { result ≡ (nat_lt 0 len && nat_le (offset + len) page_len) }

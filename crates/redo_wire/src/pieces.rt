@@ -1,4 +1,4 @@
-//! Pieces, both ways.
+//! Reading and writing pieces.
 
 ghost use Rattle.std.specs.Prelude.{◌≡◌, ◌≤◌, ◌↔◌, ◌⊎◌, ◌++◌, ◌&&◌, ◌∷◌, [], true, false, length, nat_lt, nat_le, IfOk, IfErr, OnOk, OnErr, Ok, IsErrOf};
 ghost use Rattle.std.specs.List.{AllByRecursion, flat_map};
@@ -37,7 +37,7 @@ pub fn decode_piece(alloc: Global, bytes: &[u8]) -> Result<Piece, WireError>
     // What the bytes encode is read, unless memory runs out.
     ensures encoded { (p : PieceData) → EncodesPiece p bytes.now → GivesRead result (Ok p) }
 
-    // Which fault comes where they encode nothing.
+    // Which fault is returned where they encode nothing.
     ensures fault { GivesRead result (decoded_piece bytes.now) }
 {
     whole_piece(alloc, bytes)
@@ -80,7 +80,7 @@ fn read_head_content(
     Ok((PieceContent::Head { book, anchor }, rest))
 }
 
-/// Whether a piece may have so many records.
+/// Whether a piece may have this many records.
 fn is_batch_size(count: usize) -> bool
     ensures { result ≡ (nat_lt 0 count && nat_le count max_batch) }
 {

@@ -1,4 +1,4 @@
-//! Lists of records, both ways.
+//! Reading and writing lists of records.
 
 ghost use Rattle.redo_wire.specs.Outcomes.{Gives};
 ghost use Rattle.redo_wire.specs.DeltaReading.{next_record_at};
@@ -12,7 +12,7 @@ use redo_core::{Key, Record};
 use std::alloc::{AllocError, Global};
 use std::mem::size_of;
 
-/// The size of a record in memory, without what it leads to.
+/// The size of a record in memory, without what it points to.
 pub const RECORD_SIZE: usize = size_of::<Record>();
 
 /// Records by epoch and LSN, each with its tag.

@@ -1,4 +1,4 @@
-//! Records, both ways, each in its one form: the plain form of writes alone, or the full form with flags and kinds.
+//! Reading and writing records, each in its one form: the plain form of writes alone, or the full form with flags and kinds.
 
 ghost use Rattle.std.specs.Prelude.{◌≡◌, ◌++◌, ◌||◌, not, length, OnOk};
 ghost use Rattle.redo_core.specs.Body.{patches_of};
@@ -95,7 +95,7 @@ fn read_record_part(
     }
 }
 
-/// Whether the form may say this: the full form only what the plain form cannot.
+/// Whether the form may encode this: the full form only what the plain form cannot.
 fn may_have_form(is_full: bool, init: bool, patches: &[Patch]) -> bool
     ensures { result ≡ (not is_full || is_full_body init patches.now) }
 {
@@ -113,7 +113,7 @@ pub fn read_record(alloc: Global, bytes: &[u8]) -> Result<(Record, &[u8]), WireE
 
 // ---- writing
 
-/// Whether the full form alone can say what the record does.
+/// Whether the full form alone can encode the record.
 pub fn is_full_record(redo: &Record) -> bool
     ensures { result ≡ is_full redo.now }
 {

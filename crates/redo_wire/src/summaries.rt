@@ -1,4 +1,4 @@
-//! Summaries, both ways.
+//! Reading and writing summaries.
 
 ghost use Rattle.std.specs.Prelude.{◌≡◌, ◌↔◌, ◌⊎◌, ◌++◌, Bool, ℕ, List, true, false, IfOk, IfErr, OnOk, OnErr, Ok, IsErrOf};
 ghost use Rattle.redo_wire.specs.declared.faults.WireError.{WireError};
@@ -35,7 +35,7 @@ pub fn decode_summary(alloc: Global, bytes: &[u8]) -> Result<Summary, WireError>
     // What the bytes encode is read, unless memory runs out.
     ensures encoded { (s : SummaryData) → EncodesSummary s bytes.now → GivesRead result (Ok s) }
 
-    // Which fault comes where they encode nothing.
+    // Which fault is returned where they encode nothing.
     ensures fault { GivesRead result (decoded_summary bytes.now) }
 {
     whole_summary(alloc, bytes)

@@ -35,7 +35,7 @@ pub fn decode_value(alloc: Global, bytes: &[u8]) -> Result<WireValue, WireError>
     // What the bytes encode is read, unless memory runs out.
     ensures encoded { (v : WireValue) → EncodesValue v bytes.now → GivesRead result (Ok v) }
 
-    // Which fault comes where they encode nothing.
+    // Which fault is returned where they encode nothing.
     ensures fault { GivesRead result (decoded_value bytes.now) }
 {
     value_by_tag(alloc, bytes)
