@@ -16,7 +16,7 @@ rising_push Before (y ∷ ys) x r low = (
   rising_push Before ys x r.1 (λ z h. low z (there y ys z h)),
 )
 
--- a rising list behind a lower one
+-- a rising list appended to a lower one
 pub rising_append : {X : Type 0} (Before : X → X → Type 0) (xs ys : List X) → IsRising Before xs → IsRising Before ys
     → ((x y : X) → Contains xs x → Contains ys y → Before x y) → IsRising Before (xs ++ ys)
 rising_append Before [] ys r s cross = s
@@ -25,18 +25,18 @@ rising_append Before (x ∷ xs) ys r s cross = (
   rising_append Before xs ys r.1 s (λ y z u v. cross y z (there x xs y u) v),
 )
 
--- what holds of all of a list, and of one more at its end
+-- a property of all of a list, and of one more at its end
 pub all_push : {X : Type 0} (P : X → Type 0) (xs : List X) (x : X) → AllByRecursion P xs → P x → AllByRecursion P (xs ++ x ∷ [])
 all_push P xs x all one = grind (arith, common_steps)
 
--- a list with one more at its end, and what is said of its members
+-- a list with one more at its end, and a property of its members
 pub lists_push : {X : Type 0} (Before : X → X → Type 0) (P Q : X → Type 0) (xs : List X) (x : X) → Lists Before P xs → ((y : X) → P y → Before y x) → ((y : X) → Q y ↔ (P y ⊎ (y ≡ x))) → Lists Before Q (xs ++ x ∷ [])
 lists_push {X} Before P Q xs x lists low same = record {
   rising = rising_push Before xs x lists.rising (λ y h. low y ((lists.members y).0 h));
   members = λ y. grind (arith, common_steps, Contains-append_right);
 }
 
--- the things with P in front of the next place: the one at the place goes to the end of the list
+-- the elements with P before the next index: the one at the index is appended to the list
 pub lists_more : {X : Type 0} (Before : X → X → Type 0) (P : X → Type 0) (xs ys : List X) (i : ℕ) (x : X) → i < length xs → x ≡ get_or xs i x → P x → ((y : X) → Contains (take i xs) y → P y → Before y x) → Lists Before (λ y. Contains (take i xs) y × P y) ys → Lists Before (λ y. Contains (take (i + 1) xs) y × P y) (ys ++ x ∷ [])
 lists_more Before P xs ys i x l e p low lists = record {
   rising = rising_push Before ys x lists.rising (λ y h. let t = (lists.members y).0 h in low y t.0 t.1);

@@ -25,11 +25,11 @@ which x xs y h = cases_at x xs y h.0 h.1 h.2
 pub only : {X : Type 0} (x y : X) → Contains (x ∷ []) y → x ≡ y
 only x y h = ⊎_elim (λ (e : x ≡ y). e) (λ (n : Contains [] y). absurd (none_in y n)) (which x [] y h)
 
--- the element that was read at a place
+-- the element that was read at an index
 pub item : {X : Type 0} (xs : List X) (i : ℕ) (x : X) → i < length xs → x ≡ get_or xs i x → Contains xs x
 item xs i x l e = (i, l, sym e)
 
--- what holds of each element, and of each member
+-- a property of each element, and of each member
 pub each : {X : Type 0} (P : X → Type 0) (xs : List X) (x : X) → AllByRecursion P xs → Contains xs x → P x
 each P xs x all h = All-contains P xs x (All-from_recursion P xs all) h
 

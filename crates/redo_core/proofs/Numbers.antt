@@ -9,7 +9,7 @@ greatest_le P Q f n m a b = ⊎_elim (λ (e : n ≡ 0). omega arith) (λ (p : P 
 pub greatest_unique : (P Q : ℕ → Type 0) → ((n : ℕ) → P n ↔ Q n) → (n m : ℕ) → IsGreatest P n → IsGreatest Q m → n ≡ m
 greatest_unique P Q f n m a b = search rules
 
--- a property that 0 has, or that says nothing of 0, holds at the greatest
+-- a property that 0 has, or that does not concern 0, is true of the greatest
 pub at_greatest : (P : ℕ → Type 0) → P 0 → (n : ℕ) → IsGreatest P n → P n
 at_greatest P z n a = ⊎_elim (λ (e : n ≡ 0). subst P (sym e) z) (λ (p : P n). p) a.0
 

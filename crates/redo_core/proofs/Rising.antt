@@ -1,4 +1,4 @@
--- Lists in rising order, and what stands in front of a place and behind it.
+-- Lists in rising order, and what is before an index and after it.
 use Rattle.std.proofs.lemmas.Grind.{common_steps}
 use Rattle.std.proofs.Common.{rules}
 use Rattle.std.proofs.Common.{◌≡◌, ℕ, zero, suc, ◌+◌, ◌<◌, ◌≤◌, ◌⊎◌, inl, inr, ⊎_elim, List, [], ◌∷◌, length, get_or, take, drop, sym, ◌∙◌, subst, arith, add-one, Bool, cond}
@@ -64,7 +64,7 @@ in_take i xs x h = subst (λ l. Contains l x) (take-append-drop i xs) (Contains-
 pub in_drop : {X : Type 0} (i : ℕ) (xs : List X) (x : X) → Contains (drop i xs) x → Contains xs x
 in_drop i xs x h = subst (λ l. Contains l x) (take-append-drop i xs) (Contains-append_right (take i xs) (drop i xs) x h)
 
--- a member stands in front of a place, or from there on
+-- a member is before an index, or from there on
 pub side : {X : Type 0} (i : ℕ) (xs : List X) (x : X) → Contains xs x → Contains (take i xs) x ⊎ Contains (drop i xs) x
 side i xs x h = Contains-append_cases (take i xs) (drop i xs) x (subst (λ l. Contains l x) (sym (take-append-drop i xs)) h)
 
@@ -82,7 +82,7 @@ pub rest_from : {X : Type 0} (xs : List X) (i : ℕ) (x y : X) → i < length xs
     → (x ≡ y) ⊎ Contains (drop (i + 1) xs) y
 rest_from xs i x y l e h = rw add-one (rest_at xs i x y l e h)
 
--- what stands in front of the next place
+-- what is before the next index
 front_at : {X : Type 0} (xs : List X) (i : ℕ) (x y : X) → i < length xs → x ≡ get_or xs i x → Contains (take (suc i) xs) y → (x ≡ y) ⊎ Contains (take i xs) y
 front_at [] i x y l e h = absurd (omega (arith, l))
 front_at (z ∷ zs) zero x y l e h = ⊎_elim (λ (q : z ≡ y). inl (e ∙ q)) (λ (q : Contains [] y). absurd (none_in y q)) (which z [] y h)
@@ -97,28 +97,28 @@ pub front_to : {X : Type 0} (xs : List X) (i : ℕ) (x y : X) → i < length xs 
     → (x ≡ y) ⊎ Contains (take i xs) y
 front_to xs i x y l e h = front_at xs i x y l e (subst (λ j. Contains (take j xs) y) (add-one i) h)
 
--- the element at an index stands in front of the next place
+-- the element at an index is before the next index
 up_at : {X : Type 0} (xs : List X) (i : ℕ) (x : X) → i < length xs → x ≡ get_or xs i x → Contains (take (suc i) xs) x
 up_at xs i x l e = grind (arith, common_steps)
 
 pub up_to : {X : Type 0} (xs : List X) (i : ℕ) (x : X) → i < length xs → x ≡ get_or xs i x → Contains (take (i + 1) xs) x
 up_to xs i x l e = rw add-one (up_at xs i x l e)
 
--- what stands in front of a place stands in front of the next
+-- what is before an index is before the next
 take_suc : {X : Type 0} (xs : List X) (i : ℕ) (x : X) → Contains (take i xs) x → Contains (take (suc i) xs) x
 take_suc xs i x h = grind (arith, common_steps)
 
 pub take_grows : {X : Type 0} (xs : List X) (i : ℕ) (x : X) → Contains (take i xs) x → Contains (take (i + 1) xs) x
 take_grows xs i x h = rw add-one (take_suc xs i x h)
 
--- nothing stands behind the last place
+-- nothing is after the last index
 pub past_end : {X : Type 0} (xs : List X) (i : ℕ) (x : X) → length xs ≤ i → Contains (drop i xs) x → ⊥
 past_end xs i x l h = grind (arith, common_steps)
 
 pub whole : {X : Type 0} (xs : List X) (i : ℕ) (x : X) → length xs ≤ i → Contains xs x → Contains (take i xs) x
 whole xs i x l h = ⊎_elim (λ (q : Contains (take i xs) x). q) (λ (q : Contains (drop i xs) x). absurd (past_end xs i x l q)) (side i xs x h)
 
--- in a rising list what is in front of a place is before what is behind it
+-- in a rising list what is before an index is smaller than what is after it
 pub across : {X : Type 0} (Before : X → X → Type 0) (xs : List X) (i : ℕ) (x y : X) → IsRising Before xs → Contains (take i xs) x → Contains (drop i xs) y
     → Before x y
 across Before [] zero x y r h k = absurd (none_in x h)
@@ -130,7 +130,7 @@ across Before (z ∷ zs) (suc i) x y r h k =
     (λ (q : Contains (take i zs) x). across Before zs i x y r.1 q k)
     (which z (take i zs) x h)
 
--- a rising list with one more in its place
+-- a rising list with one more element inserted in order
 pub rising_insert : {X : Type 0} (Before : X → X → Type 0) (xs : List X) (i : ℕ) (x : X) → IsRising Before xs → ((y : X) → Contains (take i xs) y → Before y x)
     → ((y : X) → Contains (drop i xs) y → Before x y) → IsRising Before (insert xs i x)
 rising_insert Before [] zero x r low high = (tt, tt)

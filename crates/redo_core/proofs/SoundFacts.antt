@@ -1,4 +1,4 @@
--- What a sound log says of its members: one fact of each key, and every truncation counts.
+-- What a sound log implies for its members: one fact of each key, and every truncation takes effect.
 use Rattle.std.proofs.lemmas.Grind.{common_steps}
 use Rattle.std.proofs.Common.{rules}
 use Rattle.std.proofs.Common.{◌≡◌, ◌≢◌, ℕ, zero, suc, ◌<◌, ◌≤◌, ◌⊎◌, ◌↔◌, ⊎_elim, List, [], ◌∷◌, length, get_or, take, sym, ap, subst, arith, Some, None, not}
@@ -14,7 +14,7 @@ use Rattle.redo_core.specs.declared.facts.Fact.TheVariants.{Record, Cut}
 use Rattle.redo_core.proofs.Members.{none_in, here, there, which, filtered, passed}
 use Rattle.redo_core.proofs.FactParts.{record_in, cut_in}
 
--- the fact at a place
+-- the fact at an index
 pub place_of : (xs : List Fact) (x : Fact) → (k : ℕ) → k < length xs → get_or xs k x ≡ x → slice_get xs k ≡ Some x
 place_of [] x k l e = absurd (omega (arith, l))
 place_of (y ∷ ys) x zero l e = ap Some e
@@ -23,7 +23,7 @@ place_of (y ∷ ys) x (suc k) l e = place_of ys x k (omega (arith, l)) e
 pub kept : (roster : ℕ) (log : List Fact) (f : Fact) → IsSound roster log → (h : Contains log f) → KeepsLaws roster log h.0 f
 kept roster log f sound h = sound.keeps h.0 f (place_of log f h.0 h.1 h.2)
 
--- an earlier place
+-- an earlier index
 pub earlier : (xs : List Fact) (x : Fact) (i j : ℕ) → i < j → i < length xs → get_or xs i x ≡ x → Contains (take j xs) x
 earlier [] x i j l in' e = absurd (omega (arith, in'))
 earlier (y ∷ ys) x zero zero l in' e = absurd (omega (arith, l))
@@ -56,7 +56,7 @@ same_record roster log sound r s hr hs e n = let q : Record r ≡ Record s = sam
 pub same_cut : (roster : ℕ) (log : List Fact) → IsSound roster log → (c d : CutData) → Contains (cuts log) c → Contains (cuts log) d → c.epoch ≡ d.epoch → c ≡ d
 same_cut roster log sound c d hc hd e = let q : Cut c ≡ Cut d = same_fact roster log (Cut c) (Cut d) sound ((cut_in log c).0 hc) ((cut_in log d).0 hd) e in cc
 
--- the truncations that count are all of them
+-- the effective truncations are all of them
 pub first_within : (cs : List CutData) (c : CutData) → Contains (first_cuts cs) c → Contains cs c
 first_within [] c h = h
 first_within (d ∷ ds) c h =

@@ -1,4 +1,4 @@
--- What a read answers: a page at an admissible point, or why the point is not admissible.
+-- What a read returns: a page at an admissible point, or why the point is not admissible.
 use Rattle.std.specs.Prelude.{◌≡◌, ℕ, ◌<◌, ◌≤◌, List}
 use Rattle.redo_core.specs.Position.{Position}
 use Rattle.redo_core.specs.PageAt.{IsPageAt}
@@ -13,7 +13,7 @@ pub data ReadAnswer : Type 0 where
   Below : ℕ → ReadAnswer
   Above : ℕ → ReadAnswer
 
--- the answer to a read of page g at q: below is tested first
+-- the result of a read of page g at q: below is tested first
 abbrev pub IsReadAnswer : List Fact → Position → ℕ → ℕ → ReadAnswer → Type 0
 IsReadAnswer facts p g q (Below min) = (min ≡ p.min) × (q < p.min)
 IsReadAnswer facts p g q (Above complete) = (complete ≡ p.complete) × (p.min ≤ q) × (p.complete < q)

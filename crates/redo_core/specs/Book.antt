@@ -1,4 +1,4 @@
--- What is known of the truncations and advances of a log: a book. Whoever stores one keeps its form.
+-- What is known of the truncations and advances of a log: a book. Whoever stores one maintains its invariant.
 use Rattle.std.specs.Prelude.{◌≡◌, ℕ, ◌<◌, ◌≤◌, List, length, None}
 use Rattle.std.specs.List.{All}
 use Rattle.redo_core.specs.Data.{CutData, AdvanceData}

@@ -16,6 +16,6 @@ HasCutsTo cs k = (e : ℕ) → 1 ≤ e → e ≤ k → HasCut cs e
 abbrev pub IsCompleteEpoch : List CutData → ℕ → Type 0
 IsCompleteEpoch cs k = IsGreatest (HasCutsTo cs) k
 
--- no truncation of this epoch is there
+-- there is no truncation of this epoch
 abbrev pub LacksCut : List CutData → ℕ → Type 0
 LacksCut cs epoch = (d : CutData) → Contains cs d → d.epoch ≢ epoch

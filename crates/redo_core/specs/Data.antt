@@ -4,8 +4,8 @@ use Rattle.redo_core.specs.Writes.{WriteData}
 use Rattle.redo_core.specs.declared.patches.Patch.{Patch}
 use Rattle.redo_core.specs.declared.patches.Patch.TheVariants.{Bytes}
 
--- A redo record. Its key is (epoch, number); `back` is its segment backlink, `block_back` its block backlink. With `init` its page
--- begins anew.
+-- A redo record. Its key is (epoch, number), where number is the LSN; `back` is its segment backlink, `block_back` its block
+-- backlink. With `init` its page starts from zeros.
 pub record RecordData : Type 0 where
   pub epoch : ℕ
   pub number : ℕ
@@ -15,7 +15,7 @@ pub record RecordData : Type 0 where
   pub init : Bool
   pub patches : List Patch
 
--- A truncation: with it its epoch begins. It annuls what earlier epochs have above `lo`, and its own epoch counts from above `hi`.
+-- A truncation: with it its epoch begins. It annuls what earlier epochs have above `lo`; its own epoch's LSNs are above `hi`.
 pub record CutData : Type 0 where
   pub epoch : ℕ
   pub lo : ℕ

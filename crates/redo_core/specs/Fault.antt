@@ -1,4 +1,4 @@
--- The fault of a log that is not sound: the least place that breaks a law, with the least law that it breaks.
+-- The fault of a log that is not sound: the least index that breaks a law, with the least law that it breaks.
 use Rattle.std.specs.Prelude.{◌≡◌, ℕ, ◌<◌, List, [], ◌∷◌, take, slice_get, Some}
 use Rattle.std.specs.List.{AllByRecursion}
 use Rattle.redo_core.specs.Sound.{Law1, Law2, Law3, Law4, Law5, KeepsLaws}
@@ -6,7 +6,7 @@ use Rattle.redo_core.specs.declared.facts.Fact.{Fact}
 use Rattle.redo_core.specs.declared.laws.Law.{Law}
 use Rattle.redo_core.specs.declared.laws.Law.TheVariants.{OneFactPerKey, EpochBegun, SegmentBacklink, BlockBacklink, AdvanceKept}
 
--- the fact at a place (from 0) keeps a law
+-- the fact at an index (from 0) keeps a law
 abbrev pub KeepsLaw : ℕ → List Fact → ℕ → Fact → Law → Type 0
 KeepsLaw roster log place fact OneFactPerKey = Law1 (take place log) fact
 KeepsLaw roster log place fact EpochBegun = Law2 log fact
@@ -22,7 +22,7 @@ lower_laws SegmentBacklink = OneFactPerKey ∷ EpochBegun ∷ []
 lower_laws BlockBacklink = OneFactPerKey ∷ EpochBegun ∷ SegmentBacklink ∷ []
 lower_laws AdvanceKept = OneFactPerKey ∷ EpochBegun ∷ SegmentBacklink ∷ BlockBacklink ∷ []
 
--- the fact at a place breaks the law, and none of the lower ones
+-- the fact at an index breaks the law, and none of the lower ones
 abbrev pub BreaksFirst : ℕ → List Fact → ℕ → Fact → Law → Type 0
 BreaksFirst roster log place fact law = (KeepsLaw roster log place fact law → ⊥) × AllByRecursion (KeepsLaw roster log place fact) (lower_laws law)
 
@@ -34,7 +34,7 @@ law_number SegmentBacklink = 3
 law_number BlockBacklink = 4
 law_number AdvanceKept = 5
 
--- the place (from 0) is the least that breaks a law, and the law is the least that it breaks
+-- the index (from 0) is the least that breaks a law, and the law is the least that it breaks
 pub record IsFirstFault (roster : ℕ) (log : List Fact) (place : ℕ) (law : Law) : Type 0 where
   pub fact : Fact
   pub at_place : slice_get log place ≡ Some fact

@@ -1,4 +1,4 @@
--- The bytes that a write holds.
+-- The bytes that a write stores.
 use Rattle.std.specs.Prelude.{ℕ, List, take}
 use Rattle.redo_core.specs.declared.held_bytes.Holder.{Holder}
 use Rattle.redo_core.specs.declared.held_bytes.Holder.TheVariants.{Short, Long}

@@ -18,7 +18,7 @@ pub record JoinsPoints (k : ℕ) (ps : List ℕ) (ws : List AdvanceData) (qs : L
   pub count : length joined ≡ length ps
   pub each : (reader : ℕ) → IsReader (length ps) reader → IsGreatest (JoinedPoint k ps ws qs vs reader) (point_of joined reader)
 
--- There are the truncations of both, and what waited on a side for an epoch up to the complete one of these counts.
+-- The truncations of both; what waited on a side for an epoch up to the complete one of these takes effect.
 pub record JoinsBooks (old other new : BookData) : Type 0 where
   pub cuts : (c : CutData) → Contains new.cuts c ↔ (Contains old.cuts c ⊎ Contains other.cuts c)
   pub complete : IsCompleteEpoch new.cuts new.complete

@@ -1,4 +1,4 @@
--- The patches that a record keeps.
+-- The patches that a record stores.
 use Rattle.std.specs.Prelude.{List, [], ◌∷◌}
 use Rattle.std.specs.Arc.{arc_value}
 use Rattle.redo_core.specs.Data.{plain}

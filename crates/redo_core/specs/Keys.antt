@@ -13,11 +13,11 @@ key_in epoch number = record { epoch = epoch; number = number }
 abbrev pub key_of : RecordData → Key
 key_of r = key_in r.epoch r.number
 
--- a number that a record may have
+-- an LSN that a record may have
 abbrev pub IsKey : Key → Type 0
 IsKey k = (0 < k.number) × (k.number ≤ max_number)
 
--- keys by epoch, then number
+-- keys by epoch, then LSN
 abbrev pub KeyBefore : Key → Key → Type 0
 KeyBefore k l = PairBefore k.epoch k.number l.epoch l.number
 

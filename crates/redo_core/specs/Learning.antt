@@ -6,13 +6,13 @@ use Rattle.redo_core.specs.Roster.{point_of}
 use Rattle.redo_core.specs.Points.{RaisesPoints}
 use Rattle.redo_core.specs.Book.{BookData}
 
--- There is one truncation more. The advances that waited for an epoch up to the new complete one count, and the others wait on.
+-- There is one more truncation. The advances that waited for an epoch up to the new complete one take effect; the others wait on.
 pub record LearnsCut (old : BookData) (c : CutData) (new : BookData) : Type 0 where
   pub cuts : (d : CutData) → Contains new.cuts d ↔ (Contains old.cuts d ⊎ (d ≡ c))
   pub points : RaisesPoints new.complete old.points old.waits new.points
   pub waits : (a : AdvanceData) → Contains new.waits a ↔ (Contains old.waits a × (new.complete < a.epoch))
 
--- an advance of a known epoch counts
+-- an advance of a known epoch takes effect
 pub record Counts (old : BookData) (a : AdvanceData) (new : BookData) : Type 0 where
   pub points : RaisesPoints old.complete old.points (a ∷ []) new.points
   pub waits : new.waits ≡ old.waits

@@ -1,4 +1,4 @@
--- The segment chain: which numbers are linked in view k.
+-- The segment chain: which LSNs are linked in view k.
 use Rattle.std.specs.Prelude.{ℕ, ◌<◌, List}
 use Rattle.std.specs.List.{Contains}
 use Rattle.redo_core.specs.Data.{RecordData, CutData}
@@ -6,7 +6,7 @@ use Rattle.redo_core.specs.Sets.{records, cuts}
 use Rattle.redo_core.specs.Standing.{IsAlive}
 use Rattle.redo_core.specs.declared.facts.Fact.{Fact}
 
--- The linked numbers from a base on: the least set that has the base and the number of each alive record above it whose
+-- The linked LSNs from a base on: the least set that has the base and the LSN of each alive record above it whose
 -- segment backlink is in it.
 pub data Linked (cs : List CutData) (rs : List RecordData) (k base : ℕ) : ℕ → Type 0 where
   start : Linked cs rs k base base

@@ -1,4 +1,4 @@
--- The fronts of a whole log, which threads tell each other.
+-- The fronts of a whole log, which threads send each other.
 use Rattle.std.specs.Prelude.{◌≡◌, ℕ, ◌<◌, ◌≤◌, ◌⊎◌, List}
 use Rattle.redo_core.specs.Sets.{cuts}
 use Rattle.redo_core.specs.CompleteEpoch.{HasCutsTo}
@@ -9,6 +9,6 @@ use Rattle.redo_core.specs.declared.facts.Fact.{Fact}
 abbrev pub IsLogFront : List Fact → ℕ → ℕ → Type 0
 IsLogFront log k n = HasCutsTo (cuts log) k × IsLinked log k n
 
--- fronts in order: by epoch, then by number
+-- fronts in order: by epoch, then by LSN
 abbrev pub FrontAtMost : ℕ → ℕ → ℕ → ℕ → Type 0
 FrontAtMost k n k' n' = (k < k') ⊎ ((k ≡ k') × (n ≤ n'))

@@ -1,4 +1,4 @@
--- The meaning of a set of facts: all that its answers, and those of its unions with others, depend on.
+-- The meaning of a set of facts: all that its reads, and those of its unions with others, depend on.
 use Rattle.std.specs.Prelude.{◌≡◌, ◌≢◌, ℕ, ◌<◌, ◌⊎◌, List}
 use Rattle.std.specs.List.{Contains}
 use Rattle.redo_core.specs.Data.{RecordData, CutData, AdvanceData}
@@ -31,7 +31,7 @@ pub record Meaning : Type 0 where
 abbrev pub IsKept : List Fact → Position → RecordData → Type 0
 IsKept facts p r = Contains (records facts) r × (IsWaiting p.epoch r.epoch ⊎ (IsAlive (cuts facts) p.epoch r.epoch r.number × (p.anchor < r.number)))
 
--- m is the meaning of facts that stand at p
+-- m is the meaning of facts whose position is p
 pub record IsMeaningAt (roster : ℕ) (facts : List Fact) (p : Position) (m : Meaning) : Type 0 where
   pub position : IsPosition roster facts p
   pub cuts : Lists CutBefore (Contains (cuts facts)) m.cuts

@@ -12,12 +12,12 @@ abbrev pub IsRising : {X : Type 0} → (X → X → Type 0) → List X → Type 
 IsRising Before [] = Unit {0}
 IsRising Before (x ∷ xs) = AllByRecursion (Before x) xs × IsRising Before xs
 
--- xs lists just the things with P, in rising order
+-- xs lists exactly the elements with P, in rising order
 pub record Lists {X : Type 0} (Before : X → X → Type 0) (P : X → Type 0) (xs : List X) : Type 0 where
   pub rising : IsRising Before xs
   pub members : (x : X) → Contains xs x ↔ P x
 
--- x is the first of the things with P
+-- x is the first of the elements with P
 pub record IsFirst {X : Type 0} (Before : X → X → Type 0) (P : X → Type 0) (x : X) : Type 0 where
   pub has : P x
   pub least : (y : X) → P y → (y ≡ x) ⊎ Before x y
@@ -34,10 +34,10 @@ CutBefore c d = c.epoch < d.epoch
 abbrev pub AdvanceBefore : AdvanceData → AdvanceData → Type 0
 AdvanceBefore a b = (a.epoch < b.epoch) ⊎ ((a.epoch ≡ b.epoch) × PairBefore a.reader a.point b.reader b.point)
 
--- records by key: epoch, then number
+-- records by key: epoch, then LSN
 abbrev pub RecordBefore : RecordData → RecordData → Type 0
 RecordBefore r s = PairBefore r.epoch r.number s.epoch s.number
 
--- records by number alone, as they stand in a page
+-- records by LSN alone, the order of a page's chain
 abbrev pub BeforeByNumber : RecordData → RecordData → Type 0
 BeforeByNumber r s = r.number < s.number

@@ -1,4 +1,4 @@
--- Readers that are past a truncation of a later epoch: what it annuls, they read no more.
+-- Readers that are past a truncation of a later epoch: they never read what it annuls.
 use Rattle.std.specs.Prelude.{◌≡◌, ◌≢◌, ℕ, ◌<◌, ◌⊎◌, List, length}
 use Rattle.std.specs.List.{Contains}
 use Rattle.redo_core.specs.Data.{CutData, AdvanceData}

@@ -1,4 +1,4 @@
--- The readers' points: how far the advances that count have moved each reader.
+-- The readers' points: how far the effective advances have moved each reader.
 use Rattle.std.specs.Prelude.{◌≡◌, ℕ, ◌≤◌, ◌⊎◌, List, length}
 use Rattle.std.specs.List.{Contains}
 use Rattle.redo_core.specs.Data.{AdvanceData}
@@ -9,7 +9,7 @@ use Rattle.redo_core.specs.Roster.{IsReader, point_of}
 abbrev pub HasAdvance : List AdvanceData → ℕ → ℕ → ℕ → Type 0
 HasAdvance given k reader point = (a : AdvanceData) × Contains given a × (a.epoch ≤ k) × (a.reader ≡ reader) × (a.point ≡ point)
 
--- the reader's point is the greatest that counts
+-- the reader's point is the greatest effective one
 abbrev pub IsPoint : List AdvanceData → ℕ → ℕ → ℕ → Type 0
 IsPoint given k reader point = IsGreatest (HasAdvance given k reader) point
 

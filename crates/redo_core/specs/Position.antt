@@ -1,4 +1,4 @@
--- Where a set of facts stands: its complete epoch, complete point, readers' points, minimum read point and anchor.
+-- The position of a set of facts: its complete epoch, complete point, readers' points, minimum read point and anchor.
 use Rattle.std.specs.Prelude.{◌≡◌, ℕ, ◌≤◌, List}
 use Rattle.redo_core.specs.Sets.{cuts, advances}
 use Rattle.redo_core.specs.Order.{IsGreatest}
@@ -15,7 +15,7 @@ pub record Position : Type 0 where
   pub min : ℕ
   pub anchor : ℕ
 
--- the complete epoch, the greatest linked number, each reader's point, the least of these, and the greatest linked number up to it
+-- the complete epoch, the greatest linked LSN, each reader's point, the least of these, and the greatest linked LSN up to it
 pub record IsPosition (roster : ℕ) (facts : List Fact) (p : Position) : Type 0 where
   pub epoch : IsCompleteEpoch (cuts facts) p.epoch
   pub complete : IsGreatest (IsLinked facts p.epoch) p.complete

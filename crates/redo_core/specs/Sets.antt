@@ -1,4 +1,4 @@
--- Sets of facts. A set is a list of which only the members count.
+-- Sets of facts. A set is a list of which only the members matter.
 use Rattle.std.specs.Prelude.{◌↔◌, List, Option, Some, None}
 use Rattle.std.specs.List.{Contains, filter_map}
 use Rattle.redo_core.specs.Data.{RecordData, CutData, AdvanceData}
@@ -9,7 +9,7 @@ use Rattle.redo_core.specs.declared.facts.Fact.TheVariants.{Record, Cut, Advance
 abbrev pub IsPart : {X : Type 0} → List X → List X → Type 0
 IsPart {X} xs ys = (x : X) → Contains xs x → Contains ys x
 
--- the two sets are one
+-- the two sets are equal
 abbrev pub SameSet : {X : Type 0} → List X → List X → Type 0
 SameSet {X} xs ys = (x : X) → Contains xs x ↔ Contains ys x
 

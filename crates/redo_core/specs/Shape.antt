@@ -9,7 +9,7 @@ use Rattle.redo_core.specs.declared.patches.Patch.TheVariants.{Bytes, Fill}
 use Rattle.redo_core.specs.declared.shapes.ShapeFault.{ShapeFault}
 use Rattle.redo_core.specs.declared.shapes.ShapeFault.TheVariants.{NumberIsZero, BackNotBelow, BlockBackAbove, ManyWrites, EmptyWrite, OffPage, ManyBytes, EpochIsZero, LoAboveHi, TooLarge, NoSuchReader, RosterSize}
 
--- the greatest number, 2^48 - 1
+-- the greatest LSN, 2^48 - 1
 abbrev pub max_number : ℕ
 max_number = 281474976710655
 
@@ -17,7 +17,7 @@ max_number = 281474976710655
 abbrev pub max_readers : ℕ
 max_readers = 15
 
--- how many epochs there are, with 0: 2^16
+-- the number of epochs, with 0: 2^16
 abbrev pub epoch_count : ℕ
 epoch_count = 65536
 
@@ -37,11 +37,11 @@ max_bytes = 8192
 abbrev pub is_empty : WriteData → Bool
 is_empty w = length w.bytes == 0
 
--- a write goes past the end of its page
+-- a write extends past the end of its page
 abbrev pub is_off_page : WriteData → Bool
 is_off_page w = nat_lt page_len (w.offset + length w.bytes)
 
--- the same of patches
+-- the same for patches
 abbrev pub is_empty_patch : Patch → Bool
 is_empty_patch (Bytes w) = is_empty w
 is_empty_patch (Fill offset len byte) = len == 0
@@ -64,7 +64,7 @@ patches_fault patches =
     else if nat_lt max_bytes (sum_by bytes_in patches) then Some ManyBytes
     else None
 
--- the first fault of a record, in the order in which faults are looked for
+-- the first fault of a record, in the order in which faults are checked
 abbrev pub record_fault : RecordData → Option ShapeFault
 record_fault r =
     if r.number == 0 then Some NumberIsZero

@@ -12,12 +12,12 @@ use Rattle.redo_core.specs.Past.{ArePast}
 use Rattle.redo_core.specs.declared.facts.Fact.{Fact}
 use Rattle.redo_core.specs.declared.facts.Fact.TheVariants.{Record, Cut, Advance}
 
--- the first truncation of each epoch, which is the one that counts
+-- the first truncation of each epoch, which is the effective one
 abbrev pub first_cuts : List CutData → List CutData
 first_cuts [] = []
 first_cuts (c ∷ cs) = c ∷ filter (λ d. not (d.epoch == c.epoch)) (first_cuts cs)
 
--- the truncations that count in a log
+-- the effective truncations of a log
 unfoldable pub counted : List Fact → List CutData
 counted log = first_cuts (cuts log)
 
@@ -33,13 +33,13 @@ SameKey (Advance a) (Record r) = ⊥
 SameKey (Advance a) (Cut c) = ⊥
 SameKey (Advance a) (Advance b) = ⊥
 
--- the fact is one that the types can hold
+-- the fact is one that the types can represent
 abbrev pub HasShape : Fact → Type 0
 HasShape (Record r) = record_fault r ≡ None
 HasShape (Cut c) = cut_fault c ≡ None
 HasShape (Advance a) = advance_fault a ≡ None
 
--- n is below r's number, and is the number of a record with Only that is alive in the view of r's epoch
+-- n is below r's LSN, and is the LSN of a record with Only that is alive in the view of r's epoch
 pub record IsAliveBelow (log : List Fact) (r : RecordData) (Only : RecordData → Type 0) (n : ℕ) : Type 0 where
   pub other : RecordData
   pub among : Contains (records log) other
@@ -52,19 +52,19 @@ pub record IsAliveBelow (log : List Fact) (r : RecordData) (Only : RecordData �
 abbrev pub Law1 : List Fact → Fact → Type 0
 Law1 earlier fact = (f : Fact) → Contains earlier f → SameKey f fact → f ≡ fact
 
--- Law 2: a record's epoch has begun, and its number is above the epoch's hi.
+-- Law 2: a record's epoch has begun, and its LSN is above the epoch's hi.
 abbrev pub Law2 : List Fact → Fact → Type 0
 Law2 log (Record r) = HasCutsTo (counted log) r.epoch × ((c : CutData) → Contains (counted log) c → c.epoch ≡ r.epoch → c.hi < r.number)
 Law2 log (Cut c) = Unit {0}
 Law2 log (Advance a) = Unit {0}
 
--- Law 3: the segment backlink is the greatest number below the record's own that is alive in its epoch's view, or 0.
+-- Law 3: the segment backlink is the greatest LSN below the record's own that is alive in its epoch's view, or 0.
 abbrev pub Law3 : List Fact → Fact → Type 0
 Law3 log (Record r) = IsGreatest (IsAliveBelow log r (λ s. Unit {0})) r.back
 Law3 log (Cut c) = Unit {0}
 Law3 log (Advance a) = Unit {0}
 
--- Law 4: the block backlink is the same over the records of its page.
+-- Law 4: the block backlink is the same for the records of its page.
 abbrev pub Law4 : List Fact → Fact → Type 0
 Law4 log (Record r) = IsGreatest (IsAliveBelow log r (λ s. s.page ≡ r.page)) r.block_back
 Law4 log (Cut c) = Unit {0}
@@ -79,7 +79,7 @@ Law5 roster log (Advance a) =
     IsReader roster a.reader × HasCutsTo (counted log) a.epoch
     × ((c : CutData) → Contains (counted log) c → a.epoch < c.epoch → ArePast roster (advances log) c → a.point ≤ c.lo)
 
--- the fact at a place (from 0) keeps the laws
+-- the fact at an index (from 0) keeps the laws
 pub record KeepsLaws (roster : ℕ) (log : List Fact) (place : ℕ) (fact : Fact) : Type 0 where
   pub shape : HasShape fact
   pub law1 : Law1 (take place log) fact
@@ -88,7 +88,7 @@ pub record KeepsLaws (roster : ℕ) (log : List Fact) (place : ℕ) (fact : Fact
   pub law4 : Law4 log fact
   pub law5 : Law5 roster log fact
 
--- a log of a roster is sound where the fact at each place keeps the laws
+-- a log of a roster is sound where the fact at each index keeps the laws
 pub record IsSound (roster : ℕ) (log : List Fact) : Type 0 where
   pub readers : IsRoster roster
   pub keeps : (place : ℕ) (fact : Fact) → slice_get log place ≡ Some fact → KeepsLaws roster log place fact

@@ -4,13 +4,13 @@ use Rattle.std.specs.List.{Contains}
 use Rattle.redo_core.specs.Order.{IsRising}
 use Rattle.redo_core.specs.Writing.{zeros}
 
--- an image of a page, and the point of the log that it shows
+-- an image of a page, and its version: the point of the log whose state it is
 pub record StoredImage : Type 0 where
   pub page : ℕ
   pub version : ℕ
   pub bytes : List ℕ
 
--- the stored images; a page without one is zeros, of the version `floor`
+-- the stored images; a page without one is zeros, of the default version `floor`
 pub record Store : Type 0 where
   pub images : List StoredImage
   pub floor : ℕ
@@ -29,7 +29,7 @@ image_of store page = (image_in store.images store.floor page).bytes
 abbrev pub PageBefore : StoredImage → StoredImage → Type 0
 PageBefore i j = i.page < j.page
 
--- the image takes the place of its page's, or is a new one
+-- the image replaces its page's, or is a new one
 pub record PutsImage (old : List StoredImage) (image : StoredImage) (new : List StoredImage) : Type 0 where
   pub rising : IsRising PageBefore new
   pub members : (i : StoredImage) → Contains new i ↔ ((i ≡ image) ⊎ (Contains old i × (i.page ≢ image.page)))

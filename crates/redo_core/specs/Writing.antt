@@ -5,11 +5,11 @@ use Rattle.redo_core.specs.Shape.{page_len}
 use Rattle.redo_core.specs.declared.patches.Patch.{Patch}
 use Rattle.redo_core.specs.declared.patches.Patch.TheVariants.{Bytes, Fill}
 
--- the page with bytes in their place, from an offset on
+-- the page with these bytes from an offset on
 abbrev pub with_bytes : List ℕ → ℕ → List ℕ → List ℕ
 with_bytes page offset bytes = take offset page ++ bytes ++ drop (offset + length bytes) page
 
--- the page with one patch: a write's bytes, or one byte over a length
+-- the page with one patch: a write's bytes, or one byte repeated over a length
 abbrev pub with_patch : List ℕ → Patch → List ℕ
 with_patch page (Bytes w) = with_bytes page w.offset w.bytes
 with_patch page (Fill offset len byte) = with_bytes page offset (replicate len byte)
@@ -19,7 +19,7 @@ abbrev pub with_patches : List ℕ → List Patch → List ℕ
 with_patches page [] = page
 with_patches page (p ∷ ps) = with_patches (with_patch page p) ps
 
--- the page that nothing was written to
+-- the page before any write: zeros
 unfoldable pub zeros : List ℕ
 zeros = replicate page_len 0
 

@@ -6,7 +6,7 @@ ghost use Rattle.redo_core.specs.Shape.{advance_fault, max_number, max_readers};
 use crate::shapes::{MAX_NUMBER, MAX_READERS, ShapeFault};
 use std::marker::Model;
 
-/// An advance of a reader's point: the reader reads nothing below `point` any more.
+/// An advance of a reader's point: the reader never again reads below `point`.
 #[derive(Clone, Copy, Debug, PartialEq, Eq)]
 pub struct Advance {
     epoch: u16,
@@ -61,7 +61,7 @@ impl Advance {
         })
     }
 
-    /// The writer's epoch when it was made.
+    /// The epoch in which the writer made it.
     pub fn epoch(&self) -> u16
         ensures value { result ≡ self.now.epoch }
         ensures shape { advance_fault self.now ≡ None }
@@ -79,7 +79,7 @@ impl Advance {
         self.reader
     }
 
-    /// The point, from 1 to 2^48 - 1.
+    /// The point, an LSN from 1 to 2^48 - 1.
     pub fn point(&self) -> u64
         ensures value { result ≡ self.now.point }
         ensures positive { 0 < result }

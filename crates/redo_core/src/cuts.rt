@@ -6,7 +6,7 @@ ghost use Rattle.redo_core.specs.Shape.{cut_fault, max_number};
 use crate::shapes::{MAX_NUMBER, ShapeFault};
 use std::marker::Model;
 
-/// A truncation: with it its epoch begins. It annuls the records of earlier epochs above `lo`, and its own epoch's numbers
+/// A truncation: with it its epoch begins. It annuls the records of earlier epochs above `lo`, and its own epoch's LSNs
 /// are above `hi`.
 #[derive(Clone, Copy, Debug, PartialEq, Eq)]
 pub struct Cut {
@@ -56,7 +56,7 @@ impl Cut {
         self.epoch
     }
 
-    /// The greatest number of an earlier epoch that it leaves alive.
+    /// The greatest LSN of an earlier epoch that it leaves alive.
     pub fn lo(&self) -> u64
         ensures value { result ≡ self.now.lo }
         ensures ordered { result ≤ self.now.hi }
@@ -66,7 +66,7 @@ impl Cut {
         self.lo
     }
 
-    /// The number that all numbers of its epoch are above.
+    /// The LSN that all LSNs of its epoch are above.
     pub fn hi(&self) -> u64
         ensures value { result ≡ self.now.hi }
         ensures ordered { self.now.lo ≤ result }

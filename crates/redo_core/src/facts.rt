@@ -6,7 +6,7 @@ use crate::cuts::Cut;
 use crate::records::Record;
 use std::alloc::{AllocError, AllocFailed};
 
-/// What a database tells its segments: a redo record, a truncation, or an advance of a reader's point.
+/// What a database sends to its segments: a redo record, a truncation, or an advance of a reader's point.
 #[derive(Drop)]
 pub enum Fact {
     Record(Record),
@@ -15,15 +15,15 @@ pub enum Fact {
 }
 
 impl Fact {
-    /// An equal fact: with memory of its own, unless this one is shared. It fails only if memory runs out.
+    /// An equal fact: with memory of its own, unless this one is shared. The only error is an allocation failure.
     pub fn copy(&self) -> Result<Self, AllocError>
         ensures { IfOk result (λ f. f ≡ self.now) }
     {
         self.clone()
     }
 
-    /// An equal fact, whose copies share its patches as those of a shared record do. The only error is lack of memory, and gives
-    /// the fact back.
+    /// An equal fact, whose copies share its patches as those of a shared record do. The only error is an allocation failure; it returns
+    /// the fact.
     pub fn share(self) -> Result<Self, AllocFailed<Self>>
         ensures ok { IfOk result (λ f. f ≡ self) }
         ensures err { IfErr result (λ e. e.value ≡ self) }
@@ -39,7 +39,7 @@ impl Fact {
         }
     }
 
-    /// Whether the other fact is this one.
+    /// Whether the other fact equals this one.
     pub fn is_same(&self, other: &Fact) -> bool
         ensures same { IsTrue result ↔ (self.now ≡ other.now) }
     {

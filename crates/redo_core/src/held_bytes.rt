@@ -1,16 +1,16 @@
-//! The bytes of a write: a few stand in the write itself, and more have memory of their own.
+//! The bytes of a write: a few are stored in the write itself, and more have memory of their own.
 
 ghost use Rattle.std.specs.Prelude.{◌≡◌, IfOk, IfSome, take};
 
 use std::alloc::{AllocError, Global};
 use std::marker::Model;
 
-/// How many bytes stand in the write itself.
+/// How many bytes fit in the write itself.
 const SHORT: usize = 16;
 
 #[derive(Drop)]
 enum Holder {
-    // Most writes are short. The bytes behind the first so many say nothing.
+    // Most writes are short. The bytes after the first so many have no meaning.
     Short(u8, [u8; SHORT]),
     Long(Vec<u8>),
 }
@@ -31,6 +31,7 @@ impl Model for HeldBytes {
 }
 
 impl HeldBytes {
+    /// These bytes. Where they are few, they are stored in the write itself and the vector is dropped.
     pub fn of_vec(bytes: Vec<u8>) -> Self
         ensures { result ≡ bytes.items }
     {
@@ -42,7 +43,7 @@ impl HeldBytes {
         }
     }
 
-    /// A copy: a short one takes no memory. The only error is lack of memory.
+    /// A copy of these bytes; a short one allocates nothing. The only error is an allocation failure.
     pub fn of_slice(alloc: Global, bytes: &[u8]) -> Result<Self, AllocError>
         ensures { IfOk result (λ b. b ≡ bytes.now) }
     {
@@ -54,6 +55,7 @@ impl HeldBytes {
         }
     }
 
+    /// The bytes, wherever they are stored.
     pub fn as_slice(&self) -> &[u8]
         ensures { result.now ≡ self.now }
     {
@@ -63,7 +65,7 @@ impl HeldBytes {
         }
     }
 
-    /// Whether a copy of it wants no memory.
+    /// Whether a copy of it allocates nothing.
     pub fn is_short(&self) -> bool {
         match &self.holder {
             Holder::Short(..) => true,
@@ -71,7 +73,7 @@ impl HeldBytes {
         }
     }
 
-    /// Equal bytes. The only error is lack of memory.
+    /// Equal bytes. The only error is an allocation failure.
     pub fn copy(&self) -> Result<Self, AllocError>
         ensures { IfOk result (λ b. b ≡ self.now) }
     {
@@ -98,7 +100,7 @@ fn first(bytes: &[u8], len: usize) -> &[u8]
     }
 }
 
-// The bytes held in place, where they are few.
+// The bytes stored in place, where they are few.
 fn short_of(bytes: &[u8]) -> Option<HeldBytes>
     ensures { IfSome result (λ b. b ≡ bytes.now) }
 {

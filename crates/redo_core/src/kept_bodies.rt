@@ -1,4 +1,4 @@
-//! The patches of a record where they are kept: one short patch in the record itself, and a list for one record alone or shared by
+//! How a record stores its patches: one short patch in the record itself, and a list either for one record alone or shared by
 //! its copies.
 
 ghost use Rattle.std.specs.Prelude.{◌≡◌, ◌↔◌, ◌∷◌, [], IsTrue, IfOk, IfErr};
@@ -14,7 +14,7 @@ use std::sync::Arc;
 
 #[derive(Drop)]
 enum Holder {
-    // Most records have one patch of a few bytes: it wants no memory of its own, and a fold finds it where it finds the record.
+    // Most records have one patch of a few bytes: it needs no allocation, and a fold finds it where it finds the record.
     Short(Patch),
     Writes(Vec<Write>),
     Patches(Vec<Patch>),
@@ -27,7 +27,7 @@ pub struct KeptBody {
     holder: Holder,
 }
 
-// Written out, so that the cases of the holder are told apart here alone, and not wherever a record is dropped.
+// Written out, so that only the proof here distinguishes the cases of the holder, and not every place that drops a record.
 impl Drop for KeptBody {
     fn drop(self) {
         let KeptBody { holder: _holder } = self;
@@ -45,6 +45,7 @@ impl Model for KeptBody {
 }
 
 impl KeptBody {
+    /// These writes as patches; a single short one is stored in the record itself.
     pub fn of_writes(mut writes: Vec<Write>) -> Self
         ensures { result ≡ plain writes.items }
     {
@@ -60,6 +61,7 @@ impl KeptBody {
         }
     }
 
+    /// These patches; a single short one is stored in the record itself.
     pub fn of_patches(mut patches: Vec<Patch>) -> Self
         ensures { result ≡ patches.items }
     {
@@ -75,7 +77,7 @@ impl KeptBody {
         }
     }
 
-    /// One patch: a short one stands in the record itself. The only error is lack of memory for a list.
+    /// One patch; a short one is stored in the record itself. The only error is an allocation failure for a list.
     pub fn of_patch(alloc: Global, patch: Patch) -> Result<Self, AllocError>
         ensures { IfOk result (λ k. k ≡ patch ∷ []) }
     {
@@ -91,6 +93,7 @@ impl KeptBody {
         })
     }
 
+    /// The patches, borrowed, in the order in which they are applied.
     pub fn body(&self) -> Body<'_>
         ensures { patches_of result ≡ self.now }
     {
@@ -113,7 +116,7 @@ impl KeptBody {
         }
     }
 
-    /// The same patches, for any number of owners. The error gives them back for lack of memory.
+    /// The same patches, for any number of owners. The only error is an allocation failure; it returns the patches.
     pub fn share(self) -> Result<Self, AllocFailed<Self>>
         ensures ok { IfOk result (λ k. k ≡ self) }
         ensures err { IfErr result (λ e. e.value ≡ self) }
@@ -126,7 +129,7 @@ impl KeptBody {
         }
     }
 
-    /// The same patches: one more owner of those that are shared, and else a copy. It fails only if memory runs out.
+    /// The same patches: one more owner of those that are shared, otherwise a copy. The only error is an allocation failure.
     pub fn copy(&self) -> Result<Self, AllocError>
         ensures { IfOk result (λ k. k ≡ self.now) }
     {

@@ -1,16 +1,16 @@
 ghost use Rattle.std.specs.Prelude.{◌≡◌};
 ghost use Rattle.redo_core.specs.Fault.{law_number};
 
-/// The five laws of a sound log, in the order in which they are looked at.
+/// The five laws of a sound log, in the order in which they are checked.
 #[derive(Clone, Copy, Debug, PartialEq, Eq)]
 pub enum Law {
     /// Different facts have different keys.
     OneFactPerKey,
-    /// A record's epoch has begun, and its number is above the epoch's `hi`.
+    /// A record's epoch has begun, and its LSN is above the epoch's `hi`.
     EpochBegun,
-    /// The segment backlink is the greatest number below the record's own that is alive in its epoch.
+    /// The segment backlink is the greatest LSN below the record's own that is alive in its epoch.
     SegmentBacklink,
-    /// The block backlink is the same over the records of its page.
+    /// The block backlink is the same for the records of its page.
     BlockBacklink,
     /// An advance's reader is of the roster, its epoch has begun, and no later truncation that all readers are past cuts below its point.
     AdvanceKept,
@@ -31,7 +31,7 @@ impl Law {
     }
 }
 
-/// The least place of a log (from 1) that breaks a law, with the least law that it breaks.
+/// The least index of a log (from 1) that breaks a law, with the least law that it breaks.
 #[derive(Clone, Copy, Debug, PartialEq, Eq)]
 pub struct LawFault {
     pub law: Law,

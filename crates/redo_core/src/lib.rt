@@ -1,8 +1,8 @@
 //! Facts of a redo log (records, truncations, advances of readers' points), pages, and the definitions of what a set
 //! of facts means.
 //!
-//! Every value of a fact's type has its shape, and its getters say so. `apply` is what a record does to a page.
-//! `specs/` has the words that every contract above is written in, one concept a file.
+//! Every value of a fact's type has a valid shape, and the contracts of its getters say so. `apply` is what a record does to a page.
+//! `specs/` has the definitions that the contracts of all crates above use, one concept a file.
 #![tactic(auto)]
 
 mod advances;

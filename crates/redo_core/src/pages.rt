@@ -29,7 +29,7 @@ impl Model for Page {
 }
 
 impl Page {
-    /// The page that nothing was written to. It fails only if memory runs out.
+    /// A page of zeros. The only error is an allocation failure.
     #[tactic(auto, unfolding(crate::specs::Writing::zeros))]
     pub fn zeros(alloc: Global) -> Result<Self, AllocError>
         ensures { IfOk result (λ p. p ≡ zeros) }
@@ -46,6 +46,7 @@ impl Page {
         Page { bytes }
     }
 
+    /// All 4,096 bytes.
     pub fn bytes(&self) -> &[u8]
         ensures bytes { result.now ≡ self.now }
         ensures len { length self.now ≡ page_len }
@@ -53,7 +54,7 @@ impl Page {
         &self.bytes
     }
 
-    /// An equal page with memory of its own. It fails only if memory runs out.
+    /// An equal page with memory of its own. The only error is an allocation failure.
     pub fn copy(&self) -> Result<Self, AllocError>
         ensures { IfOk result (λ p. p ≡ self.now) }
     {
@@ -91,7 +92,7 @@ fn is_zero_to_end(bytes: &[u8]) -> bool
     true
 }
 
-/// Does a record to a page, patch by patch in listed order: how a segment folds its log into pages.
+/// Applies a record to a page, patch by patch in listed order: how a segment folds its log into pages.
 pub fn apply(redo: &Record, page: &mut Page)
     ensures { page.new ≡ write page.old redo.now }
 {

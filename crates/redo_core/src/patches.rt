@@ -7,14 +7,14 @@ use crate::shapes::PAGE_LEN;
 use crate::writes::Write;
 use std::alloc::AllocError;
 
-/// What a redo record does at one place of its page: a write of bytes, or one byte over a length.
+/// What a redo record does to one range of its page: a write of bytes, or one byte repeated over a length.
 #[derive(Drop)]
 pub enum Patch {
     Bytes(Write),
     Fill { offset: u16, len: u16, byte: u8 },
 }
 
-/// The patches of a redo record, as they are lent: the list of writes that they came in, or the patches.
+/// The borrowed patches of a redo record: the list of writes that it was made of, or the patches.
 #[derive(Clone, Copy)]
 pub enum Body<'a> {
     Writes(&'a [Write]),
@@ -22,14 +22,14 @@ pub enum Body<'a> {
 }
 
 impl Patch {
-    /// An equal patch with memory of its own. It fails only if memory runs out.
+    /// An equal patch with memory of its own. The only error is an allocation failure.
     pub fn copy(&self) -> Result<Self, AllocError>
         ensures { IfOk result (λ p. p ≡ self.now) }
     {
         self.clone()
     }
 
-    /// Whether the other patch is this one. A write of equal bytes is another patch than a fill.
+    /// Whether the other patch equals this one. A write of equal bytes is another patch than a fill.
     pub fn is_same(&self, other: &Patch) -> bool
         ensures { IsTrue result ↔ (self.now ≡ other.now) }
     {
@@ -49,7 +49,7 @@ impl Patch {
 }
 
 impl Patch {
-    /// Whether it has no place in the page.
+    /// Whether it covers no byte of the page.
     pub fn is_empty(&self) -> bool
         ensures { result ≡ is_empty_patch self.now }
     {
@@ -59,7 +59,7 @@ impl Patch {
         }
     }
 
-    /// Whether it goes past the end of its page.
+    /// Whether it extends past the end of its page.
     pub fn is_off_page(&self) -> bool
         ensures { result ≡ is_patch_off_page self.now }
     {
@@ -70,7 +70,7 @@ impl Patch {
         }
     }
 
-    /// Whether a copy of it wants no memory.
+    /// Whether a copy of it allocates nothing.
     pub(crate) fn is_short(&self) -> bool {
         match self {
             Patch::Bytes(w) => w.is_short(),

@@ -6,7 +6,7 @@ use crate::rosters::Roster;
 use std::alloc::{AllocError, Global};
 use std::marker::Model;
 
-/// How far the readers of a log have come: each reader's point, by reader.
+/// Each reader's point, by reader: the LSN below which it no longer reads.
 #[derive(Drop)]
 pub struct ReadPoints {
     by_reader: Vec<u64>,
@@ -24,7 +24,7 @@ impl Model for ReadPoints {
 }
 
 impl ReadPoints {
-    /// A point of 0 for each reader of a roster. It fails only if memory runs out.
+    /// A point of 0 for each reader of a roster. The only error is an allocation failure.
     pub fn new(alloc: Global, roster: Roster) -> Result<Self, AllocError>
         ensures zeros { IfOk result (λ p. p ≡ replicate roster 0) }
         ensures range { IsRoster roster }
@@ -33,7 +33,7 @@ impl ReadPoints {
         Ok(ReadPoints { by_reader })
     }
 
-    /// These points of 1 to 15 readers, reader 1's first. It takes no memory.
+    /// These points of 1 to 15 readers, reader 1's first. It allocates nothing.
     pub fn from_vec(points: Vec<u64>) -> Self
         requires { IsRoster (length points.items) }
         ensures { result ≡ points.items }
@@ -41,7 +41,7 @@ impl ReadPoints {
         ReadPoints { by_reader: points }
     }
 
-    /// Equal points with memory of their own. It fails only if memory runs out.
+    /// Equal points with memory of their own. The only error is an allocation failure.
     pub fn copy(&self) -> Result<Self, AllocError>
         ensures { IfOk result (λ p. p ≡ self.now) }
     {
@@ -72,7 +72,7 @@ impl ReadPoints {
         self.by_reader[usize::from(reader) - 1]
     }
 
-    /// The least point, below which nobody reads any more.
+    /// The least point: no reader reads below it.
     pub fn least(&self) -> u64
         ensures value { result ≡ least self.now }
         ensures range { IsRoster (length self.now) }

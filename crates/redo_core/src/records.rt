@@ -16,11 +16,11 @@ use std::alloc::{AllocError, AllocFailed, Global};
 use std::marker::Model;
 use std::slice;
 
-/// A redo record: patches to one page, with a number, a backlink in the segment's chain and one in the page's.
-/// With `init` its page begins anew, whatever was written to it before.
+/// A redo record: patches to one page, with an LSN, a backlink in the segment's chain and one in the page's.
+/// With `init` its page starts from zeros, whatever was written to it before.
 #[derive(Drop)]
 pub struct Record {
-    // By falling size, so that nothing is padded: logs hold many records.
+    // By falling size, so that nothing is padded: a log stores many records.
     number: u64,
     back: u64,
     block_back: u64,
@@ -43,8 +43,8 @@ impl Model for Record {
 }
 
 impl Record {
-    /// A record of an epoch, with a number from 1, its segment backlink, its page, its block backlink and its writes.
-    /// The error gives the writes back with the first fault of the record's shape.
+    /// A record of an epoch, with an LSN from 1, its segment backlink, its page, its block backlink and its writes.
+    /// The error returns the writes with the first fault of the record's shape.
     pub fn new(
         epoch: u16,
         number: u64,
@@ -75,7 +75,7 @@ impl Record {
         }
     }
 
-    /// The same of a record with patches, which with `init` begins its page anew.
+    /// The same for a record with patches, which with `init` starts its page from zeros.
     pub fn with(
         epoch: u16,
         number: u64,
@@ -107,8 +107,8 @@ impl Record {
         }
     }
 
-    /// The same of a record with one patch, which takes no memory where it is short. None where the record's shape has a fault; the
-    /// only error is lack of memory.
+    /// The same for a record with one patch, which allocates nothing where it is short. None where the record's shape has a fault; the
+    /// only error is an allocation failure.
     pub fn with_one(
         alloc: Global,
         epoch: u16,
@@ -139,7 +139,7 @@ impl Record {
         }
     }
 
-    /// The first fault of the shape that a record of these numbers and writes would have.
+    /// The first fault of the shape that a record with these fields and writes would have.
     pub fn shape_fault(
         number: u64,
         back: u64,
@@ -151,13 +151,14 @@ impl Record {
         first_fault(number, back, block_back, writes_fault(writes))
     }
 
+    /// The writer's epoch, from 0.
     pub fn epoch(&self) -> u16
         ensures { result ≡ self.now.epoch }
     {
         self.epoch
     }
 
-    /// The log sequence number, from 1 to 2^48 - 1.
+    /// The log sequence number (LSN), from 1 to 2^48 - 1.
     pub fn number(&self) -> u64
         ensures value { result ≡ self.now.number }
         ensures positive { 0 < result }
@@ -167,7 +168,7 @@ impl Record {
         self.number
     }
 
-    /// The record's name: its epoch and its number there.
+    /// The record's key: its epoch and its LSN there.
     pub fn key(&self) -> Key
         ensures value { result ≡ key_of self.now }
         ensures shape { record_fault self.now ≡ None }
@@ -178,7 +179,7 @@ impl Record {
         }
     }
 
-    /// The segment backlink: the number before this one in the segment's chain, or 0.
+    /// The segment backlink: the LSN before this one in the segment's chain, or 0.
     pub fn back(&self) -> u64
         ensures value { result ≡ self.now.back }
         ensures below { result < self.now.number }
@@ -186,13 +187,14 @@ impl Record {
         self.back
     }
 
+    /// The number of the page that the record changes.
     pub fn page(&self) -> u16
         ensures { result ≡ self.now.page }
     {
         self.page
     }
 
-    /// The block backlink: the number before this one in the page's chain, or 0.
+    /// The block backlink: the LSN before this one in the page's chain, or 0.
     pub fn block_back(&self) -> u64
         ensures value { result ≡ self.now.block_back }
         ensures ordered { result ≤ self.now.back }
@@ -200,14 +202,14 @@ impl Record {
         self.block_back
     }
 
-    /// Whether the record begins its page anew.
+    /// Whether the record starts its page from zeros.
     pub fn init(&self) -> bool
         ensures { result ≡ self.now.init }
     {
         self.init
     }
 
-    /// The patches, in the order in which they are done.
+    /// The patches, in the order in which they are applied.
     pub fn body(&self) -> Body<'_>
         ensures patches { patches_of result ≡ self.now.patches }
         ensures shape { record_fault self.now ≡ None }
@@ -215,15 +217,15 @@ impl Record {
         self.body.body()
     }
 
-    /// An equal record: with memory of its own, unless this one is shared. It fails only if memory runs out.
+    /// An equal record: with memory of its own, unless this one is shared. The only error is an allocation failure.
     pub fn copy(&self) -> Result<Self, AllocError>
         ensures { IfOk result (λ r. r ≡ self.now) }
     {
         self.clone()
     }
 
-    /// An equal record whose copies share its patches, so that a copy allocates nothing. The only error is lack of memory, and gives
-    /// the record back.
+    /// An equal record whose copies share its patches, so that a copy allocates nothing. The only error is an allocation failure; it
+    /// returns the record.
     pub fn share(self) -> Result<Self, AllocFailed<Self>>
         ensures ok { IfOk result (λ r. r ≡ self) }
         ensures err { IfErr result (λ e. e.value ≡ self) }
@@ -257,7 +259,7 @@ impl Record {
         }
     }
 
-    /// Whether the other record is this one, patch by patch: a fill is another patch than a write of equal bytes.
+    /// Whether the other record equals this one, patch by patch: a fill is another patch than a write of equal bytes.
     pub fn is_same(&self, other: &Record) -> bool
         ensures { IsTrue result ↔ (self.now ≡ other.now) }
     {

@@ -1,4 +1,4 @@
-/// What a refused call hands back: the value that was moved into it, and why it was refused.
+/// What a refused call returns: the value that was moved into it, and why it was refused.
 #[derive(Drop)]
 pub struct Refused<V, F> {
     pub value: V,

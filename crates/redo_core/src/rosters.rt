@@ -26,7 +26,7 @@ impl Model for Roster {
 }
 
 impl Roster {
-    /// A roster of 1 to 15 readers, or the fault of another number.
+    /// A roster of 1 to 15 readers; the error is the fault of another number.
     pub fn new(readers: u8) -> Result<Self, ShapeFault>
         ensures ok { IfOk result (λ r. r ≡ readers) }
         ensures fault { result_err result ≡ roster_fault readers }

@@ -1,7 +1,7 @@
 use std::fmt;
 use thiserror::Error;
 
-/// The greatest log sequence number, point and `hi` of a fact: 2^48 - 1.
+/// The greatest LSN, point and `hi` of a fact: 2^48 - 1.
 pub const MAX_NUMBER: u64 = 281474976710655;
 
 /// The most readers that a roster has.
@@ -16,7 +16,7 @@ pub const MAX_PATCHES: usize = 64;
 /// The most bytes that the writes of a record bring together. Fills bring none.
 pub const MAX_BYTES: usize = 8192;
 
-/// The first fault of a record, a truncation, an advance or a roster, in the order in which faults are looked for.
+/// The first fault of a record, a truncation, an advance or a roster, in the order in which faults are checked.
 #[derive(Clone, Copy, Debug, PartialEq, Eq, Error)]
 pub enum ShapeFault {
     NumberIsZero,

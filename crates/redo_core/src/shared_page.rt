@@ -1,4 +1,4 @@
-//! Pages that do not change any more, where they are kept: an image exists once, however many stores and messages have it.
+//! Immutable pages with shared ownership: an image exists once, however many stores and messages have it.
 
 ghost use Rattle.std.specs.Prelude.{◌≡◌, ◌↔◌, IsTrue, IfOk, IfErr};
 ghost use Rattle.redo_core.specs.Writing.{zeros};
@@ -8,14 +8,14 @@ use std::alloc::{AllocError, AllocFailed, Global};
 use std::marker::Model;
 use std::sync::Arc;
 
-/// A page of 4,096 bytes that does not change any more, for any number of owners.
+/// An immutable page of 4,096 bytes, for any number of owners.
 pub struct SharedPage {
     page: Arc<Page>,
-    // Told once, so that nobody goes over the bytes again.
+    // Computed once, so that no caller scans the bytes again.
     zero: bool,
 }
 
-// Written out, so that what it is to let an owner go is proved here alone.
+// Written out, so that dropping an owner is proved only here.
 impl Drop for SharedPage {
     fn drop(self) {
         let SharedPage {
@@ -38,7 +38,7 @@ impl Model for SharedPage {
 }
 
 impl SharedPage {
-    /// The page with its first owner. The error is lack of memory for a few words beside the bytes, and hands the page back.
+    /// The page with its first owner. The error is an allocation failure for the owner count, and returns the page.
     pub fn new(alloc: Global, page: Page) -> Result<Self, AllocFailed<Page>>
         ensures ok { IfOk result (λ p. p ≡ page) }
         ensures back { IfErr result (λ e. e.value ≡ page) }
@@ -48,13 +48,14 @@ impl SharedPage {
         Ok(SharedPage { page, zero })
     }
 
+    /// The page, borrowed from its owners.
     pub fn page(&self) -> &Page
         ensures { result.now ≡ self.now }
     {
         &*self.page
     }
 
-    /// One owner more of the same page. It takes no memory; the error comes where no more owners can be counted.
+    /// One more owner of the same page. It allocates nothing; the error means that the owner count would overflow.
     pub fn share(&self) -> Result<Self, AllocError>
         ensures { IfOk result (λ p. p ≡ self.now) }
     {
@@ -64,7 +65,7 @@ impl SharedPage {
         })
     }
 
-    /// Whether no byte of the page differs from zero. It costs the same whatever the bytes are.
+    /// Whether no byte of the page differs from zero, in constant time.
     pub fn is_zero(&self) -> bool
         ensures { IsTrue result ↔ (self.now ≡ zeros) }
     {

@@ -20,7 +20,7 @@ impl Model for Write {
 }
 
 impl Write {
-    /// A write of `bytes` from `offset` on. Whether it fits its page is the record's matter.
+    /// A write of `bytes` from `offset` on. The record's constructor checks whether it fits its page.
     pub fn new(offset: u16, bytes: Vec<u8>) -> Self
         ensures { result ≡ record { offset = offset; bytes = bytes.items } }
     {
@@ -30,7 +30,7 @@ impl Write {
         }
     }
 
-    /// A write of a copy of `bytes` from `offset` on: a short one takes no memory. It fails only if memory runs out.
+    /// A write of a copy of `bytes` from `offset` on; a short one allocates nothing. The only error is an allocation failure.
     pub fn of_slice(alloc: Global, offset: u16, bytes: &[u8]) -> Result<Self, AllocError>
         ensures { IfOk result (λ w. w ≡ record { offset = offset; bytes = bytes.now }) }
     {
@@ -40,31 +40,33 @@ impl Write {
         })
     }
 
-    /// The place in the page of the first byte.
+    /// The offset in the page of the first byte.
     pub fn offset(&self) -> u16
         ensures { result ≡ self.now.offset }
     {
         self.offset
     }
 
+    /// The bytes to write, at least one in a record of valid shape.
     pub fn bytes(&self) -> &[u8]
         ensures { result.now ≡ self.now.bytes }
     {
         self.bytes.as_slice()
     }
 
-    /// Whether a copy of it wants no memory.
+    /// Whether a copy of it allocates nothing.
     pub(crate) fn is_short(&self) -> bool {
         self.bytes.is_short()
     }
 
-    /// An equal write with memory of its own. It fails only if memory runs out.
+    /// An equal write with memory of its own. The only error is an allocation failure.
     pub fn copy(&self) -> Result<Self, AllocError>
         ensures { IfOk result (λ w. w ≡ self.now) }
     {
         self.clone()
     }
 
+    /// Whether the other write has the same offset and the same bytes.
     pub fn is_same(&self, other: &Write) -> bool
         ensures { IsTrue result ↔ (self.now ≡ other.now) }
     {
@@ -83,7 +85,7 @@ impl Clone for Write {
     }
 }
 
-// Whether two texts are one. It looks at all bytes, so that they are compared many at once.
+// Whether two byte strings are equal. It reads all bytes, so that the compiler can compare many at once.
 fn are_same_bytes(left: &[u8], right: &[u8]) -> bool
     ensures { IsTrue result ↔ (left.now ≡ right.now) }
 {
