@@ -4,7 +4,7 @@ use Rattle.std.specs.List.{Contains}
 use Rattle.redo_core.specs.Order.{IsRising, Lists}
 use Rattle.redo_core.proofs.Members.{none_in, here, there, which, each, all_of}
 
--- P holds, or not
+-- P or its negation
 abbrev pub Settled : Type 0 → Type 0
 Settled P = P ⊎ (P → ⊥)
 
@@ -64,7 +64,7 @@ within_total f (y ∷ ys) x h =
     ⊎_elim (λ (e : y ≡ x). let q : f y ≡ f x = ap f e in omega arith) (λ (q : Contains ys x). let m : f x ≤ total f ys = within_total f ys x q in omega arith)
     (which y ys x h)
 
--- a list with one more in its place
+-- a list with one more element inserted in order
 pub record Inserts {X : Type 0} (Before : X → X → Type 0) (x : X) (ys zs : List X) : Type 0 where
   pub rising : IsRising Before zs
   pub members : (z : X) → Contains zs z ↔ ((x ≡ z) ⊎ Contains ys z)

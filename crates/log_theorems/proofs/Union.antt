@@ -60,7 +60,7 @@ mattered log F l p k j has le r m =
     (settled_lt k r.epoch))
     m
 
--- an advance that counts is at most its reader's point
+-- an effective advance is at most its reader's point
 pub advance_le : (as' : List AdvanceData) (k reader m : ℕ) → IsPoint as' k reader m → (a : AdvanceData) → Contains as' a → a.epoch ≤ k → a.reader ≡ reader
     → a.point ≤ m
 advance_le as' k reader m g a h e r = g.1 a.point (a, h, e, r, refl)

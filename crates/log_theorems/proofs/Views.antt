@@ -35,7 +35,7 @@ alive_up log part l p k e n has a = record {
   spared = λ c h q m. a.spared c (knows_cuts log part l p k has c h m) q m;
 }
 
--- of two records of one view the one of the later epoch has the greater number
+-- of two records of one view the one of the later epoch has the greater LSN
 pub later_above : {roster : ℕ} (log : List Fact) → IsLog roster log → (k : ℕ) → HasCutsTo (cuts log) k → (r s : RecordData)
     → IsAlive (cuts log) k r.epoch r.number → IsAlive (cuts log) k s.epoch s.number → s.epoch < r.epoch → s.number < r.number
 later_above log l k has r s ar as' lt =
@@ -46,7 +46,7 @@ later_above log l k has r s ar as' lt =
     let d : c.0.lo ≤ c.0.hi = (l.cut_order c.0 c.1).1 in
     omega arith
 
--- two alive records never share a number
+-- two alive records never share an LSN
 pub alone : {roster : ℕ} (log : List Fact) → IsLog roster log → (k : ℕ) → HasCutsTo (cuts log) k → (r s : RecordData) → Contains (records log) r
     → Contains (records log) s → IsAlive (cuts log) k r.epoch r.number → IsAlive (cuts log) k s.epoch s.number → r.number ≡ s.number → r ≡ s
 alone log l k has r s hr hs ar as' e =
@@ -69,7 +69,7 @@ alive_then log l k has r s ar as' lt = record {
   spared = λ c h q m. as'.spared c h q (let t : r.epoch ≤ k = ar.known in omega arith);
 }
 
--- Up to a linked number, each record of the log that is alive in the part's view is a linked record of the part.
+-- Up to a linked LSN, each record of the log that is alive in the part's view is a linked record of the part.
 pub linked_below : {roster : ℕ} (log part : List Fact) → IsLog roster log → IsPart part log → (k : ℕ) → HasCutsTo (cuts part) k → (n : ℕ) → IsLinked part k n
     → (s : RecordData) → Contains (records log) s → IsAlive (cuts log) k s.epoch s.number → s.number ≤ n → IsLinkedRecord part k s
 linked_below log part l p k has n start s hs as' m = absurd (let x = (l.backs s hs).0 in omega (arith, x))
@@ -178,7 +178,7 @@ standing_stays log F l p k m j a le has e n small = (
 pub alive_down : (log part : List Fact) → IsPart part log → (k e n : ℕ) → IsAlive (cuts log) k e n → IsAlive (cuts part) k e n
 alive_down log part p k e n a = alive_within (cuts part) (cuts log) (part_cuts part log p) k e n a
 
--- a number linked at or below the minimum is linked in every larger part
+-- an LSN linked at or below the minimum is linked in every larger part
 pub linked_stays : {roster : ℕ} (log F G : List Fact) → IsLog roster log → IsPart F G → IsPart G log → (k m j : ℕ) → HasCutsTo (cuts F) k
     → IsMin roster (advances F) k m → k ≤ j → HasCutsTo (cuts G) j → (n : ℕ) → n ≤ m → IsLinked F k n → IsLinked G j n
 linked_stays log F G l p q k m j has a le hasj n small start = start

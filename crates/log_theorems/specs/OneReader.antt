@@ -10,7 +10,7 @@ use Rattle.redo_core.specs.Sound.{counted, Law5}
 use Rattle.redo_core.specs.declared.facts.Fact.{Fact}
 use Rattle.redo_core.specs.declared.facts.Fact.TheVariants.{Advance}
 
--- The minimum read point is the greatest point of an advance that counts.
+-- The minimum read point is the greatest point of an effective advance.
 abbrev pub OneReader : Type 0
 OneReader = (facts : List Fact) (p : Position) → IsPosition 1 facts p → (p.points ≡ p.min ∷ []) × IsPoint (advances facts) p.epoch 1 p.min
 

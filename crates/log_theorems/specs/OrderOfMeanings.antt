@@ -11,14 +11,14 @@ use Rattle.redo_core.specs.Meaning.{Meaning, IsMeaning}
 use Rattle.redo_core.specs.AtMost.{IsAtMost}
 use Rattle.redo_core.specs.declared.facts.Fact.{Fact}
 
--- Parts of one meaning have one meaning after a union with the same part.
+-- Parts of one meaning still have one meaning after a union with the same part.
 abbrev pub Congruence : Type 0
 Congruence =
     (roster : ℕ) (log part other more : List Fact) (m u : Meaning)
     → IsSound roster log → IsPart part log → IsPart other log → IsPart more log
     → IsMeaning roster part m → IsMeaning roster other m → IsMeaning roster (part ++ more) u → IsMeaning roster (other ++ more) u
 
--- Meaning y covers meaning x, where k is y's complete epoch: it has all of x that is neither dead nor settled in y.
+-- Meaning y covers meaning x, where k is y's complete epoch: it has all of x that is neither dead nor stable in y.
 pub record CoversAt (k : ℕ) (y x : Meaning) : Type 0 where
   pub epoch : IsCompleteEpoch y.cuts k
   pub cuts : IsPart x.cuts y.cuts
@@ -31,14 +31,14 @@ pub record CoversAt (k : ℕ) (y x : Meaning) : Type 0 where
 abbrev pub Covers : Meaning → Meaning → Type 0
 Covers y x = (k : ℕ) × CoversAt k y x
 
--- Meanings, compared by themselves, are in the order of parts of the log.
+-- The order of meanings, which is defined on them alone, is the order of parts of the log.
 abbrev pub OrderByParts : Type 0
 OrderByParts =
     (roster : ℕ) (log part other : List Fact) (x y : Meaning)
     → IsSound roster log → IsPart part log → IsPart other log → IsMeaning roster part x → IsMeaning roster other y
     → Covers y x ↔ IsAtMost roster log x y
 
--- The meaning of a union is the least that is above both.
+-- The meaning of a union is the least upper bound of both.
 abbrev pub LeastUpperBound : Type 0
 LeastUpperBound =
     (roster : ℕ) (log part other : List Fact) (x y u : Meaning)
@@ -55,6 +55,6 @@ Associativity = (roster : ℕ) (x y z : List Fact) (m : Meaning) → IsMeaning r
 abbrev pub Commutativity : Type 0
 Commutativity = (roster : ℕ) (x y : List Fact) (m : Meaning) → IsMeaning roster (x ++ y) m ↔ IsMeaning roster (y ++ x) m
 
--- Nor on how often each is taken.
+-- Nor on how often each occurs.
 abbrev pub Idempotence : Type 0
 Idempotence = (roster : ℕ) (x : List Fact) (m : Meaning) → IsMeaning roster (x ++ x) m ↔ IsMeaning roster x m

@@ -1,4 +1,4 @@
--- A place that a quorum of parts has reached is reached by every union that meets the quorum.
+-- A position that a quorum of parts has reached is reached by every union that meets the quorum.
 use Rattle.std.specs.Prelude.{◌≡◌, ℕ, ◌+◌, ◌<◌, ◌≤◌, ◌⊎◌, Bool, true, false, List, [], ◌∷◌, ◌++◌, length}
 use Rattle.std.specs.List.{AllByRecursion, AllZip}
 use Rattle.redo_core.specs.Sets.{IsPart}

@@ -11,14 +11,14 @@ use Rattle.redo_core.specs.LogFront.{IsLogFront}
 use Rattle.redo_core.specs.Sound.{IsSound}
 use Rattle.redo_core.specs.declared.facts.Fact.{Fact}
 
--- Up to a linked number, the linked records of a part are the log's records that are alive in the part's view.
+-- Up to a linked LSN, the linked records of a part are the log's records that are alive in the part's view.
 abbrev pub Prefix : Type 0
 Prefix =
     (roster : ℕ) (log part : List Fact) (p : Position) (n : ℕ) (r : RecordData)
     → IsSound roster log → IsPart part log → IsPosition roster part p → IsLinked part p.epoch n → r.number ≤ n
     → IsLinkedRecord part p.epoch r ↔ (Contains (records log) r × IsAlive (cuts log) p.epoch r.epoch r.number)
 
--- What is linked at or below the anchor of a part is so in every larger part, and the anchor never falls.
+-- What is linked at or below the anchor of a part is linked in every larger part, and the anchor never falls.
 abbrev pub Finality : Type 0
 Finality =
     (roster : ℕ) (log part larger : List Fact) (p q : Position)

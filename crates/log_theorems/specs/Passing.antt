@@ -1,4 +1,4 @@
--- Truncations that all readers are past, by numbers alone: what a checker computes.
+-- Truncations that all readers are past, by LSNs alone: what a checker computes.
 use Rattle.std.specs.Prelude.{ℕ, ◌-◌, ◌<◌, ◌≤◌, ◌↔◌, List}
 use Rattle.std.specs.List.{Contains}
 use Rattle.redo_core.specs.Data.{CutData, AdvanceData}
@@ -9,14 +9,14 @@ use Rattle.redo_core.specs.Past.{ArePast}
 use Rattle.redo_core.specs.Sound.{counted}
 use Rattle.redo_core.specs.declared.facts.Fact.{Fact}
 
--- All readers are past a truncation just where its lo is below the least of their points by the advances of earlier epochs.
+-- All readers are past a truncation exactly where its lo is below the least of their points by the advances of earlier epochs.
 abbrev pub PastByPoints : Type 0
 PastByPoints =
     (roster : ℕ) (given : List AdvanceData) (c : CutData) (points : List ℕ)
     → 1 ≤ roster → 0 < c.epoch → ArePoints roster given (c.epoch - 1) points
     → ArePast roster given c ↔ (c.lo < least points)
 
--- No advance of a log is cut below by a later truncation that all readers are past, just where there is no such truncation.
+-- No advance of a log is cut below by a later truncation that all readers are past, exactly where there is no such truncation.
 abbrev pub NonePassed : Type 0
 NonePassed =
     (roster : ℕ) (log : List Fact) → 1 ≤ roster

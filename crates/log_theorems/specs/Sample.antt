@@ -1,4 +1,4 @@
--- A small log that is sound, so that the laws say something.
+-- A small sound log, so that the theorems are not vacuous.
 use Rattle.std.specs.Prelude.{false, List, [], ◌∷◌}
 use Rattle.redo_core.specs.declared.facts.Fact.{Fact}
 use Rattle.redo_core.specs.declared.facts.Fact.TheVariants.{Record, Cut, Advance}

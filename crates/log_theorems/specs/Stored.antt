@@ -5,7 +5,7 @@ use Rattle.redo_core.specs.Order.{IsRising}
 use Rattle.redo_core.specs.Writing.{zeros}
 use Rattle.redo_core.specs.Store.{Store, StoredImage, PageBefore, version_of, image_of}
 
--- A page's version and image are those of its stored image; where it has none they are the floor and zeros.
+-- A page's version and image are those of its stored image; where it has none they are the default version and zeros.
 abbrev pub StoredImages : Type 0
 StoredImages =
     (store : Store) → IsRising PageBefore store.images

@@ -1,4 +1,4 @@
--- Positions, pages and meanings exist, are unique, and depend on the members of a set alone; a log has one first fault at most.
+-- Positions, pages and meanings exist, are unique, and depend only on the members of a set; a log has at most one first fault.
 use Rattle.std.specs.Prelude.{◌≡◌, ℕ, ◌↔◌, List}
 use Rattle.redo_core.specs.Sets.{IsPart, SameSet, cuts}
 use Rattle.redo_core.specs.CompleteEpoch.{HasCutsTo}
@@ -11,7 +11,7 @@ use Rattle.redo_core.specs.Fault.{IsFirstFault}
 use Rattle.redo_core.specs.declared.facts.Fact.{Fact}
 use Rattle.redo_core.specs.declared.laws.Law.{Law}
 
--- there is an x with P, and no other
+-- there is exactly one x with P
 abbrev pub IsOne : {X : Type 0} → (X → Type 0) → Type 0
 IsOne {X} P = (x : X) × P x × ((y : X) → P y → y ≡ x)
 
@@ -29,7 +29,7 @@ OnePage =
 abbrev pub OneMeaning : Type 0
 OneMeaning = (roster : ℕ) (log part : List Fact) → IsSound roster log → IsPart part log → IsOne (IsMeaning roster part)
 
--- Two lists of the same facts have the same positions, linked numbers, pages and meanings.
+-- Two lists of the same facts have the same positions, linked LSNs, pages and meanings.
 pub record AgreeOn (facts same : List Fact) : Type 0 where
   pub positions : (roster : ℕ) (p : Position) → IsPosition roster facts p ↔ IsPosition roster same p
   pub linked : (k n : ℕ) → IsLinked facts k n ↔ IsLinked same k n
@@ -47,7 +47,7 @@ OneAnswer =
     → IsMeaning roster part m → IsMeaning roster other m → IsPosition roster part p → IsPosition roster other q
     → (p ≡ q) × ((page point : ℕ) (image : List ℕ) → IsPageAt part p.epoch page point image ↔ IsPageAt other q.epoch page point image)
 
--- A log has one first fault at most.
+-- A log has at most one first fault.
 abbrev pub OneFault : Type 0
 OneFault =
     (roster : ℕ) (log : List Fact) (place other : ℕ) (law another : Law)

@@ -1,10 +1,10 @@
-//! The laws of what sets of facts mean, over the definitions alone: each is a function with an empty body, and its contract is
-//! the law.
+//! Theorems about what sets of facts mean, from the definitions alone: each is a function with an empty body, and its contract is
+//! the theorem.
 //!
 //! A part of a sound log knows its own prefix of the log (prefix), what it knows up to its anchor is final (finality), its front and
-//! its pages up to its complete point are the whole log's (front of part, page of part), and a meaning stands for its part in every
-//! union, order and answer (congruence, order by parts, least upper bound, answers). A quorum's place is kept by every union that meets
-//! it (overlap). The other laws say that the definitions are well formed.
+//! its pages up to its complete point are the whole log's (front of part, page of part), and a meaning represents its part in every
+//! union, order and read (congruence, order by parts, least upper bound, answers). A quorum's position is kept by every union that
+//! meets it (overlap). The other theorems state that the definitions are well formed.
 #![tactic(auto)]
 
 ghost use Rattle.log_theorems.specs.OrderOfMeanings.{Congruence, OrderByParts, LeastUpperBound, Associativity, Commutativity, Idempotence};
@@ -16,7 +16,7 @@ ghost use Rattle.log_theorems.specs.Sample.{SampleIsSound};
 ghost use Rattle.log_theorems.specs.Stored.{StoredImages};
 ghost use Rattle.log_theorems.specs.WellFormed.{OnePosition, OnePage, OneMeaning, OnlyMembersCount, OneAnswer, OneFault, NoFault};
 
-/// Up to a linked number, a part of a sound log has every record of the log that is alive in the part's view.
+/// Up to a linked LSN, a part of a sound log has every record of the log that is alive in the part's view.
 pub fn prefix()
     ensures { Prefix }
 {}
@@ -36,17 +36,17 @@ pub fn page_of_part()
     ensures { PageOfPart }
 {}
 
-/// Two parts of one meaning have one meaning after a union with the same facts.
+/// Two parts of one meaning still have one meaning after a union with the same facts.
 pub fn congruence()
     ensures { Congruence }
 {}
 
-/// One meaning covers another exactly where it means a part of the log that holds a part of the other meaning.
+/// One meaning covers another exactly where it means a part of the log that contains a part of the other meaning.
 pub fn order_by_parts()
     ensures { OrderByParts }
 {}
 
-/// The meaning of a union is the least meaning that is at or above both.
+/// The meaning of a union is the least upper bound of both meanings.
 pub fn least_upper_bound()
     ensures { LeastUpperBound }
 {}
@@ -66,7 +66,7 @@ pub fn idempotence()
     ensures { Idempotence }
 {}
 
-/// A meaning fixes the position and every page of each part that has it.
+/// A meaning determines the position and every page of each part that has it.
 pub fn answers()
     ensures { OneAnswer }
 {}
@@ -91,18 +91,18 @@ pub fn only_members_count()
     ensures { OnlyMembersCount }
 {}
 
-/// A log has at most one first fault, the least place that breaks a law with the least law that it breaks; a sound log has none.
+/// A log has at most one first fault, the least index that breaks a law with the least law that it breaks; a sound log has none.
 pub fn one_fault()
     ensures one { OneFault }
     ensures none { NoFault }
 {}
 
-/// Where a quorum of parts has reached a place, so has the union of every choice of parts that is sure to meet the quorum.
+/// Where a quorum of parts has reached a position, so has the union of every choice of parts that is sure to meet the quorum.
 pub fn overlap()
     ensures { Overlap }
 {}
 
-/// With one reader, the minimum read point is the greatest point that counts.
+/// With one reader, the minimum read point is the greatest effective point.
 pub fn one_reader()
     ensures { OneReader }
 {}
@@ -122,12 +122,12 @@ pub fn none_passed()
     ensures { NonePassed }
 {}
 
-/// Among images that rise by page, a page's version and image are those of its stored image, or the floor and zeros.
+/// Among images that rise by page, a page's version and image are those of its stored image, or the default version and zeros.
 pub fn stored_images()
     ensures { StoredImages }
 {}
 
-/// A log with a fact of each kind is sound, so the laws are not empty.
+/// A log with a fact of each kind is sound, so the theorems are not vacuous.
 pub fn sample_is_sound()
     ensures { SampleIsSound }
 {}
