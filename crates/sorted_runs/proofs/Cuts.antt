@@ -32,7 +32,7 @@ module _ {K V : Type 0} (test : K → Bool) where
   cut_end : ((q : K) → test q ≡ false) → (es : List (K × V)) (n : ℕ) → n ≡ length es → IsCut test es n
   cut_end never es n e = grind (arith, common_steps, all_so)
 
-  -- behind the last entry of the last run
+  -- after the last entry of the last run
   pub cut_last : ((q : K) → test q ≡ false) → (vs : List (Vec (K × V))) (r n : ℕ) (d : Vec (K × V)) → suc r ≡ length vs → n ≡ length (get_or vs r d).items → IsCut test (entries vs) (offset vs r n)
   cut_last never vs r n d last long =
       let run = (get_or vs r d).items in
@@ -48,7 +48,7 @@ module _ {K V : Type 0} (test : K → Bool) where
       no_more (x ∷ l) zero le = absurd (omega arith)
       no_more (x ∷ l) (suc m) le = no_more l m (omega arith)
 
--- the places of a key, and behind it
+-- the positions of a key, and after it
 module _ {K V : Type 0} {R : K → K → Ordering} (o : IsTotalOrder R) (k : K) (fs : List K) (vs : List (Vec (K × V))) (len : ℕ) (inv : IsRuns R fs vs len) (r : ℕ) (at : IsRunFor R fs k r) (d : Vec (K × V)) (dv : d ≡ get_or vs r d) (l : List (K × V)) (ld : l ≡ d.items) where
   abbrev run : List (K × V)
   run = (get_or vs r d).items

@@ -6,7 +6,7 @@ use Rattle.std.specs.Ordering.{is_lt}
 use Rattle.std.specs.declared.cmp.Ordering.{Ordering}
 use Rattle.sorted_runs.specs.Places.{IsRunFor}
 
--- what holds from the place i on holds of each that is left
+-- a property of what is from the index i on is one of each that is left
 pub left : {X : Type 0} (P : X → Type 0) (xs : List X) (i : ℕ) → ((j : ℕ) (d : X) → i ≤ j → j < length xs → P (get_or xs j d)) → AllByRecursion P (drop i xs)
 left P [] zero h = tt
 left P (x ∷ xs) zero h = (h 0 x (omega arith) (omega arith), left P xs zero (λ j d le in_range. h (suc j) d (omega arith) (omega arith)))

@@ -1,4 +1,4 @@
--- What taking entries out between two places is to all entries.
+-- The effect on all entries of a removal between two positions.
 use Rattle.std.proofs.Common.{◌≡◌, ℕ, zero, suc, ◌+◌, ◌-◌, ◌<◌, ◌≤◌, max, List, [], ◌∷◌, ◌++◌, length, get_or, set, take, drop, sym, ap, ◌∙◌, subst, refl, arith, append_assoc, length-append, rules}
 use Rattle.std.proofs.lemmas.Grind.{common_steps}
 use Rattle.std.specs.Global.{Vec}
@@ -21,7 +21,7 @@ module _ {X : Type 0} where
   drop_in : (xs ys : List X) (q : ℕ) → q ≤ length xs → drop q (take q xs ++ ys) ≡ ys
   drop_in xs ys q in_range = grind (arith, common_steps)
 
-  -- what is taken out up to a place, and then from an earlier place on up to it
+  -- what is removed up to a position, and then from an earlier position up to it
   cut_twice : (xs : List X) (p q r : ℕ) → p ≤ q → q ≤ length xs → remove_range (remove_range xs q r) p q ≡ remove_range xs p r
   cut_twice xs p q r le in_range = ap (λ l. l ++ drop q (remove_range xs q r)) (take_in xs (drop r xs) p q le in_range) ∙ ap (λ l. take p xs ++ l) (drop_in xs (drop r xs) q in_range)
 
@@ -35,7 +35,7 @@ module _ {K V : Type 0} where
   starts_range : (f : K) (es : List (K × V)) (i j : ℕ) → StartsWith f es → (i ≡ 0 → ⊥) → StartsWith f (remove_range es i j)
   starts_range f es i j s ne = search rules
 
-  -- a place in a run is none behind the last entry
+  -- a position in a run is not after the last entry
   pub place_within : (vs : List (Vec (K × V))) (r j : ℕ) (d : Vec (K × V)) → r < length vs → j ≤ length (get_or vs r d).items → offset vs r j ≤ length (entries vs)
   place_within vs r j d lt le =
       let run = (get_or vs r d).items in
@@ -219,7 +219,7 @@ module _ {K V : Type 0} where
         ∙ ap (λ l. remove_range l p q) (middle ∙ ap (λ (m : ℕ). remove_range (entries one) m (offset one b 0)) at_q ∙ ap (λ (m : ℕ). remove_range (entries one) q m) at_r ∙ ap (λ l. remove_range l q r) last ∙ cut_twice (entries vs) q r s q_r r_in)
         ∙ cut_twice (entries vs) p q s (omega arith) (omega arith)
 
--- places in order, and places that cross
+-- positions in order, and positions that cross
 module _ {K V : Type 0} (vs : List (Vec (K × V))) where
   pub over_rises : (r i s j : ℕ) (d : Vec (K × V)) → r < s → s < length vs → i ≤ length (get_or vs r d).items → offset vs r i ≤ offset vs s j
   over_rises r i s j d lt within inside = search (rules, behind_run, offset_rises)

@@ -144,7 +144,7 @@ module _ {K V : Type 0} {R : K → K → Ordering} (o : IsTotalOrder R) (k : K) 
   rises_drop [] (suc r) h = tt
   rises_drop (v ∷ vs) (suc r) h = rises_drop vs r (rises_last R v.items (entries vs) h)
 
-  -- the runs around the one in which k has its place
+  -- the runs around the one in which k has its position
   module _ (fs : List K) (vs : List (Vec (K × V))) (len : ℕ) (inv : IsRuns R fs vs len) where
     rises : Rises R (entries vs)
     rises = rises_from R (entries vs) inv.rising
@@ -163,7 +163,7 @@ module _ {K V : Type 0} {R : K → K → Ordering} (o : IsTotalOrder R) (k : K) 
     pub after_run : (r : ℕ) → IsRunFor R fs k r → Precedes R k (entries (drop (suc r) vs))
     after_run r at = runs_after (drop (suc r) fs) (drop (suc r) vs) (headed_drop fs vs (suc r) inv.headed) (rises_drop vs (suc r) rises) at.passed
 
--- what a key is to the entries before and after its place
+-- how a key compares with the entries before and after its position
 module _ {K V : Type 0} (R : K → K → Ordering) (k : K) where
   pub lookup_past : (xs ys : List (K × V)) → Passes R k xs → lookup (is_at (R k)) (xs ++ ys) ≡ lookup (is_at (R k)) ys
   lookup_past [] ys h = refl
@@ -215,7 +215,7 @@ one_more a b x = grind (arith, common_steps)
 pub take_long : {X : Type 0} (xs : List X) (n : ℕ) → n ≤ length xs → length (take n xs) ≡ n
 take_long xs n le = search rules
 
--- the place of a key among all entries, from its place in its run
+-- the position of a key among all entries, from its position in its run
 module _ {K V : Type 0} {R : K → K → Ordering} (o : IsTotalOrder R) (k : K) (fs : List K) (vs : List (Vec (K × V))) (len : ℕ) (inv : IsRuns R fs vs len) (r : ℕ) (at : IsRunFor R fs k r) where
   pub in_runs : r < length vs
   in_runs = let e = as_many fs vs inv.headed in let w = at.within in omega arith

@@ -1,4 +1,4 @@
--- The entries between two places, and the iterator's three parts.
+-- The entries between two positions, and the iterator's three parts.
 use Rattle.std.proofs.Common.{◌≡◌, ℕ, zero, suc, ◌+◌, ◌-◌, ◌<◌, ◌≤◌, ◌⊎◌, ⊎_elim, List, [], ◌∷◌, ◌++◌, length, get_or, take, drop, sym, ap, ◌∙◌, refl, arith, append_assoc, length-append, Option, Some, None, rules}
 use Rattle.std.proofs.lemmas.Grind.{common_steps}
 use Rattle.std.specs.Global.{Vec}
@@ -48,7 +48,7 @@ module _ {K V : Type 0} (vs : List (Vec (K × V))) (d : Vec (K × V)) where
       ∙ ap (λ (l : List (Vec (K × V))). entries l ++ ((get_or (take s vs) r d).items ++ rest)) (take_take vs r s lt)
       ∙ ap (λ (v : Vec (K × V)). entries (take r vs) ++ (v.items ++ rest)) (at_take vs r s d lt)
 
-  -- what is up to a place
+  -- what is before a position
   taken_to : (s j : ℕ) → s < length vs → j ≤ length (get_or vs s d).items → take (offset vs s j) (entries vs) ≡ entries (take s vs) ++ take j (get_or vs s d).items
   taken_to s j lt le =
       let run = (get_or vs s d).items in
@@ -57,7 +57,7 @@ module _ {K V : Type 0} (vs : List (Vec (K × V))) (d : Vec (K × V)) where
       ∙ take_past (entries (take s vs)) (run ++ back) (offset vs s j) j refl
       ∙ ap (λ l. entries (take s vs) ++ l) (take_within run back j le)
 
-  -- what is from a place on
+  -- what is from a position on
   dropped_from : (r i : ℕ) → r < length vs → i ≤ length (get_or vs r d).items → drop (offset vs r i) (entries vs) ≡ drop i (get_or vs r d).items ++ entries (drop (suc r) vs)
   dropped_from r i lt le =
       let run = (get_or vs r d).items in
@@ -67,7 +67,7 @@ module _ {K V : Type 0} (vs : List (Vec (K × V))) (d : Vec (K × V)) where
       ∙ drop_within run back i le
 
   module _ (r i s j : ℕ) (below : s < length vs) (inside : j ≤ length (get_or vs s d).items) where
-    -- a place in an earlier run and one in a later run
+    -- a position in an earlier run and one in a later run
     between_runs : r < s → i ≤ length (get_or vs r d).items → drop (offset vs r i) (take (offset vs s j) (entries vs)) ≡ drop i (get_or vs r d).items ++ (entries (drop (suc r) (take s vs)) ++ take j (get_or vs s d).items)
     between_runs lt le =
         let front = entries (take r vs) in
@@ -79,7 +79,7 @@ module _ {K V : Type 0} (vs : List (Vec (K × V))) (d : Vec (K × V)) where
         ∙ ap (λ l. drop i l) (append_assoc run mid last)
         ∙ drop_within run (mid ++ last) i le
 
-    -- two places of one run
+    -- two positions in one run
     between_same : r ≡ s → drop (offset vs r i) (take (offset vs s j) (entries vs)) ≡ drop i (take j (get_or vs s d).items)
     between_same same = search (rules, taken_to, drop_past)
 
@@ -152,7 +152,7 @@ walked_on front middle rest run back new all is none same whole = grind (arith, 
 pub walked_back : {K V : Type 0} (front : List (K × V)) (middle rest : List (Vec (K × V))) (run : Vec (K × V)) (back new all : List (K × V)) → middle ≡ rest ++ run ∷ [] → length back ≡ 0 → new ≡ run.items → front ++ (entries middle ++ back) ≡ all → front ++ (entries rest ++ new) ≡ all
 walked_back front middle rest run back new all is none same whole = grind (arith, common_steps, entries_push)
 
--- nothing stands in the middle and behind it
+-- nothing is in the middle and after it
 none_behind : {K V : Type 0} (middle : List (Vec (K × V))) (back : List (K × V)) → length middle ≡ 0 → length back ≡ 0 → entries middle ++ back ≡ []
 none_behind [] [] a b = refl
 none_behind [] (e ∷ es) a b = absurd (omega arith)
@@ -164,7 +164,7 @@ none_before [] (v ∷ vs) a b back = absurd (omega arith)
 none_before (e ∷ es) middle a b back = absurd (omega arith)
 
 module _ {K V : Type 0} (front : List (K × V)) (middle : List (Vec (K × V))) (back rest all : List (K × V)) (e : K × V) (whole : front ++ (entries middle ++ back) ≡ all) where
-  -- the last entry comes off the back, or off the front where nothing is behind it
+  -- the last entry is taken from the back, or from the front where nothing follows it
   pub last_of_back : back ≡ rest ++ e ∷ [] → all ≡ (front ++ (entries middle ++ rest)) ++ e ∷ []
   last_of_back is =
       sym whole ∙ ap (λ l. front ++ (entries middle ++ l)) is
@@ -177,7 +177,7 @@ module _ {K V : Type 0} (front : List (K × V)) (middle : List (Vec (K × V))) (
       sym whole ∙ ap (λ l. front ++ l) none ∙ append-nil front ∙ is
       ∙ ap (λ l. l ++ e ∷ []) (sym (ap (λ l. rest ++ l) none ∙ append-nil rest))
 
-  -- the first entry comes off the front, or off the back where nothing is before it
+  -- the first entry is taken from the front, or from the back where nothing is before it
   pub first_of_front : front ≡ e ∷ rest → all ≡ e ∷ (rest ++ (entries middle ++ back))
   first_of_front is = sym whole ∙ ap (λ l. l ++ (entries middle ++ back)) is
 
@@ -186,7 +186,7 @@ module _ {K V : Type 0} (front : List (K × V)) (middle : List (Vec (K × V))) (
       let none = none_before front middle a b in
       sym whole ∙ none back ∙ is ∙ ap (λ l. e ∷ l) (sym (none rest))
 
--- an entry that comes off leaves one less, and where none comes the walk is over
+-- an entry that is taken leaves one less, and where none is left the iteration ends
 module _ {A X : Type 0} where
   pub none_more : (s t : List X) (r : Option A) → r ≡ None → MakesProgress (λ (l : List X). Unit {0}) (λ (l : List X). at_most (length l)) s r t
   none_more s t r e = search rules

@@ -1,4 +1,4 @@
--- What an edit at the place of a key is to all entries.
+-- The effect on all entries of an edit at the position of a key.
 use Rattle.std.proofs.Common.{◌≡◌, ℕ, zero, suc, ◌+◌, ◌<◌, ◌≤◌, List, [], ◌∷◌, ◌++◌, length, get_or, set, take, drop, sym, ap, ◌∙◌, subst, refl, arith, append_assoc, length-append, Some, None, Bool, rules, IsTrue, false}
 use Rattle.std.proofs.lemmas.Grind.{common_steps}
 use Rattle.std.specs.Global.{Vec}
@@ -53,7 +53,7 @@ module _ {K V : Type 0} {R : K → K → Ordering} (o : IsTotalOrder R) (k : K) 
   pub shape : IsShaped fs vs
   shape = record { headed = inv.headed; bounded = inv.bounded }
 
-  -- a value is written over at the key
+  -- the value of the key is replaced
   pub wrote : (i : ℕ) (e : K × V) (v : V) (w : Vec (K × V)) → IsFoundAt R (get_or vs r d).items k i → w.items ≡ set (get_or vs r d).items i ((get_or (get_or vs r d).items i e).0, v) → (entries (set vs r w) ≡ insert_entry R (entries vs) k v) × IsRuns R fs (set vs r w) len
   wrote i e v w hit is =
       let run = (get_or vs r d).items in

@@ -71,7 +71,7 @@ module _ {K V : Type 0} where
   starts_insert : (f : K) (es : List (K × V)) (i : ℕ) (e : K × V) → StartsWith f es → (i ≡ 0 → ⊥) → StartsWith f (insert es i e)
   starts_insert f es i e s ne = search rules
 
-  -- an entry has come into the run r, behind its first
+  -- an entry has been inserted into the run r, after its first
   pub added_behind : (fs : List K) (vs : List (Vec (K × V))) (r i : ℕ) (e : K × V) (d w : Vec (K × V)) → IsShaped fs vs → r < length vs → i ≤ length (get_or vs r d).items → length (get_or vs r d).items < FULL → w.items ≡ insert (get_or vs r d).items i e → (i ≡ 0 → ⊥) → IsShaped fs (set vs r w)
   added_behind fs vs r i e d w h lt le room is ne = grind (arith, common_steps, headed_keep, starts_insert, bounded_set)
 
@@ -109,7 +109,7 @@ module _ {K V : Type 0} where
       ∙ sym (insert_in front back (offset vs r 0) e (omega arith))
       ∙ ap (λ l. insert l (offset vs r 0) e) (sym (entries_cut vs r))
 
-  -- the place behind a run is the first of the next
+  -- the position after a run is the first of the next
   pub gains_behind : (vs new : List (Vec (K × V))) (r i : ℕ) (e : K × V) (d : Vec (K × V)) → r < length vs → i ≡ length (get_or vs r d).items → GainsAt vs (r + 1) 0 e new → GainsAt vs r i e new
   gains_behind vs new r i e d lt end is =
       let up_to = ap (λ l. length l) (entries_up_to vs r d lt) in

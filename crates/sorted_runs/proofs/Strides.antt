@@ -1,4 +1,4 @@
--- A search that goes over a run in strides, and then entry by entry.
+-- A search that scans a run in strides, and then entry by entry.
 use Rattle.std.proofs.Common.{◌≡◌, ℕ, zero, suc, ◌+◌, ◌<◌, ◌≤◌, List, [], ◌∷◌, length, get_or, take, drop, sym, ap, ◌∙◌, subst, refl, arith, false, IsTrue, rules}
 use Rattle.std.proofs.lemmas.Grind.{common_steps}
 use Rattle.std.specs.List.{AllByRecursion}
@@ -31,7 +31,7 @@ module _ {K V : Type 0} {R : K → K → Ordering} (o : IsTotalOrder R) (k : K) 
     below_it es n x (omega arith) at not h.1,
   )
 
-  -- all behind an entry that is not below the key
+  -- all after an entry that is not below the key
   above_it : (es : List (K × V)) (n : ℕ) (x : K × V) (p : Ordering) → n < length es → x ≡ get_or es n x → R k x.0 ≡ p → (p ≡ Greater → ⊥) → Rises R es → Precedes R k (drop (suc n) es)
   above_it [] n x p lt at is not h = absurd (omega arith)
   above_it (y ∷ es) zero x Less lt at is not h =

@@ -1,4 +1,4 @@
--- Where a key stands among the first keys of runs, and within a run.
+-- The position of a key among the first keys of runs, and within a run.
 use Rattle.std.specs.Prelude.{◌≡◌, ℕ, suc, ◌<◌, ◌≤◌, ◌⊎◌, Bool, true, false, cond, List, length, take, drop, slice_index_or}
 use Rattle.std.specs.List.{AllByRecursion}
 use Rattle.std.specs.Ordering.{is_le, is_lt}
@@ -26,17 +26,17 @@ pub record IsFoundAt {K V : Type 0} (cmp : K → K → Ordering) (es : List (K �
   pub here : (d : K × V) → cmp key (slice_index_or es i d).0 ≡ Equal
   pub after : Precedes cmp key (drop (suc i) es)
 
--- no entry has the key, whose place is i
+-- no entry has the key, whose position is i
 pub record IsGap {K V : Type 0} (cmp : K → K → Ordering) (es : List (K × V)) (key : K) (i : ℕ) : Type 0 where
   pub within : i ≤ length es
   pub before : Passes cmp key (take i es)
   pub after : Precedes cmp key (drop i es)
 
--- whether a key that compares so is behind a place: at it or above, or only above where the place is past it
+-- whether a key that compares so is after a position: at it or above, or only above where the position is past it
 abbrev pub is_after : Bool → Ordering → Bool
 is_after past o = cond past (is_lt o) (is_le o)
 
--- the test fails of each key before the place n, and holds of each behind it
+-- the test is false of each key before the position n, and true of each after it
 pub record IsCut {K V : Type 0} (test : K → Bool) (es : List (K × V)) (n : ℕ) : Type 0 where
   pub before : AllByRecursion (λ e. test e.0 ≡ false) (take n es)
   pub behind : AllByRecursion (λ e. test e.0 ≡ true) (drop n es)

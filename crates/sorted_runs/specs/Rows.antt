@@ -11,7 +11,7 @@ abbrev pub entries : {K V : Type 0} → List (Vec (K × V)) → List (K × V)
 entries [] = []
 entries (v ∷ vs) = v.items ++ entries vs
 
--- some entry comes first, and this is its key
+-- there is a first entry, and this is its key
 abbrev pub StartsWith : {K V : Type 0} → K → List (K × V) → Type 0
 StartsWith f [] = ⊥
 StartsWith f (e ∷ es) = e.0 ≡ f

@@ -5,14 +5,14 @@ ghost use Rattle.sorted_runs.specs.Copies.{IsEntryCopy, IsRunCopy};
 
 use std::alloc::{AllocError, Global};
 
-// The first keys of the runs in memory of their own.
+// The first keys of the runs, with memory of their own.
 pub(crate) fn copy_keys<K: Copy + Drop>(alloc: Global, keys: &[K]) -> Result<Vec<K>, AllocError>
     ensures { IfOk result (λ v. v.items ≡ keys.now) }
 {
     keys.iter().copied().collect(alloc)
 }
 
-// The runs in memory of their own.
+// The runs, with memory of their own.
 pub(crate) fn copy_runs<K: Copy + Drop, V: Clone + Drop>(
     alloc: Global,
     runs: &[Vec<(K, V)>],

@@ -7,12 +7,12 @@ use crate::placing::put_in;
 use std::alloc::{AllocError, AllocFailed, Global};
 use std::mem::replace;
 
-// How many entries a run takes, and how many stay at least where a full one is split.
+// The capacity of a run, and the least number of entries that stay in it when a full one is split.
 const FULL: usize = 64;
 
 const HALF: usize = 32;
 
-// Writes over the value at a place.
+// Replaces the value at a position.
 pub(crate) fn write<K, V>(run: &mut Vec<(K, V)>, at: usize, value: V) -> V
     requires { at < length run.old.items }
     ensures was { (d : K × V) → let e = slice_index_or run.old.items at d in result ≡ e.1 }
@@ -22,7 +22,7 @@ pub(crate) fn write<K, V>(run: &mut Vec<(K, V)>, at: usize, value: V) -> V
     replace(&mut entry.1, value)
 }
 
-// Takes the entry at a place out of its run, which goes where it was the last.
+// Removes the entry at a position from its run; the run is removed where this was its last entry.
 pub(crate) fn take_out<K: Copy + Drop, V: Drop>(
     firsts: &mut Vec<K>,
     runs: &mut Vec<Vec<(K, V)>>,
@@ -47,7 +47,7 @@ pub(crate) fn take_out<K: Copy + Drop, V: Drop>(
     value
 }
 
-// Puts an entry in its place in a run. Where that is full, it is split, or else the entry begins a run of its own behind it.
+// Inserts an entry into a run. A full run is split, or the entry begins a run of its own after it.
 pub(crate) fn add<K: Copy + Drop, V: Drop>(
     alloc: Global,
     firsts: &mut Vec<K>,
@@ -72,7 +72,7 @@ pub(crate) fn add<K: Copy + Drop, V: Drop>(
     if at == len {
         return open(alloc, firsts, runs, r + 1, key, value);
     }
-    // Nothing is to stand behind the entry, so that the next of a row of rising keys is a push; but half of the run stays.
+    // Nothing follows the entry in its run, so that the next of a series of rising keys is a push; but half of the run stays.
     let Ok(()) = split(firsts, runs, r, at.max(HALF)) else {
         return Err(AllocFailed {
             value: (key, value),
@@ -81,7 +81,7 @@ pub(crate) fn add<K: Copy + Drop, V: Drop>(
     add_into(firsts, runs, r, at, key, value)
 }
 
-// The same with the number of all entries, of which it tells the next.
+// The same with the number of all entries; it returns their new number.
 pub(crate) fn add_counted<K: Copy + Drop, V: Drop>(
     alloc: Global,
     firsts: &mut Vec<K>,
@@ -110,7 +110,7 @@ pub(crate) fn add_counted<K: Copy + Drop, V: Drop>(
     Ok(more)
 }
 
-// Puts an entry into a run that is not full.
+// Inserts an entry into a run that is not full.
 pub(crate) fn add_into<K: Copy, V>(
     firsts: &mut Vec<K>,
     runs: &mut Vec<Vec<(K, V)>>,
@@ -137,7 +137,7 @@ pub(crate) fn add_into<K: Copy, V>(
     Ok(())
 }
 
-// Puts an entry before the run r, or behind all others, into a run of its own.
+// Inserts an entry in a run of its own, before the run r or after all others.
 pub(crate) fn open<K: Copy + Drop, V: Drop>(
     alloc: Global,
     firsts: &mut Vec<K>,
@@ -170,7 +170,7 @@ pub(crate) fn open<K: Copy + Drop, V: Drop>(
     Ok(())
 }
 
-// Moves the entries of a run from the place cut on into a run of their own behind it.
+// Moves the entries of a run from the position cut on into a run of their own after it.
 pub(crate) fn split<K: Copy + Drop, V: Drop>(
     firsts: &mut Vec<K>,
     runs: &mut Vec<Vec<(K, V)>>,

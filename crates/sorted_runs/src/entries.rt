@@ -9,7 +9,7 @@ use crate::search::Place;
 use std::iter::{DoubleEndedIterator, Iterator};
 use std::marker::Model;
 
-/// Entries in the order of their keys, from either end.
+/// Entries in the order of their keys, an iterator from either end.
 #[derive(Drop)]
 pub struct Entries<'a, K, V> {
     front: &'a [(K, V)],
@@ -38,7 +38,7 @@ impl<'a, K, V> Entries<'a, K, V> {
         }
     }
 
-    // The entries from one place on and up to another.
+    // The entries from one position up to another.
     pub(crate) fn between(runs: &'a [Vec<(K, V)>], from: Place, to: Place) -> Entries<'a, K, V>
         requires from_within { from.run < length runs.now }
         requires from_place { (d : Vec (K × V)) → let run = slice_index_or runs.now from.run d in from.at ≤ length run.items }
@@ -71,7 +71,7 @@ impl<'a, K, V> Entries<'a, K, V> {
 }
 
 impl<'a, K, V> Entries<'a, K, V> {
-    // The entries from a place on.
+    // The entries from a position on.
     pub(crate) fn on_from(runs: &'a [Vec<(K, V)>], from: Place) -> Entries<'a, K, V>
         requires within { from.run < length runs.now }
         requires place { (d : Vec (K × V)) → let run = slice_index_or runs.now from.run d in from.at ≤ length run.items }
@@ -85,7 +85,7 @@ impl<'a, K, V> Entries<'a, K, V> {
         }
     }
 
-    // The entries up to a place.
+    // The entries up to a position.
     pub(crate) fn up_to(runs: &'a [Vec<(K, V)>], to: Place) -> Entries<'a, K, V>
         requires within { to.run < length runs.now }
         requires place { (d : Vec (K × V)) → let run = slice_index_or runs.now to.run d in to.at ≤ length run.items }

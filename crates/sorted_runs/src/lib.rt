@@ -1,12 +1,12 @@
-//! An ordered map whose entries stand in runs of bounded length, in the order of their keys.
+//! An ordered map that stores its entries in runs of bounded length, in the order of their keys.
 //!
-//! A key is looked for among the first keys of the runs, and then in its run. So a key behind all others is a push, and so is mostly
-//! the next of a row of rising keys that comes between others; a walk goes over memory from end to end. A full run is split and an
-//! empty one goes; the runs behind it then move by a place, which begins to weigh where a million keys come in no order. Reading takes
-//! no memory; `insert` and `copy` alone can want some.
+//! A search visits the first keys of the runs, and then one run. So the insertion of a key after all others is a push, and so is mostly
+//! that of the next of a series of rising keys between others; iteration reads memory sequentially. A full run is split and an
+//! empty one is removed; the runs after it then move by one position, which becomes noticeable at a million keys in random order.
+//! Reading allocates nothing; only `insert` and `copy` can allocate.
 //!
-//! `search` finds places, `edits` changes runs, `ranges` cuts many entries out, `entries` walks over them, and `copies` copies them;
-//! `placing` puts an element into a list.
+//! `search` finds positions, `edits` changes runs, `ranges` removes ranges of entries, `entries` iterates, and `copies` copies;
+//! `placing` inserts an element into a list.
 #![tactic(auto)]
 
 ghost use Rattle.std.specs.Prelude.{◌≡◌, [], None, length, not, IfOk, IfErr, OnOk, OnErr};
@@ -36,14 +36,14 @@ use std::alloc::{AllocError, AllocFailed, Global};
 use std::marker::Model;
 use std::ops::Bound;
 
-/// Entries in the order of their keys.
+/// A map, with its entries in the order of their keys.
 #[derive(Drop)]
 pub struct SortedRuns<K: Ord + Copy, V> {
     alloc: Global,
     firsts: Vec<K>,
     runs: Vec<Vec<(K, V)>>,
     len: usize,
-    // Where an entry came or went last: rows of keys come and are asked for near each other, so this run is tried first.
+    // The run of the last insertion or removal, which is tried first: successive keys are often close to each other.
     near: usize,
 }
 
@@ -59,7 +59,7 @@ impl<K: Ord + Copy, V> Model for SortedRuns<K, V> {
 }
 
 impl<K: Ord + Copy, V> SortedRuns<K, V> {
-    /// A map with no entries. It takes no memory yet.
+    /// A map with no entries. It allocates nothing.
     pub fn new(alloc: Global) -> Self
         ensures { result ≡ [] }
     {
@@ -72,7 +72,7 @@ impl<K: Ord + Copy, V> SortedRuns<K, V> {
         }
     }
 
-    /// How many entries it holds.
+    /// The number of entries.
     pub fn len(&self) -> usize
         ensures len { result ≡ length self.now }
         ensures ordered { IsStrictlySortedBy K.cmp (keys_of self.now) }
@@ -145,8 +145,8 @@ impl<K: Ord + Copy, V> SortedRuns<K, V> {
 }
 
 impl<K: Ord + Copy + Drop, V: Drop> SortedRuns<K, V> {
-    /// Gives a key a value, and tells the value that it had. It fails only if memory runs out, or of numbers to count the entries with:
-    /// the entries are then as they were, without the key, and it comes back with the value.
+    /// Sets the value of a key, and returns the previous one. The error is an allocation failure, or an overflow of the number of entries:
+    /// the entries are then unchanged, without the key, and the error returns the key and the value.
     pub fn insert(&mut self, key: K, value: V) -> Result<Option<V>, AllocFailed<(K, V)>>
         ensures had { IfOk result (λ had. had ≡ lookup (is_at (K.cmp key)) self.old) }
         ensures gains { OnOk result (self.new ≡ insert_entry K.cmp self.old key value) }
@@ -174,7 +174,7 @@ impl<K: Ord + Copy + Drop, V: Drop> SortedRuns<K, V> {
         }
     }
 
-    /// Takes a key out, and tells the value that it had, or None where it had none.
+    /// Removes a key, and returns its value, or None where it had none.
     pub fn remove(&mut self, key: &K) -> Option<V>
         ensures had { result ≡ lookup (is_at (K.cmp key.now)) self.old }
         ensures loses { self.new ≡ remove_entry (is_at (K.cmp key.now)) self.old }
@@ -196,7 +196,7 @@ impl<K: Ord + Copy + Drop, V: Drop> SortedRuns<K, V> {
         }
     }
 
-    /// Takes out the entries with keys between two bounds; none where the bounds cross. It takes no memory.
+    /// Removes the entries with keys between two bounds; none where the bounds cross. It allocates nothing.
     pub fn remove_range(&mut self, from: Bound<K>, to: Bound<K>)
         ensures loses { self.new ≡ filter (λ e. not (range_contains K.cmp from to e.0)) self.old }
         ensures was_ordered { IsStrictlySortedBy K.cmp (keys_of self.old) }
@@ -212,7 +212,7 @@ impl<K: Ord + Copy + Drop, V: Drop> SortedRuns<K, V> {
 }
 
 impl<K: Ord + Copy + Drop, V: Copy + Drop> SortedRuns<K, V> {
-    /// Gives a key a value where it has none, and tells the value that it had, which it keeps. Its only error is that of `insert`, and
+    /// Sets the value of a key that has none; otherwise keeps the key's value, and returns it. Its only error is that of `insert`, and
     /// leaves the same.
     pub fn add(&mut self, key: K, value: V) -> Result<Option<V>, AllocFailed<(K, V)>>
         ensures had { IfOk result (λ had. had ≡ lookup (is_at (K.cmp key)) self.old) }
@@ -245,7 +245,7 @@ impl<K: Ord + Copy + Drop, V: Copy + Drop> SortedRuns<K, V> {
 }
 
 impl<K: Ord + Copy + Drop, V: Clone + Drop> SortedRuns<K, V> {
-    /// The same keys and clones of their values, in memory of their own. It fails only if memory runs out.
+    /// The same keys and clones of their values, with memory of their own. The only error is an allocation failure.
     pub fn copy(&self) -> Result<Self, AllocError>
         ensures cases { IfOk result (λ m. AllZip (IsEntryCopy V.is_clone) self.now m) }
     {

@@ -6,7 +6,7 @@ ghost use Rattle.sorted_runs.specs.Rows.{entries};
 
 use crate::search::Place;
 
-// Takes out the entries from one place on and up to another, or none where they cross, and tells how many entries are left.
+// Removes the entries from one position up to another, or none where they cross, and returns how many entries are left.
 pub(crate) fn cut_out<K: Copy + Drop, V: Drop>(
     firsts: &mut Vec<K>,
     runs: &mut Vec<Vec<(K, V)>>,
@@ -33,7 +33,7 @@ pub(crate) fn cut_out<K: Copy + Drop, V: Drop>(
     cut_run(firsts, runs, len, from.run, from.at, to.at)
 }
 
-// The same from one run to a later one. What is behind goes first, so that the runs before it stay where they are.
+// The same from one run to a later one. It removes from the end first, so that the runs before keep their indices.
 fn cut_over<K: Copy + Drop, V: Drop>(
     firsts: &mut Vec<K>,
     runs: &mut Vec<Vec<(K, V)>>,
@@ -57,7 +57,7 @@ fn cut_over<K: Copy + Drop, V: Drop>(
     cut_run(firsts, runs, left, from.run, from.at, end)
 }
 
-// Takes out whole runs, and tells how many entries are left.
+// Removes whole runs, and returns how many entries are left.
 fn cut_whole<K: Copy + Drop, V: Drop>(
     firsts: &mut Vec<K>,
     runs: &mut Vec<Vec<(K, V)>>,
@@ -83,7 +83,7 @@ fn cut_whole<K: Copy + Drop, V: Drop>(
     left
 }
 
-// Takes entries out of one run, which goes where they were all that it had, and tells how many entries are left.
+// Removes entries from one run, and the run where they were all of it; returns how many entries are left.
 fn cut_run<K: Copy + Drop, V: Drop>(
     firsts: &mut Vec<K>,
     runs: &mut Vec<Vec<(K, V)>>,
@@ -113,7 +113,7 @@ fn cut_run<K: Copy + Drop, V: Drop>(
     len - (to - from)
 }
 
-// Takes elements out of a row. `Vec::drain` says the same, and turns what is behind them through a room of 4 KB that it fills with zeros.
+// Removes elements from a list. `Vec::drain` has the same effect, and moves what follows through a buffer of 4 KB that it zeroes first.
 fn cut<T: Drop>(row: &mut Vec<T>, from: usize, to: usize)
     requires rising { from ≤ to }
     requires within { to ≤ length row.old.items }
@@ -124,7 +124,7 @@ fn cut<T: Drop>(row: &mut Vec<T>, from: usize, to: usize)
     row.truncate(left);
 }
 
-// Brings what stands behind a gap down to where the gap begins; what stood in the gap is then the end of the row.
+// Moves what follows a gap down to where the gap begins; the elements of the gap are then the end of the list.
 fn close_up<T>(row: &mut [T], from: usize, gap: usize)
     requires { from + gap ≤ length row.old }
     ensures len { length row.new ≡ length row.old }

@@ -10,17 +10,17 @@ ghost use Rattle.sorted_runs.specs.Rows.{entries, IsRuns};
 use std::cmp::Ordering;
 use std::ops::Bound;
 
-// How far apart the entries of a run are that are looked at first.
+// The distance between the entries of a run that a search visits first.
 const STRIDE: usize = 8;
 
-// A place in a run, before an entry or behind the last one.
+// A position in a run, before an entry or after the last one.
 #[derive(Clone, Copy)]
 pub(crate) struct Place {
     pub(crate) run: usize,
     pub(crate) at: usize,
 }
 
-// The last run whose first key is not above the key, or else the first. The run `near` is tried before the others.
+// The last run whose first key is not above the key, or the first run. The run `near` is tried before the others.
 pub(crate) fn run_for<K: Ord>(firsts: &[K], near: usize, key: &K) -> usize
     requires some { 0 < length firsts.now }
     requires rising { IsStrictlySortedBy K.cmp firsts.now }
@@ -35,7 +35,7 @@ pub(crate) fn run_for<K: Ord>(firsts: &[K], near: usize, key: &K) -> usize
     run_among(firsts, key)
 }
 
-// The same, looked for among all of them. The key is below each first key from `end` on, and not below that of `r`, unless it is 0.
+// The same by binary search. The key is below each first key from `end` on, and not below that of `r`, unless it is 0.
 fn run_among<K: Ord>(firsts: &[K], key: &K) -> usize
     requires some { 0 < length firsts.now }
     requires rising { IsStrictlySortedBy K.cmp firsts.now }
@@ -58,7 +58,7 @@ fn run_among<K: Ord>(firsts: &[K], key: &K) -> usize
     r
 }
 
-// Where the key is in a run, or where it would go.
+// The index of the key in a run, or where it would be inserted.
 pub(crate) fn slot<K: Ord, V>(run: &[(K, V)], key: &K) -> Result<usize, usize>
     requires { IsStrictlySortedBy K.cmp (keys_of run.now) }
     ensures hit { IfOk result (IsFoundAt K.cmp run.now key.now) }
@@ -70,7 +70,7 @@ pub(crate) fn slot<K: Ord, V>(run: &[(K, V)], key: &K) -> Result<usize, usize>
     slot_within(run, key)
 }
 
-// The same where the run is likely to hold the key: its last entry would be one more wait for memory, and tell nothing.
+// The same where the run is likely to have the key: a look at its last entry would cost a cache miss and decide nothing.
 pub(crate) fn slot_within<K: Ord, V>(run: &[(K, V)], key: &K) -> Result<usize, usize>
     requires { IsStrictlySortedBy K.cmp (keys_of run.now) }
     ensures hit { IfOk result (IsFoundAt K.cmp run.now key.now) }
@@ -79,7 +79,7 @@ pub(crate) fn slot_within<K: Ord, V>(run: &[(K, V)], key: &K) -> Result<usize, u
     slot_from(run, key, stride_to(run, key))
 }
 
-// Whether the key is above all of a run, as its last entry tells: so are those of a row of rising keys.
+// Whether the key is above all of a run, by its last entry: true in a series of rising keys.
 fn is_behind<K: Ord, V>(run: &[(K, V)], key: &K) -> bool
     requires { IsStrictlySortedBy K.cmp (keys_of run.now) }
     ensures { IsTrue result → Passes K.cmp key.now run.now }
@@ -91,8 +91,8 @@ fn is_behind<K: Ord, V>(run: &[(K, V)], key: &K) -> bool
     key.cmp(&run[len - 1].0).is_gt()
 }
 
-// A place before which all keys are below the key. Where it looks does not hang on what it found, so memory is read ahead: halving
-// would wait for each entry.
+// A position before which all keys are below the key. The addresses that it reads do not depend on what it found, so the memory is
+// prefetched: a binary search would wait for each entry.
 fn stride_to<K: Ord, V>(run: &[(K, V)], key: &K) -> usize
     requires { IsStrictlySortedBy K.cmp (keys_of run.now) }
     ensures within { result ≤ length run.now }
@@ -108,7 +108,7 @@ fn stride_to<K: Ord, V>(run: &[(K, V)], key: &K) -> usize
     at
 }
 
-// The same as slot, from a place on before which all keys are below the key.
+// The same as slot, from a position on before which all keys are below the key.
 fn slot_from<K: Ord, V>(run: &[(K, V)], key: &K, from: usize) -> Result<usize, usize>
     requires sorted { IsStrictlySortedBy K.cmp (keys_of run.now) }
     requires within { from ≤ length run.now }
@@ -150,7 +150,7 @@ fn place_of<K: Ord, V>(
     Place { run, at }
 }
 
-// Where the entries within a lower bound begin.
+// The position where the entries within a lower bound begin.
 pub(crate) fn start_of<K: Ord, V>(
     firsts: &[K],
     runs: &[Vec<(K, V)>],
@@ -170,7 +170,7 @@ pub(crate) fn start_of<K: Ord, V>(
     }
 }
 
-// Where the entries within an upper bound end.
+// The position where the entries within an upper bound end.
 pub(crate) fn end_of<K: Ord, V>(
     firsts: &[K],
     runs: &[Vec<(K, V)>],

@@ -6,7 +6,7 @@ use Rattle.sorted_runs.proofs.Lists.{take_long}
 use Rattle.sorted_runs.proofs.Gone.{long_range, none_left}
 use Rattle.sorted_runs.proofs.ranges.close_up.Goals as goal
 
--- a row whose elements behind a gap have come down to where it begins
+-- a list whose elements after a gap have moved down to where it begins
 closed : {X : Type 0} (xs row : List X) (from gap place : ℕ) → length row ≡ length xs → from + gap ≤ length xs → length xs - gap ≤ place → ((k : ℕ) (d : X) → k < from → get_or row k d ≡ get_or xs k d)
     → ((k : ℕ) (d : X) → from ≤ k → k < place → get_or row k d ≡ get_or xs (from + gap + (k - from)) d) → take (length xs - gap) row ≡ remove_range xs from (from + gap)
 closed {X} [] row from gap place long le end kept moved =
