@@ -29,7 +29,7 @@ more_known cs ds k part has e l m = let h = has e l m in (h.0, part h.0 h.1, h.2
 pub epoch_grows : (cs ds : List CutData) (k n : ℕ) → ((c : CutData) → Contains cs c → Contains ds c) → IsCompleteEpoch cs k → IsCompleteEpoch ds n → k ≤ n
 epoch_grows cs ds k n part a b = b.1 k (more_known cs ds k part (has_cuts cs k a))
 
--- the points of readers after more advances count
+-- the points of readers after more advances take effect
 pub raised_points : (n k j : ℕ) (as' bs given : List AdvanceData) (old new : List ℕ) → ArePoints n as' k old → RaisesPoints j old given new
     → ((a : AdvanceData) → Contains as' a → a.epoch ≤ k → Contains bs a × (a.epoch ≤ j))
     → ((a : AdvanceData) → Contains given a → Contains bs a)
@@ -78,7 +78,7 @@ new_knows n cs ps ws e p f = record {
   waits = λ a. (λ h. absurd (none_in a (subst (λ l. Contains l a) f h)), λ h. absurd (no_advances a h.0));
 }
 
--- a truncation that is held
+-- a truncation that is stored
 pub held_learns : (b : BookData) (c : CutData) → IsBook b → Contains b.cuts c → LearnsCut b c b
 held_learns b c book held = search rules
 
@@ -142,7 +142,7 @@ points_within k old new given raises low shaped i d l =
 later_test : (k e : ℕ) → ltb k e ≡ true ↔ (k < e)
 later_test k e = (λ h. grind (arith, nat_tests), λ h. grind (arith, nat_tests))
 
--- a book with a truncation in its place
+-- a book with a truncation inserted in order
 pub cut_learns : (b : BookData) (i : ℕ) (c : CutData) (k : ℕ) (n : List ℕ) (ws : List AdvanceData) → RaisesPoints k b.points b.waits n
     → ws ≡ filter (λ a. ltb k a.epoch) b.waits → LearnsCut b c (book_of (insert b.cuts i c) k n ws)
 cut_learns b i c k n ws greatest e = record {
@@ -220,7 +220,7 @@ wait_learns b i a later = record {
   later = λ l. record { points = refl; waits = λ w. contains_insert b.waits i a w };
 }
 
--- the points after one advance that counts
+-- the points after one advance takes effect
 pub raises_one : (k : ℕ) (old new : List ℕ) (a : AdvanceData) → a.epoch ≤ k → length new ≡ length old
     → point_of new a.reader ≡ max (point_of old a.reader) a.point
     → ((reader : ℕ) → IsReader (length old) reader → reader ≢ a.reader → point_of new reader ≡ point_of old reader)

@@ -1,4 +1,4 @@
--- What a search among a book's truncations and waiting advances tells of membership.
+-- What a search among a book's truncations and waiting advances implies for membership.
 use Rattle.std.proofs.Common.{ℕ, ◌<◌, ◌≤◌, ◌↔◌, List, length, Result, IfOk, IfErr, IsTrue, rules}
 use Rattle.std.specs.List.{Contains}
 use Rattle.std.specs.List.Sorted.{IsPartitionPoint}

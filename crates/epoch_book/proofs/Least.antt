@@ -30,7 +30,7 @@ first_epoch c cs b n r above has l =
     (λ (m : Contains cs h.0). let s : c.epoch < h.0.epoch = each (CutBefore c) cs h.0 r.0 m in absurd (omega arith))
     (which c cs h.0 h.1)
 
--- where the truncations of all epochs above one are there, each stands in the place that its epoch says
+-- where the truncations of all epochs above one are known, the epoch of each gives its index
 in_place : (cs : List CutData) (b n i : ℕ) (d : CutData) → IsRising CutBefore cs → ((c : CutData) → Contains cs c → b < c.epoch)
     → ((e : ℕ) → b < e → e ≤ n → (c : CutData) × Contains cs c × (c.epoch ≡ e)) → b + i < n → (i < length cs) × ((get_or cs i d).epoch ≡ b + i + 1)
 in_place [] b n i d r above has l = let h = has (b + 1) (omega arith) (omega (arith, l)) in absurd (none_in h.0 h.1)
@@ -69,7 +69,7 @@ one_of_epoch cs c d rising hc hd e =
 pub place_within : (cs : List CutData) (n i : ℕ) → IsRising CutBefore cs → All (λ c. cut_fault c ≡ None) cs → HasCutsTo cs n → i < n → i < length cs
 place_within cs n i rising shaped has l = (place_of_known cs n i (has (i + 1) (omega arith) (omega (arith, l))).0 rising shaped has l).0
 
--- where a search by a number parts a list
+-- where a search by an LSN parts a list
 pub parted_by : (n : CutData → ℕ) (xs : List CutData) (t i : ℕ) → IsPartitionPoint (λ y. leb (n y) t ≡ true) (λ y. leb (n y) t ≡ false) xs i
     → IsPartitionPoint (λ y. n y ≤ t) (λ y. t < n y) xs i
 parted_by n xs t i parted = (
@@ -77,7 +77,7 @@ parted_by n xs t i parted = (
   λ k d l m. leb-false (n (get_or xs k d)) t (parted.1 k d l m),
 )
 
--- what holds in front of a place, and from there on
+-- a property of what is before an index, and one from there on
 pub in_front : {X : Type 0} (P : X → Type 0) (xs : List X) (i : ℕ) (y : X) → AllWithin P xs 0 i → Contains (take i xs) y → P y
 in_front P xs zero y all h = absurd (none_in y h)
 in_front P [] (suc i) y all h = absurd (none_in y h)
@@ -92,7 +92,7 @@ behind P xs zero y all h = subst P h.2 (all h.0 y (omega arith) h.1)
 behind P [] (suc i) y all h = absurd (none_in y h)
 behind P (x ∷ xs) (suc i) y all h = behind P xs i y (λ k d m n. all (suc k) d (omega (arith, m)) (omega (arith, n))) h
 
--- the front of a rising list, and one more behind it
+-- a prefix of a rising list, and one more element after it
 rising_push : {X : Type 0} (Before : X → X → Type 0) (xs : List X) (i : ℕ) (x : X) → IsRising Before xs → ((y : X) → Contains (take i xs) y → Before y x)
     → IsRising Before (take i xs ++ x ∷ [])
 rising_push Before xs zero x r low = (tt, tt)
@@ -113,7 +113,7 @@ no_lows cs shaped = record {
   least = λ c h le. let p : 0 < c.epoch = (shaped_cut c (All-contains (λ x. cut_fault x ≡ None) cs c shaped h)).0 in absurd (omega arith);
 }
 
--- the truncation of the next epoch, behind those that cut no higher
+-- the truncation of the next epoch, after those that cut no higher
 pub next_lows : (cs : List CutData) (k stay : ℕ) (x : CutData) (lows : List CutData) → IsRising CutBefore cs → Contains cs x → x.epoch ≡ k + 1 → AreLows cs k lows
     → IsPartitionPoint (λ c. c.lo ≤ x.lo) (λ c. x.lo < c.lo) lows stay → AreLows cs (k + 1) (take stay lows ++ x ∷ [])
 next_lows cs k stay x lows rising inside at are parted = record {
@@ -176,7 +176,7 @@ pub none_above : (lows : List CutData) (e i : ℕ) → length lows ≤ i → IsP
 none_above lows e i l parted = λ c h above.
     let le : c.epoch ≤ e = in_front (λ d. d.epoch ≤ e) lows i c parted.0 (whole lows i c l h) in omega (arith, le, above)
 
--- the last that cuts at or below a number is of the greatest epoch that does
+-- the last that cuts at or below an LSN is of the greatest epoch that does
 pub last_place : (lows : List CutData) (number i : ℕ) (x : CutData) → IsRising LowBefore lows → i < length lows → x ≡ get_or lows i x
     → IsPartitionPoint (λ c. c.lo ≤ number) (λ c. number < c.lo) lows (i + 1)
     → IsGreatest (λ e. (c : CutData) × Contains lows c × (c.epoch ≡ e) × (c.lo ≤ number)) x.epoch
@@ -203,7 +203,7 @@ no_place lows number parted = (
       let high : number < h.0.lo = behind (λ c. number < c.lo) lows 0 h.0 parted.1 h.1 in let low : h.0.lo ≤ number = h.3 in absurd (omega arith),
 )
 
--- a number that no later truncation annuls
+-- an LSN that no later truncation annuls
 pub spared_by : (cs : List CutData) (k e n : ℕ) (lows : List CutData) → AreLows cs k lows → All (λ c. e < c.epoch → n ≤ c.lo) lows → (c : CutData) → Contains cs c
     → e < c.epoch → c.epoch ≤ k → n ≤ c.lo
 spared_by cs k e n lows are low c h above up =
@@ -227,7 +227,7 @@ least_from cs k e lows (Some low) are some = (
       omega arith,
 )
 
--- the last epoch that cuts at or below a number
+-- the last epoch that cuts at or below an LSN
 pub last_cut : (b : BookData) (number i : ℕ) (lows : List CutData) → AreLows b.cuts b.complete lows
     → IsGreatest (λ e. (c : CutData) × Contains lows c × (c.epoch ≡ e) × (c.lo ≤ number)) i → IsGreatest (CutsAt b number) i
 last_cut b number i lows are last = (

@@ -22,7 +22,7 @@ same_cut b c d book hc hd e =
     (λ (s : CutBefore c d ⊎ CutBefore d c). absurd (⊎_elim (λ (l : CutBefore c d). omega arith) (λ (l : CutBefore d c). omega arith) s))
     (rising_members CutBefore b.cuts c d book.cuts_rise hc hd)
 
--- the truncation that was read at a place
+-- the truncation that was read at an index
 pub held_at : (b : BookData) (cs : List CutData) (i e : ℕ) (d : CutData) → cs ≡ b.cuts → (i < length cs) × HoldsAt (λ c. c.epoch ≡ e) cs i
     → d ≡ get_or b.cuts i d → Contains b.cuts d × (d.epoch ≡ e)
 held_at b cs i e d same at read = search rules
@@ -56,7 +56,7 @@ one_cut_refusal b c book (OtherRoster own shown) f h k = absurd h
 one_cut_refusal b c book (Contradiction (Cut x)) f h k = absurd h
 one_cut_refusal b c book Memory f h k = absurd h
 
--- what is held is not refused
+-- what is stored is not refused
 pub held_unrefused : (b : BookData) (c : CutData) → IsBook b → Contains b.cuts c → (e : BookRefusal) → RefusesCut b c e → ⊥
 held_unrefused b c book held (OtherRoster own shown) h = h
 held_unrefused b c book held (OtherCut d) h = h.2 (same_cut b d c book h.0 held h.1)
@@ -88,7 +88,7 @@ one_advance_refusal b a (Contradiction (Cut d)) (Contradiction (Cut x)) h k = ap
 one_advance_refusal b a (Contradiction (Cut d)) Memory h k = absurd k
 one_advance_refusal b a Memory f h k = absurd h
 
--- what is said of an advance is said of it as what a truncation contradicts
+-- a property of an advance is one of it as what a truncation contradicts
 pub mapped_to_held : (s : Option AdvanceData) (r : Option Held) (P : AdvanceData → Type 0) (Q : Held → Type 0)
     → MatchOption s (r ≡ None) (λ x. IsSomeAnd r (λ h. h ≡ Advance x)) → IfSome s P → ((x : AdvanceData) → P x → Q (Advance x)) → IfSome r Q
 mapped_to_held s r P Q e h q = search rules

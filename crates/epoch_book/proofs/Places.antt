@@ -9,7 +9,7 @@ use Rattle.redo_core.specs.Order.{IsRising, CutBefore, AdvanceBefore}
 use Rattle.redo_core.proofs.Pairs.{advance_apart, advance_trans, same_advance}
 use Rattle.redo_core.proofs.Rising.{rising_by}
 
--- an order against one thing rises with it
+-- an order against one element rises with it
 pub rank_le : (o p : Ordering) (P Q R S T U : Type 0) → MatchOrdering o P Q R → MatchOrdering p S T U → (Q → S → ⊥) → (R → S → ⊥) → (R → T → ⊥)
     → ordering_index o ≤ ordering_index p
 rank_le o p P Q R S T U h k qs rs rt = search rules

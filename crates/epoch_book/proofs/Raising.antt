@@ -47,7 +47,7 @@ one_more ws i w a l e = (
       (λ (q : Contains (w ∷ []) a). subst (Contains (take (i + 1) ws)) (only w a q) (up_to ws i w l e)) h,
 )
 
--- one advance more counts
+-- one more advance takes effect
 pub counted_more : (k : ℕ) (old cur new : List ℕ) (ws : List AdvanceData) (i : ℕ) (w : AdvanceData) → i < length ws → w ≡ get_or ws i w
     → RaisesPoints k old (take i ws) cur → RaisesPoints k cur (w ∷ []) new → RaisesPoints k old (take (i + 1) ws) new
 counted_more k old cur new ws i w l e first second = raises_more k old cur new (take i ws) (w ∷ []) (take (i + 1) ws) first second (λ a. one_more ws i w a l e)

@@ -5,7 +5,7 @@ use Rattle.redo_core.specs.Order.{IsRising}
 use Rattle.redo_core.proofs.Members.{here, there, which, each}
 use Rattle.epoch_book.specs.Refusing.{IsFirst}
 
--- the first place with P has the first member with P
+-- the first index with P has the first member with P
 pub first_place : {X : Type 0} (Before : X → X → Type 0) (P : X → Type 0) (xs : List X) (i : ℕ) (x : X) → IsRising Before xs → i < length xs → x ≡ get_or xs i x
     → P x → All (λ y. P y → ⊥) (take i xs) → IsFirst Before (λ y. Contains xs y × P y) x
 first_place Before P [] i x r l e p none = absurd (omega (arith, l))

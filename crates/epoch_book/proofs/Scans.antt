@@ -7,7 +7,7 @@ use Rattle.epoch_book.specs.Refusing.{LacksCut}
 use Rattle.std.specs.Result.{is_ok}
 use Rattle.redo_core.specs.CompleteEpoch.{HasCut}
 
--- the truncation at a place
+-- the truncation at an index
 pub cut_at : (cs : List CutData) (e i : ℕ) → i < length cs → HoldsAt (λ c. c.epoch ≡ e) cs i → HasCut cs e
 cut_at [] e i l h = absurd (omega (arith, l))
 cut_at (c ∷ cs) e i l h = (get_or (c ∷ cs) i c, (i, l, same_default (c ∷ cs) i c (get_or (c ∷ cs) i c) l), h c)

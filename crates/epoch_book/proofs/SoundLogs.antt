@@ -1,4 +1,4 @@
--- What a sound log says of its truncations and advances, and that a book learns them.
+-- What a sound log implies for its truncations and advances, and that a book learns them.
 use Rattle.std.proofs.Common.{◌≡◌, ◌≢◌, ℕ, ◌<◌, ◌≤◌, ◌⊎◌, inl, ⊎_elim, List, length, refl, sym, subst, arith}
 use Rattle.std.specs.List.{Contains}
 use Rattle.redo_core.specs.Data.{CutData, AdvanceData}
@@ -37,7 +37,7 @@ module _ (roster : ℕ) (log : List Fact) (b : BookData) (sound : IsSound roster
   advance_of_log : (a : AdvanceData) → Contains (advances known.facts) a → Contains log (Advance a)
   advance_of_log a h = known.part (Advance a) ((advance_in known.facts a).0 h)
 
-  -- a truncation that is not held is of an epoch above the complete one
+  -- a truncation that is not stored is of an epoch above the complete one
   beyond : (c : CutData) → Contains log (Cut c) → LacksCut b.cuts c.epoch → b.complete < c.epoch
   beyond c h lacks =
       let positive : 0 < c.epoch = (cut_facts c (kept roster log (Cut c) sound h).shape).0 in

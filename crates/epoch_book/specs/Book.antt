@@ -1,2 +1,2 @@
--- What a book holds, as contracts see it, and what every book keeps.
+-- What a book stores, as contracts see it, and the invariant of every book.
 pub use Rattle.redo_core.specs.Book.{BookData, book_of, roster_of, IsBook}

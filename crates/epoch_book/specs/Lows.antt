@@ -1,4 +1,4 @@
--- The truncations that cut lowest, by which a number's standing is judged.
+-- The truncations that cut lowest, which decide whether an LSN is alive.
 use Rattle.std.specs.Prelude.{◌≡◌, ℕ, ◌<◌, ◌≤◌, List}
 use Rattle.std.specs.List.{Contains, All}
 use Rattle.redo_core.specs.Data.{CutData}
@@ -16,6 +16,6 @@ pub record AreLows (cs : List CutData) (k : ℕ) (lows : List CutData) : Type 0 
   pub held : All (λ c. Contains cs c × (c.epoch ≤ k)) lows
   pub least : (c : CutData) → Contains cs c → c.epoch ≤ k → (d : CutData) × Contains lows d × (c.epoch ≤ d.epoch) × (d.lo ≤ c.lo)
 
--- the truncation of an epoch up to the complete one has its lo at or below a number
+-- the truncation of an epoch up to the complete one has its lo at or below an LSN
 abbrev pub CutsAt : BookData → ℕ → ℕ → Type 0
 CutsAt b number epoch = (c : CutData) × Contains b.cuts c × (c.epoch ≡ epoch) × (epoch ≤ b.complete) × (c.lo ≤ number)

@@ -1,4 +1,4 @@
--- When a book refuses a fact, and what the refusal shows.
+-- When a book refuses a fact, and what the error reports.
 use Rattle.std.specs.Prelude.{◌≡◌, ◌≢◌, ◌<◌, ◌≤◌}
 use Rattle.std.specs.List.{Contains}
 use Rattle.redo_core.specs.Data.{CutData, AdvanceData}
@@ -12,8 +12,8 @@ use Rattle.epoch_book.specs.declared.refusals.Held.TheVariants.{Min, Advance, Cu
 use Rattle.epoch_book.specs.declared.refusals.BookRefusal.{BookRefusal}
 use Rattle.epoch_book.specs.declared.refusals.BookRefusal.TheVariants.{OtherRoster, OtherCut, Contradiction, Memory}
 
--- The first that applies: another truncation of its epoch is held; it is not held, and its lo is below the minimum; or each reader is
--- known to be past it, where the first advance of an earlier epoch is shown that waits with a point above the lo.
+-- In order of precedence: another truncation of its epoch is stored; it is not stored, and its lo is below the minimum; or each reader
+-- is known to be past it, where the error reports the first waiting advance of an earlier epoch with a point above the lo.
 abbrev pub RefusesCut : BookData → CutData → BookRefusal → Type 0
 RefusesCut b c (OtherRoster own shown) = ⊥
 RefusesCut b c (OtherCut d) = Contains b.cuts d × (d.epoch ≡ c.epoch) × (d ≢ c)
@@ -24,7 +24,7 @@ RefusesCut b c (Contradiction (Advance a)) =
 RefusesCut b c (Contradiction (Cut d)) = ⊥
 RefusesCut b c Memory = ⊥
 
--- The first that applies: the reader is not of the roster; a truncation of a later epoch is held that cuts below the point.
+-- In order of precedence: the reader is not of the roster; a truncation of a later epoch is stored that cuts below the point.
 abbrev pub RefusesAdvance : BookData → AdvanceData → BookRefusal → Type 0
 RefusesAdvance b a (OtherRoster own shown) = (own ≡ roster_of b) × (shown ≡ a.reader) × (IsReader (roster_of b) a.reader → ⊥)
 RefusesAdvance b a (Contradiction (Cut d)) = IsReader (roster_of b) a.reader × IsFirst CutBefore

@@ -1,4 +1,4 @@
--- Words for the scans of a book's lists.
+-- Definitions for the scans of a book's lists.
 use Rattle.std.specs.Prelude.{◌≡◌, ℕ, ◌<◌, ◌≤◌, List, Option, Some, None}
 use Rattle.std.specs.List.{Contains}
 use Rattle.redo_core.specs.Data.{CutData}

@@ -1,4 +1,4 @@
--- A book is not surprised by a sound log.
+-- A book refuses no fact of a sound log.
 use Rattle.std.specs.Prelude.{◌≡◌, ℕ, List}
 use Rattle.std.specs.List.{Contains}
 use Rattle.redo_core.specs.Data.{CutData, AdvanceData}

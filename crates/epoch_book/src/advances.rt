@@ -6,7 +6,7 @@ ghost use Rattle.epoch_book.specs.Refusing.{Contradict, IsFirst};
 
 use redo_core::{Advance, Cut};
 
-// The place of an advance, or where it would go.
+/// The index of an advance, or where it would be inserted.
 pub fn place_of_advance(waits: &[Advance], advance: Advance) -> Result<usize, usize>
     requires { IsRising AdvanceBefore waits.now }
     ensures found { IfOk result (λ _. Contains waits.now advance) }
@@ -18,7 +18,7 @@ pub fn place_of_advance(waits: &[Advance], advance: Advance) -> Result<usize, us
     waits.binary_search_by_key(&key, |wait| { (wait.epoch(), wait.reader(), wait.point()) })
 }
 
-// The least advance, by epoch, reader and point, that the truncation cuts below.
+/// The least advance, by epoch, reader and point, that the truncation cuts below.
 pub fn first_against(waits: &[Advance], cut: Cut) -> Option<Advance>
     requires { IsRising AdvanceBefore waits.now }
     ensures first { IfSome result (IsFirst AdvanceBefore (λ a. Contains waits.now a × Contradict cut a)) }
@@ -32,7 +32,7 @@ pub fn first_against(waits: &[Advance], cut: Cut) -> Option<Advance>
     None
 }
 
-// Leaves the advances of epochs above the complete one.
+/// Keeps only the advances of epochs above the complete one.
 pub fn keep_later(waits: &mut Vec<Advance>, complete: u16)
     ensures { waits.new.items ≡ filter (λ a. nat_lt complete a.epoch) waits.old.items }
 {

@@ -31,7 +31,7 @@ use std::marker::Model;
 #[derive(Drop)]
 pub struct EpochBook {
     pub(crate) cuts: Vec<Cut>,
-    // Of the truncations up to the complete epoch those that cut lowest.
+    // Of the truncations up to the complete epoch, those that cut lowest.
     pub(crate) lows: Vec<Cut>,
     pub(crate) complete: u16,
     pub(crate) points: ReadPoints,
@@ -50,7 +50,7 @@ impl Model for EpochBook {
 }
 
 impl EpochBook {
-    /// A book of a roster that knows nothing: epoch 0 is complete, and each reader's point is 0. It fails only if memory runs out.
+    /// A book of a roster that knows nothing: epoch 0 is complete, and each reader's point is 0. The only error is an allocation failure.
     pub fn new(alloc: Global, roster: Roster) -> Result<Self, AllocError>
         ensures empty { IfOk result (λ b. b ≡ book_of [] 0 (replicate roster 0) []) }
         ensures book { IfOk result IsBook }
@@ -66,7 +66,7 @@ impl EpochBook {
         })
     }
 
-    /// An equal book with memory of its own. It fails only if memory runs out.
+    /// An equal book with memory of its own. The only error is an allocation failure.
     pub fn copy(&self) -> Result<Self, AllocError>
         ensures { IfOk result (λ b. b ≡ self.now) }
     {
@@ -80,11 +80,11 @@ impl EpochBook {
     }
 
     /// Learns a truncation. It may raise the complete epoch, by several where it closes a gap; the advances that waited for
-    /// those epochs then count.
+    /// those epochs then take effect.
     ///
-    /// Errors: `OtherCut` where another truncation of its epoch is held; `Contradiction` where it is not held and cuts below
+    /// Errors: `OtherCut` where another truncation of its epoch is stored; `Contradiction` where it is not stored and cuts below
     /// the minimum, or else where each reader's point, known or waiting in an earlier epoch, is above its `lo`; `Memory`.
-    /// The book is then as it was.
+    /// Each leaves the book unchanged.
     pub fn learn_cut(&mut self, cut: Cut) -> Result<Learnt, BookRefusal>
         ensures ok { OnOk result (LearnsCut self.old cut self.new) }
         ensures knows { OnOk result (KnowsMore self.old (OfCut cut) self.new) }
@@ -116,7 +116,7 @@ impl EpochBook {
         }
     }
 
-    /// What a truncation contradicts whose epoch has none, or None where it contradicts nothing.
+    /// What a truncation of an epoch without one contradicts, or None where it contradicts nothing.
     pub fn against_cut(&self, cut: Cut) -> Option<Held>
         ensures some { IfSome result (λ h. LacksCut self.now.cuts cut.epoch → RefusesCut self.now cut (ContradictionOf h)) }
         ensures none { IsNone result → (h : AnyHeld) → RefusesCut self.now cut (ContradictionOf h) → ⊥ }
@@ -154,11 +154,11 @@ impl EpochBook {
         Ok(())
     }
 
-    /// Learns an advance. It raises its reader's point where its epoch is known, and else it waits.
+    /// Learns an advance. It raises its reader's point where its epoch is known; otherwise it waits.
     ///
-    /// Errors: `OtherRoster` where its reader is not of the roster; `Contradiction`, also where it is known already, with the held
-    /// truncation of the least epoch that cuts below it where nobody is left who reads there; `Memory`. The book is then as it
-    /// was.
+    /// Errors: `OtherRoster` where its reader is not of the roster; `Contradiction`, also where it is known already, with the stored
+    /// truncation of the least epoch that cuts below it where nobody is left who reads there; `Memory`. Each leaves the book
+    /// unchanged.
     pub fn learn_advance(&mut self, advance: Advance) -> Result<Learnt, BookRefusal>
         ensures ok { OnOk result (LearnsAdvance self.old advance self.new) }
         ensures knows { OnOk result (KnowsMore self.old (OfAdvance advance) self.new) }
@@ -204,7 +204,7 @@ impl EpochBook {
         }
     }
 
-    // An advance of a known epoch counts.
+    // An advance of a known epoch takes effect.
     fn count(&mut self, advance: Advance) -> Learnt
         requires counts { advance.epoch ≤ self.old.complete }
         requires of_roster { IsReader (roster_of self.old) advance.reader }
@@ -240,7 +240,7 @@ impl EpochBook {
         }
     }
 
-    /// The greatest epoch up to which every truncation is held.
+    /// The greatest epoch up to which every truncation is stored.
     pub fn complete_epoch(&self) -> u16
         ensures value { result ≡ self.now.complete }
         ensures complete { IsCompleteEpoch self.now.cuts result }
@@ -249,7 +249,7 @@ impl EpochBook {
         self.complete
     }
 
-    /// It does nothing. It is called for what it ensures: a book has the form of one.
+    /// Does nothing. Callers use its contract: every book satisfies the invariant of books.
     pub fn opens_form(&self)
         ensures form { IsBook self.now }
     {
@@ -290,7 +290,7 @@ impl EpochBook {
         &self.waits
     }
 
-    /// How a record of an epoch and number stands.
+    /// The standing of a record of an epoch and LSN: alive, dead or waiting.
     pub fn stands(&self, epoch: u16, number: u64) -> Standing
         ensures alive { (result ≡ AliveOf) ↔ IsAlive self.now.cuts self.now.complete epoch number }
         ensures dead { (result ≡ DeadOf) ↔ IsDead self.now.cuts self.now.complete epoch number }
@@ -315,7 +315,7 @@ impl EpochBook {
         cuts::is_begun(&self.cuts, epoch, number) && lows::spare(&self.lows, epoch, number)
     }
 
-    /// The greatest epoch up to the complete one whose truncation has its `lo` at or below a number, or 0 where none has.
+    /// The greatest epoch up to the complete one whose truncation has its `lo` at or below an LSN, or 0 where none has.
     pub fn last_cut_at(&self, number: u64) -> u16
         ensures value { IsGreatest (CutsAt self.now number) result }
         ensures book { IsBook self.now }

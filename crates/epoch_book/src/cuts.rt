@@ -11,7 +11,7 @@ ghost use Rattle.epoch_book.specs.Refusing.{CutsBelow, IsFirst};
 use crate::points::others_past;
 use redo_core::{Advance, Cut, ReadPoints};
 
-// The place of the truncation of an epoch, or where one would go.
+/// The index of the truncation of an epoch, or where one would be inserted.
 pub fn place_of_epoch(cuts: &[Cut], epoch: u16) -> Result<usize, usize>
     requires { IsRising CutBefore cuts.now }
     ensures found { IfOk result (λ i. (i < length cuts.now) × HoldsAt (λ c. c.epoch ≡ epoch) cuts.now i) }
@@ -33,7 +33,7 @@ fn has_epoch(cuts: &[Cut], epoch: u32) -> bool
     }
 }
 
-// The complete epoch, where all truncations up to `from` are there.
+/// The complete epoch, where all truncations up to `from` are known.
 pub fn complete_epoch_from(cuts: &[Cut], from: u16) -> u16
     requires rising { IsRising CutBefore cuts.now }
     requires fits { All (λ c. c.epoch < epoch_count) cuts.now }
@@ -63,7 +63,7 @@ fn cuts_below(
             || complete < cut.epoch() && others_past(points, waits, cut, advance.reader()))
 }
 
-// The truncation of the least epoch that does.
+/// The truncation of the least epoch that cuts below the advance where nobody is left who reads there, or None.
 pub fn first_against(
     cuts: &[Cut],
     advance: Advance,
@@ -83,7 +83,7 @@ pub fn first_against(
     None
 }
 
-// Whether a number is above the `hi` of its epoch's truncation, where all up to the epoch are there.
+/// Whether an LSN is above the `hi` of its epoch's truncation, where all up to the epoch are known.
 pub fn is_begun(cuts: &[Cut], epoch: u16, number: u64) -> bool
     requires rising { IsRising CutBefore cuts.now }
     requires shaped { All (λ c. cut_fault c ≡ None) cuts.now }

@@ -1,5 +1,5 @@
-//! What the contracts fix, so that no other body meets them: a book answers a fact in one way.
-//! Each function states its law and is called by nobody.
+//! What the contracts determine, so that no other body meets them: a book responds to a fact in one way.
+//! Each function states a theorem and is called by nobody.
 
 ghost use Rattle.std.specs.Prelude.{◌≡◌, IfOk, IfErr, IfSome};
 
@@ -25,7 +25,7 @@ fn truncation_is_answered_one_way(
     }
 }
 
-// Which advances are known says `learn_advance` itself.
+// The contract of `learn_advance` itself determines which advances are known.
 fn advance_is_refused_one_way(
     one: &mut EpochBook,
     other: &mut EpochBook,

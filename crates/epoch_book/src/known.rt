@@ -7,7 +7,7 @@ use crate::{advances, cuts};
 use redo_core::{Advance, Cut};
 
 impl EpochBook {
-    /// Whether this truncation is held.
+    /// Whether this truncation is stored.
     pub fn has_cut(&self, cut: Cut) -> bool
         ensures { IsTrue result ↔ Contains self.now.cuts cut }
     {
@@ -17,7 +17,7 @@ impl EpochBook {
         }
     }
 
-    /// Whether an advance tells nothing new: its reader's point is not below it, or it waits already.
+    /// Whether an advance adds nothing: its reader's point is not below it, or it waits already.
     pub fn has_advance(&self, advance: Advance) -> bool
         ensures { IsTrue result ↔ KnowsAdvance self.now advance }
     {

@@ -1,8 +1,8 @@
 //! The truncations and the advances that a segment knows.
 //!
-//! A book learns one fact at a time, in any order. It answers the complete epoch, each reader's point and the least of them, and how a record of
-//! an epoch and number stands. An advance of an epoch that is not known yet waits until the truncations up to it are there.
-//! A fact that contradicts what is held is refused, whatever facts they are; the facts of a sound log never are.
+//! A book learns one fact at a time, in any order. It returns the complete epoch, each reader's point and the least of them, and the
+//! standing of a record of an epoch and LSN. An advance of an unknown epoch waits until the truncations up to it are known.
+//! A book refuses a fact that contradicts a stored one, for arbitrary facts; it never refuses a fact of a sound log.
 #![tactic(auto)]
 
 mod advances;

@@ -1,5 +1,5 @@
-// The truncations that cut lowest, up to the complete epoch: of each later one the `lo` is not below. A truncation that cuts lower than
-// many before it removes them all at once, so each of them is inserted once and removed once.
+// The truncations that cut lowest, up to the complete epoch: no later one has a `lo` below an earlier one's. A truncation that cuts lower
+// than many before it removes them all at once, so each of them is inserted once and removed once.
 ghost use Rattle.std.specs.Prelude.{◌≡◌, ℕ, ◌+◌, ◌<◌, ◌≤◌, ◌↔◌, length, IsTrue, OnOk, OnErr, None, vec_len, vec_capacity};
 ghost use Rattle.std.specs.List.{All, Contains};
 ghost use Rattle.std.specs.List.Sorted.{IsPartitionPoint};
@@ -13,7 +13,7 @@ ghost use Rattle.epoch_book.specs.Scanning.{IsLeastAbove};
 use redo_core::Cut;
 use std::alloc::AllocError;
 
-// Brings the list from one epoch up to a complete one. It fails only if memory runs out; the list is then as it was.
+/// Updates the list from one epoch to a complete one. The only error is an allocation failure, which leaves the list unchanged.
 pub fn raise(lows: &mut Vec<Cut>, cuts: &[Cut], from: u16, complete: u16) -> Result<(), AllocError>
     requires rising { IsRising CutBefore cuts.now }
     requires shaped { All (λ c. cut_fault c ≡ None) cuts.now }
@@ -30,7 +30,7 @@ pub fn raise(lows: &mut Vec<Cut>, cuts: &[Cut], from: u16, complete: u16) -> Res
     Ok(())
 }
 
-// Brings the list from one epoch to the next, whose truncation takes out those that cut higher.
+// Updates the list from one epoch to the next, whose truncation removes those that cut higher.
 fn add_next(lows: &mut Vec<Cut>, cuts: &[Cut], epoch: u16)
     requires rising { IsRising CutBefore cuts.now }
     requires shaped { All (λ c. cut_fault c ≡ None) cuts.now }
@@ -47,7 +47,7 @@ fn add_next(lows: &mut Vec<Cut>, cuts: &[Cut], epoch: u16)
     lows.push_reserved(next);
 }
 
-// How many of the list cut at or below a number: the first ones.
+// How many of the list cut at or below an LSN: the first ones.
 fn count_at(lows: &[Cut], number: u64) -> usize
     requires { IsRising LowBefore lows.now }
     ensures bound { result ≤ length lows.now }
@@ -65,7 +65,7 @@ fn count_to(lows: &[Cut], epoch: u16) -> usize
     lows.partition_point(|low| low.epoch() <= epoch)
 }
 
-// The least `lo` of the list above an epoch, or None where none is above it.
+/// The least `lo` of the list above an epoch, or None where none is above it.
 pub fn low_above(lows: &[Cut], epoch: u16) -> Option<u64>
     requires { IsRising LowBefore lows.now }
     ensures { IsLeastAbove lows.now epoch result }
@@ -74,7 +74,7 @@ pub fn low_above(lows: &[Cut], epoch: u16) -> Option<u64>
     Some(next.lo())
 }
 
-// Whether none of the list above an epoch cuts below a number.
+/// Whether none of the list above an epoch cuts below an LSN.
 pub fn spare(lows: &[Cut], epoch: u16, number: u64) -> bool
     requires { IsRising LowBefore lows.now }
     ensures { IsTrue result ↔ All (λ c. epoch < c.epoch → number ≤ c.lo) lows.now }
@@ -85,7 +85,7 @@ pub fn spare(lows: &[Cut], epoch: u16, number: u64) -> bool
     }
 }
 
-// The epoch of the last of the list that cuts at or below a number, or 0 where none does.
+/// The epoch of the last of the list that cuts at or below an LSN, or 0 where none does.
 pub fn last_at(lows: &[Cut], number: u64) -> u16
     requires { IsRising LowBefore lows.now }
     ensures { IsGreatest (λ e. (c : CutData) × Contains lows.now c × (c.epoch ≡ e) × (c.lo ≤ number)) result }

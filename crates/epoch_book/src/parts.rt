@@ -1,4 +1,4 @@
-//! Books that are told as a whole, and not one fact after another.
+//! Books that are built from their parts at once, and not one fact after another.
 ghost use Rattle.std.specs.Prelude.{◌≡◌, ◌↔◌, ◌<◌, length, IsTrue, IfOk};
 ghost use Rattle.redo_core.specs.Roster.{IsRoster};
 ghost use Rattle.epoch_book.specs.Book.{IsBook, book_of};
@@ -12,8 +12,8 @@ use redo_core::{Advance, Cut, ReadPoints};
 use std::alloc::{AllocError, Global};
 
 impl EpochBook {
-    /// The book of these truncations, with their complete epoch, each reader's point and the advances that wait. Whether they
-    /// contradict each other is not looked at. It fails only if memory runs out.
+    /// The book of these truncations, with their complete epoch, each reader's point and the advances that wait. It does not check
+    /// whether they contradict each other. The only error is an allocation failure.
     pub fn from_parts(
         alloc: Global,
         cuts: Vec<Cut>,

@@ -5,7 +5,7 @@ use redo_core::{Advance, Cut};
 use std::alloc::AllocFailed;
 use thiserror::Error;
 
-/// Whether a fact told the book anything.
+/// Whether a fact changed the book.
 #[derive(Clone, Copy, Debug, PartialEq, Eq)]
 pub enum Learnt {
     /// The book has changed.
@@ -25,7 +25,7 @@ pub enum Held {
     Cut(Cut),
 }
 
-/// Why a book has not learnt a fact. It is then as it was.
+/// Why a book has not learnt a fact. It is unchanged.
 #[derive(Clone, Copy, Debug, PartialEq, Eq, Error)]
 pub enum BookRefusal {
     #[error("a reader or a roster of another size than its own")]
