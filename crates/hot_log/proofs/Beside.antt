@@ -20,7 +20,7 @@ use Rattle.hot_log.proofs.Orders.{key_less}
 use Rattle.hot_log.proofs.Keyed.{Entry}
 use Rattle.hot_log.proofs.Views.{view_of, number_before}
 
--- what stood before these keys is passed, and none of it is alive
+-- what was before these keys is passed, and none of it is alive
 pub record IsPassed (b : BookData) (all left : List Entry) : Type 0 where
   pub passed : List Entry
   pub split : all ≡ passed ++ left
@@ -70,7 +70,7 @@ module _ (b : BookData) (held : List RecordData) (book : IsBook b) where
   }
 
   module _ (top : ℕ) (left rest front : List Entry) (k : Entry) (ahead : AreOnward b held top left) (split : left ≡ front ++ k ∷ rest) (dead : NoneAlive b front) where
-    -- an alive record above the number has the key, or is behind it
+    -- an alive record above the LSN has the key, or is after it
     at_or_behind : (r : RecordData) → IsHeldAlive b held r → top < r.number → HasKey k.0 r ⊎ Contains rest (own r)
     at_or_behind r h lt = ⊎_elim
         (λ (u : Contains front (own r)). absurd (dead (own r) u h.1))
@@ -83,7 +83,7 @@ module _ (b : BookData) (held : List RecordData) (book : IsBook b) where
     behind : IsRising Rises (k ∷ rest)
     behind = rising_behind front (k ∷ rest) (subst (IsRising Rises) split ahead.rising)
 
-    -- what is behind the key has a higher number
+    -- what is after the key has a higher LSN
     higher : (x r : RecordData) → IsHeldAlive b held x → HasKey k.0 x → IsHeldAlive b held r → (e : Entry) → HasKey e.0 r → Contains rest e → x.number < r.number
     higher x r hx kx hr e kr u =
         let less : KeyBefore k.0 e.0 = key_less k.0 e.0 (each (λ (y : Entry). key_cmp k.0 y.0 ≡ Less) rest e behind.0 u) in
@@ -109,7 +109,7 @@ module _ (b : BookData) (held : List RecordData) (book : IsBook b) where
           (λ (u : Contains rest (own r)). let t : x.number < r.number = higher x r hx kx h (own r) (refl, refl) u in omega arith)
           (at_or_behind r h lt)
 
-    -- where the key is another one's, that one stands between
+    -- where the key is another one's, that one is between
     pub other_first : IsAlive b.cuts b.complete k.0.epoch k.0.number → (x : RecordData) → IsHeldAlive b held x → top < x.number → (HasKey k.0 x → ⊥)
         → (y : RecordData) × IsHeldAlive b held y × (top < y.number) × (y.number < x.number)
     other_first alive x hx up other =
@@ -124,7 +124,7 @@ module _ (b : BookData) (held : List RecordData) (book : IsBook b) where
         )
 
   module _ (top : ℕ) (left rest : List Entry) (key : Key) where
-    -- the walk has come to the key of an alive record above the number
+    -- the walk has reached the key of an alive record above the LSN
     pub passed_to : (o : Option Key) (x : RecordData) → AreOnward b held top left → PassesToAlive b left o rest → o ≡ Some key → IsHeldAlive b held x → HasKey key x → top < x.number
         → AreOnward b held x.number rest × ((r : RecordData) → IsHeldAlive b held r → top < r.number → r.number < x.number → ⊥)
     passed_to None x ahead p is hx kx up = absurd (cc)
@@ -133,7 +133,7 @@ module _ (b : BookData) (held : List RecordData) (book : IsBook b) where
         let k : HasKey found x = subst (λ (q : Key). HasKey q x) (sym same) kx in
         (ahead_next top left rest p.1.0 (found, p.1.1) ahead p.1.2 p.1.3 x hx k up, none_between top left rest p.1.0 (found, p.1.1) ahead p.1.2 p.1.3 x hx k up)
 
-    -- the walk has come to another key, whose record is then alive between the two
+    -- the walk has reached another key, whose record is then alive between the two
     pub stray_before : (o : Option Key) (x : RecordData) → AreOnward b held top left → PassesToAlive b left o rest → (o ≡ Some key → ⊥) → IsHeldAlive b held x → HasKey key x → top < x.number
         → (y : RecordData) × IsHeldAlive b held y × (top < y.number) × (y.number < x.number)
     stray_before None x ahead none other hx kx up = absurd (none (own x) (ahead.listed x hx up) hx.1)

@@ -132,7 +132,7 @@ above_falls at key held r h k p =
     (after_of at r p)
     (λ y q. after_of at y (pair_trans at.epoch at.number r.epoch r.number y.epoch y.number p (subst (λ (a : ℕ). KeyBefore (key_in a r.number) (key_of y)) (sym k.0) (subst (λ (a : ℕ). KeyBefore (key_in key.epoch a) (key_of y)) (sym k.1) (after_is key y q)))))
 
--- what is left of a search upwards from a number: the candidates, which have Q, are above a key, and what is above it is above the number
+-- what is left of a search upwards from an LSN: the candidates, which have Q, are above a key, and what is above it is above the LSN
 pub record Rest (b : BookData) (held : List RecordData) (Q : RecordData → Type 0) (number : ℕ) (at : Key) : Type 0 where
   pub above : (r : RecordData) → Contains held r → IsAlive b.cuts b.complete r.epoch r.number → Q r → number < r.number → KeyBefore at (key_of r)
   pub low : (e n : ℕ) → IsAlive b.cuts b.complete e n → KeyBefore at (key_in e n) → number < n
@@ -171,7 +171,7 @@ rest_found b held Q P number at key (Some x) book is rest found next alive at_ke
 pub positive : (r : RecordData) → record_fault r ≡ None → 0 < r.number
 positive r h = grind arith
 
--- the record that a look-up in the epoch that may have the number finds
+-- the record that a look-up in the epoch that may have the LSN finds
 pub only_there : (b : BookData) (held : List RecordData) (number epoch : ℕ) (o : Option RecordData) → IsBook b → IsHeld held → ((e : ℕ) → IsAlive b.cuts b.complete e number → e ≡ epoch) → IsAlive b.cuts b.complete epoch number → IsRecordAt held (key_in epoch number) o → IsOnlyRecord (λ r. IsHeldAlive b held r × (r.number ≡ number)) o
 only_there b held number epoch None book is own alive none = λ r h. none r h.0.0 (own r.epoch (subst (λ (n : ℕ). IsAlive b.cuts b.complete r.epoch n) h.1 h.0.1), h.1)
 only_there b held number epoch (Some x) book is own alive at = (

@@ -40,7 +40,7 @@ rising_behind : {X : Type 0} (Before : X → X → Type 0) (xs ys : List X) → 
 rising_behind Before [] ys rises = rises
 rising_behind Before (x ∷ xs) ys rises = rising_behind Before xs ys rises.1
 
--- what a walk down has passed is above the entry that it has come to
+-- what a walk down has passed is above the entry that it has reached
 behind : (m : Map) (page : ℕ) (above to : Key) (xs : List Entry) (x : Entry) (w : Walks m page above to xs x) (r : RecordData)
     → Contains (records_in w.rest) r → RecordBefore x.1 r
 behind m page above to xs x w r h =
@@ -125,7 +125,7 @@ map_reverse f [] = refl
 map_reverse f (x ∷ xs) =
     ap (map f) (reverse-append (x ∷ []) xs) ∙ map-append f (reverse xs) (x ∷ []) ∙ ap (λ l. l ++ f x ∷ []) (map_reverse f xs) ∙ sym (reverse-append (f x ∷ []) (map f xs))
 
--- what was pushed last stands first
+-- what was pushed last is first
 pub turned : {X : Type 0} (f : X → RecordData) (before pushed list : List X) (x : X) → pushed ≡ before ++ x ∷ [] → list ≡ reverse pushed
     → map f list ≡ f x ∷ reverse (map f before)
 turned f before pushed list x more is = search (rules, reverse_push, map_reverse)
@@ -133,7 +133,7 @@ turned f before pushed list x more is = search (rules, reverse_push, map_reverse
 pub turned_all : {X : Type 0} (f : X → RecordData) (found list : List X) → list ≡ reverse found → map f list ≡ reverse (map f found)
 turned_all f found list is = ap (map f) is ∙ map_reverse f found
 
--- how far a walk down has come: what it has passed, and the alive of that in falling order
+-- the progress of a walk down: what it has passed, and the alive of that in falling order
 pub record Descends (b : BookData) (es left : List Entry) (falling : List RecordData) : Type 0 where
   pub passed : List Entry
   pub split : es ≡ left ++ passed

@@ -15,7 +15,7 @@ use Rattle.hot_log.proofs.Indexed.{one_key}
 use Rattle.hot_log.proofs.Views.{view_of, number_before}
 use Rattle.hot_log.proofs.Climb.{alive_key, key_alive, up_to, fewer, not_after, past, still, passed}
 
--- what is left of a search downwards from a number: the candidates, which have Q, are at or below a key, and what is at or below it is at most the number
+-- what is left of a search downwards from an LSN: the candidates, which have Q, are at or below a key, and what is at or below it is at most the LSN
 pub record Under (b : BookData) (held : List RecordData) (Q : RecordData → Type 0) (number : ℕ) (at : Key) : Type 0 where
   pub below : (r : RecordData) → Contains held r → IsAlive b.cuts b.complete r.epoch r.number → Q r → r.number ≤ number → KeyBefore at (key_of r) → ⊥
   pub high : (r : RecordData) → IsAlive b.cuts b.complete r.epoch r.number → (KeyBefore at (key_of r) → ⊥) → r.number ≤ number

@@ -1,4 +1,4 @@
--- Where a chain without forks and strays ends.
+-- Where a chain without forks and orphan records ends.
 use Rattle.std.proofs.Common.{◌≡◌, ℕ, ◌<◌, ◌≤◌, ◌⊎◌, inl, inr, ⊎_elim, List, refl, sym, ◌∙◌, ap, subst, arith, Some, rules}
 use Rattle.std.proofs.lemmas.Bool.{cases_lt}
 use Rattle.redo_core.specs.Data.{RecordData}
@@ -16,7 +16,7 @@ use Rattle.hot_log.proofs.Straight.{Straight, straight_start, straight_next, lin
 use Rattle.hot_log.proofs.Views.{view_of, one_number, number_before}
 use Rattle.hot_log.proofs.Climb.{from_zero}
 
--- the chain so far: straight, and no alive record above it has a linked backlink below its end
+-- the chain so far: contiguous, and no alive record above it has a linked backlink below its end
 pub record Climbed (b : BookData) (held : List RecordData) (from top : ℕ) : Type 0 where
   pub chain : Straight b held from top
   pub closed : (z : RecordData) → IsHeldAlive b held z → top < z.number → IsLinkedFrom b held from z.back → top ≤ z.back
@@ -105,7 +105,7 @@ first_step b held top m form (next z h a l p) = ⊎_elim
     inr (w.0, w.1, w.2, omega arith))
     (first_step b held top z.back form p)
 
--- a stray below the next record
+-- an orphan record below the next record
 pub not_over_stray : (b : BookData) (held : List RecordData) (from top n : ℕ) (x y : RecordData) → IsHeld held → Climbed b held from top → IsStep b held top x
     → IsHeldAlive b held y → top < y.number → y.number < x.number → IsStraightEnd b held from n → ⊥
 not_over_stray b held from top n x y form c s h lt below end =
@@ -135,7 +135,7 @@ not_over_fork b held from top n x y book form c s h back lt end =
     (link_down b.cuts held b.complete x.number (view_of b book) form.rising y h.0 h.1 lt onward) in
     omega arith
 
--- ---- from what the search says
+-- ---- from the contract of the search
 pub step_of : (b : BookData) (held : List RecordData) (top : ℕ) (key : Key) → IsBook b → IsHeld held → (found : IsAliveOfBack b held top (key_in 0 0) (Some key))
     → IsStep b held top found.0.0
 step_of b held top key book form found = record {
@@ -153,7 +153,7 @@ step_of b held top key book form found = record {
     same_key : (r : RecordData) → IsHeldAlive b held r → HasKey key r → r ≡ found.0.0
     same_key r h k = one_number b.cuts b.complete held (view_of b book) form.rising r found.0.0 h.0 found.0.1.0 h.1 found.0.1.1 (k.1 ∙ sym found.0.3.1)
 
--- a record with a higher number has a higher key
+-- a record with a higher LSN has a higher key
 pub key_after : (b : BookData) (held : List RecordData) (key : Key) (x r : RecordData) → IsBook b → IsHeld held → IsHeldAlive b held x → HasKey key x → IsHeldAlive b held r
     → x.number < r.number → KeyBefore key (key_of r)
 key_after b held key x r book form hx k hr lt = ⊎_elim

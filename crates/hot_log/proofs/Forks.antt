@@ -1,4 +1,4 @@
--- The search for linked numbers: down each chain in turn, and from its end up to the last fork.
+-- The search for linked LSNs: down each chain in turn, and from its end up to the last fork.
 use Rattle.std.proofs.Common.{◌≡◌, ℕ, ◌+◌, ◌*◌, ◌-◌, ◌<◌, ◌≤◌, ◌⊎◌, inl, inr, ⊎_elim, List, [], ◌∷◌, ◌++◌, length, get_or, take, drop, refl, sym, ◌∙◌, ap, subst, arith, max, Some, None, rules}
 use Rattle.std.specs.List.{Contains, AllByRecursion}
 use Rattle.std.proofs.lemmas.Bool.{cases_lt}
@@ -23,8 +23,8 @@ use Rattle.hot_log.proofs.Climb.{from_zero, key_is}
 one_alive : (b : BookData) (held : List RecordData) (r s : RecordData) → IsBook b → IsHeld held → IsHeldAlive b held r → IsHeldAlive b held s → r.number ≡ s.number → r ≡ s
 one_alive b held r s book is h k e = one_number b.cuts b.complete held (view_of b book) is.rising r s h.0 k.0 h.1 k.1 e
 
--- The alive records that a search still comes to, where it stands behind a key among those of a backlink: those of the backlink
--- behind that key, and those that it comes to from the record of the backlink on.
+-- The alive records that a search still reaches, where it is after a key among those of a backlink: those of the backlink
+-- after that key, and those that it reaches from the record of the backlink on.
 pub data Ahead (b : BookData) (held : List RecordData) (from : ℕ) : ℕ → Key → RecordData → Type 0 where
   beside : (r : RecordData) (at : Key) → IsHeldAlive b held r → KeyBefore at (key_of r) → Ahead b held from r.back at r
   above : (u r : RecordData) (at : Key) → IsHeldAlive b held u → from < u.number → Ahead b held from u.back (key_of u) r → Ahead b held from u.number at r
@@ -41,7 +41,7 @@ pub record Above (b : BookData) (held : List RecordData) (from back : ℕ) (r : 
   pub at : by.number ≡ back
   pub rest : Ahead b held from by.back (key_of by) r
 
--- a search that climbs from here comes to nothing
+-- a search that climbs from here reaches nothing
 abbrev pub IsAlone : BookData → List RecordData → ℕ → ℕ → Type 0
 IsAlone b held from back = (r : RecordData) → Above b held from back r → ⊥
 
@@ -76,7 +76,7 @@ not_self b held from r is h =
     omega arith)
     (ahead_cases b held from r.back (key_of r) r h)
 
--- nothing that is ahead is above the place on its chain
+-- nothing that is ahead is above the position on its chain
 no_ancestor : (b : BookData) (held : List RecordData) (from back : ℕ) (at : Key) (q : RecordData) → IsBook b → IsHeld held → Ahead b held from back at q → IsLinkedFrom b held q.number back → ⊥
 no_ancestor b held from back at q book is (beside s t h p) l =
     let low : s.number ≤ s.back = link_at_least b.cuts held b.complete s.number s.back l in
@@ -143,11 +143,11 @@ no_more_than (x ∷ seen) xs apart part =
     let le : length seen ≤ length rest = no_more_than seen rest apart.1 others in
     omega arith
 
--- the search still comes to a record, or to one from which its number is linked
+-- the search still reaches a record, or one from which its LSN is linked
 abbrev pub ComesTo : BookData → List RecordData → ℕ → ℕ → Key → RecordData → Type 0
 ComesTo b held from back at r = (q : RecordData) × Ahead b held from back at q × IsLinkedFrom b held q.number r.number
 
--- from the start of the records of a backlink it comes to each that is linked from there
+-- from the start of the records of a backlink it reaches each that is linked from there
 comes_from : (b : BookData) (held : List RecordData) (from base : ℕ) (r : RecordData) → IsHeld held → base < r.number → IsLinkedFrom b held base r.number → ComesTo b held from base (key_in 0 0) r
 comes_from b held from base r is lt l =
     ⊎_elim
@@ -155,7 +155,7 @@ comes_from b held from base r is lt l =
     (λ (s : Step b held base r.number). (s.by, beside_at b held from base (key_in 0 0) s.by s.alive s.of (from_zero held s.by is s.alive.0), s.rest))
     (first_step b held base r.number is l)
 
--- where the search stands: at a linked number, with the greatest linked one so far and the records looked at
+-- the state of the search: at a linked LSN, with the greatest linked one so far and the records visited
 pub record Search (b : BookData) (held : List RecordData) (from limit back : ℕ) (at : Key) (top count : ℕ) : Type 0 where
   pub back_linked : IsLinkedFrom b held from back
   pub back_bound : back ≤ limit
@@ -188,7 +188,7 @@ search_start b held from limit is le = record {
   once = λ r h. absurd (none_in r h);
 }
 
--- the record that the search comes to next
+-- the record that the search reaches next
 pub record IsNext (b : BookData) (held : List RecordData) (back : ℕ) (at : Key) (x : RecordData) : Type 0 where
   pub alive : IsHeldAlive b held x
   pub of : x.back ≡ back
@@ -224,7 +224,7 @@ reached_too b held from limit back at top count x s c r h =
 counted_too : (b : BookData) (held : List RecordData) (from limit back : ℕ) (at : Key) (top count : ℕ) (x : RecordData) (s : Search b held from limit back at top count) → length (x ∷ s.seen) ≡ count + 1
 counted_too b held from limit back at top count x s = let e : length s.seen ≡ count = s.counted in omega arith
 
--- what is ahead behind it leads to nothing that was seen
+-- what is ahead after it leads to nothing that was seen
 once_behind : (b : BookData) (held : List RecordData) (from limit back : ℕ) (at : Key) (top count : ℕ) (x : RecordData) → IsBook b → IsHeld held → (s : Search b held from limit back at top count) → IsNext b held back at x → (r : RecordData) → Contains (x ∷ s.seen) r → ComesTo b held from back (key_of x) r → ⊥
 once_behind b held from limit back at top count x book is s c r h w =
     ⊎_elim
@@ -235,7 +235,7 @@ once_behind b held from limit back at top count x book is s c r h w =
     (λ (u : Contains s.seen r). s.once r u (w.0, ahead_later b held from back at (key_of x) w.0 c.behind w.1, w.2))
     (which x s.seen r h)
 
--- what was ahead is the record that the search looks at, or is still ahead behind it
+-- what was ahead is the record that the search visits, or is still ahead after it
 passes : (b : BookData) (held : List RecordData) (from back : ℕ) (at : Key) (x : RecordData) → IsNext b held back at x → (q : RecordData) → Ahead b held from back at q → (q ≡ x) ⊎ Ahead b held from back (key_of x) q
 passes b held from back at x c q h = ⊎_elim
     (λ (u : Beside b held back at q). ⊎_elim
@@ -349,7 +349,7 @@ search_down b held from limit back at top count most x book is s c bound grows c
       once = once_down b held from limit back at top count x book is s c;
     }
 
--- the search has come to the end of a chain: what is ahead is ahead of the record of the backlink
+-- the search has reached the end of a chain: what is ahead is ahead of the record of the backlink
 climbs : (b : BookData) (held : List RecordData) (from back : ℕ) (at : Key) (u : RecordData) → IsBook b → IsHeld held → IsAliveOfBack b held back at None → IsHeldAlive b held u → u.number ≡ back → (q : RecordData) → Ahead b held from back at q → Ahead b held from u.back (key_of u) q
 climbs b held from back at u book is none alive e q h =
     ⊎_elim
@@ -397,7 +397,7 @@ alone_below b held from back at key book is alone n last r w =
     (λ (u : Above b held from back r). alone r u)
     (ahead_cases b held from back key r (subst (λ (p : Key). Ahead b held from back p r) (key_is key.epoch key.number x.epoch x.number (sym k.0) (sym k.1)) beside_key))
 
--- the search has come back to its base, or to a number with nowhere to climb to: nothing is ahead
+-- the search has returned to its base, or to an LSN with nowhere to climb to: nothing is ahead
 spent : (b : BookData) (held : List RecordData) (from back : ℕ) (at : Key) (q : RecordData) → IsAliveOfBack b held back at None → IsAlone b held from back → Ahead b held from back at q → ⊥
 spent b held from back at q none alone h = search (rules, ahead_cases)
 
@@ -415,7 +415,7 @@ search_end b held from limit back at top count is s none alone m l up =
     (s.all u.by it))
     (link_cases b.cuts held b.complete from m l)
 
--- and has then looked at each record that is reached, once
+-- and has then visited each record that is reached, once
 apart_of : (xs : List RecordData) → IsRising RecordBefore xs → IsApart xs
 apart_of [] rising = tt
 apart_of (x ∷ xs) rising = (
@@ -475,7 +475,7 @@ looks b held from limit back at key top count book is s n =
     let e : length s.seen ≡ count = s.counted in
     omega arith
 
--- the measure falls by a record looked at, and by a climb
+-- the measure falls by a record visited, and by a climb
 pub falls_by_one : (h c d l x y : ℕ) → d ≡ c + 1 → c + 1 ≤ h → x ≤ l → (h - d) * (l + 1) + x < (h - c) * (l + 1) + y
 falls_by_one h c d l x y e le up = search rules
 
@@ -488,6 +488,6 @@ falls_by_climb h c l x y lt = add_less ((h - c) * (l + 1)) x y lt
 pub climbs_to : (b : BookData) (held : List RecordData) (from limit back : ℕ) (at : Key) (top count : ℕ) (u : RecordData) (e n k : ℕ) → IsBook b → IsHeld held → Search b held from limit back at top count → IsAliveOfBack b held back at None → IsHeldAlive b held u → u.number ≡ back → from < back → k ≡ u.back → e ≡ u.epoch → n ≡ u.number → Search b held from limit k (key_in e n) top count
 climbs_to b held from limit back at top count u e n k book is s none alive same lt p q r = search (rules, search_climb)
 
--- a linked number above the base is that of a record
+-- a linked LSN above the base is that of a record
 pub has_record : (b : BookData) (held : List RecordData) (from back : ℕ) → IsLinkedFrom b held from back → from < back → ((r : RecordData) → IsHeldAlive b held r × (r.number ≡ back) → ⊥) → ⊥
 has_record b held from back l lt none = search (rules, link_cases)

@@ -47,7 +47,7 @@ gone_all P at old now gone none r = (
   λ h. (gone r).1 (h.0, λ p. h.1 p.0),
 )
 
--- the alive records of a page up to a number, row by row
+-- the alive records of a page up to an LSN, run by run
 pub folded_none : (b : BookData) (page version point : ℕ) (at : Key) (held : List RecordData) → ((r : RecordData) → Contains held r → 0 < r.number) → PartsAtKey b 0 at → Gone (IsFolded b page version point) at held held
 folded_none b page version point at held positive parts = gone_none (IsFolded b page version point) at held (λ r h p. (parts r.epoch r.number p.0).0 (positive r h))
 

@@ -1,4 +1,4 @@
--- The walk down the backlinks from the first alive record above a number.
+-- The walk down the backlinks from the first alive record above an LSN.
 use Rattle.std.proofs.Common.{◌≡◌, ℕ, ◌<◌, ⊎_elim, List, Option, Some, None, refl, sym, ap, subst, arith}
 use Rattle.std.specs.List.{Contains}
 use Rattle.redo_core.specs.Data.{RecordData, CutData}
@@ -15,7 +15,7 @@ use Rattle.hot_log.proofs.Chain.{Link, link_cases, back_below}
 use Rattle.hot_log.proofs.Forks.{link_trans}
 use Rattle.hot_log.proofs.Views.{IsView, view_of, one_number}
 
--- the walk has come to a record: the first alive one is linked from that one's backlink
+-- the walk has reached a record: the first alive one is linked from that one's backlink
 pub record Hanging (b : BookData) (held : List RecordData) (above : ℕ) (r : RecordData) : Type 0 where
   pub first : RecordData
   pub is : IsFirst BeforeByNumber (λ s. IsHeldAlive b held s × (above < s.number)) first
@@ -35,7 +35,7 @@ hanging_down b held above r x form alive at w = record {
   linked = link_trans b.cuts held b.complete x.back x.number w.first.number (next x alive.0 alive.1 (back_below x (form.shaped x alive.0)) start) (subst (λ (m : ℕ). IsLinkedFrom b held m w.first.number) (sym at) w.linked);
 }
 
--- a record hangs on one number
+-- a record is blocked by one LSN
 pub hangs_one : (cs : List CutData) (held : List RecordData) (k : ℕ) → IsView cs k → IsRising RecordBefore held → (m n x : ℕ) → Linked cs held k m x → Linked cs held k n x
     → ((r : RecordData) → Contains held r × IsAlive cs k r.epoch r.number → r.number ≡ m → ⊥)
     → ((r : RecordData) → Contains held r × IsAlive cs k r.epoch r.number → r.number ≡ n → ⊥) → m ≡ n

@@ -1,4 +1,4 @@
--- What keeps an index the index of the held records.
+-- What keeps an index the index of the stored records.
 use Rattle.std.proofs.Common.{◌≡◌, ℕ, ◌⊎◌, ◌↔◌, inl, inr, ⊎_elim, List, refl, sym, ◌∙◌, ap, subst, Option, Some, None, Bool, true, false, Result, rules}
 use Rattle.std.proofs.lemmas.Bool.{false≢true}
 use Rattle.std.specs.Option.{is_some}

@@ -17,7 +17,7 @@ use Rattle.epoch_book.proofs.Places.{rank_le, at_less, at_equal, at_greater}
 pub same_key : (k l : Key) → k.epoch ≡ l.epoch → k.number ≡ l.number → k ≡ l
 same_key k l e n = ap (λ x. key_in x k.number) e ∙ ap (λ x. key_in l.epoch x) n
 
--- two keys that are told to be equal are one
+-- two keys that compare as equal are one
 both : (p q : Bool) → (p && q) ≡ true → (p ≡ true) × (q ≡ true)
 both p q h = search rules
 
@@ -59,11 +59,11 @@ key_found ks x (Err i) rise l h =
           (let t : (has.0 < i) ⊎ (i ≤ has.0) = grind arith in t)),
     )
 
--- rising keys in front of a place are below what the last of them is below
+-- rising keys before an index are below what the last of them is below
 pub all_below : (ks : List Key) (i : ℕ) (x e : Key) → IsRising KeyBefore ks → 0 < i → i ≤ length ks → KeyBefore (get_or ks (i - 1) e) x → All (λ k. KeyBefore k x) (take i ks)
 all_below ks i x e rise some le last = search (rules, get_or-take, rising_at, get_or_default)
 
--- rising keys from a place on are above what the first of them is above
+-- rising keys from an index on are above what the first of them is above
 pub all_above : (ks : List Key) (i : ℕ) (x e : Key) → IsRising KeyBefore ks → i < length ks → KeyBefore x (get_or ks i e) → All (KeyBefore x) (drop i ks)
 all_above ks i x e rise some first = grind (arith, common_steps, rising_at)
 

@@ -35,7 +35,7 @@ joins_page old new key page is gains = (
       (joins key_cmp old key page (λ y h q. is y.1 (subst (λ (k : Key). Contains old (k, y.1)) ((at_key key_cmp keys_exact key y.0).0 q) h)) e),
 )
 
--- a key has been given a page where it had none, and else the entries are as they were
+-- a key has been given a page where it had none; otherwise the entries are unchanged
 pub told_or_joins : (old new : Map) → IsStrictlySortedBy key_cmp (keys_of old) → (key : Key) (page : ℕ) (had : Option ℕ) → had ≡ lookup (is_at (key_cmp key)) old
     → (had ≡ None → new ≡ insert_entry key_cmp old key page) → (is_some had ≡ true → new ≡ old) → AddsPage old key page new had
 told_or_joins old new ordered key page None is gains keeps = joins_page old new key page (page_at old ordered key None is) (gains refl)

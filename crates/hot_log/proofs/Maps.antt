@@ -1,4 +1,4 @@
--- Maps whose order is exact: what they hold where a key joins or leaves them.
+-- Maps whose order is exact: their entries where a key joins or leaves them.
 use Rattle.std.proofs.Common.{◌≡◌, ◌⊎◌, ◌↔◌, inl, inr, ⊎_elim, List, [], ◌∷◌, ◌++◌, refl, sym, ◌∙◌, ap, subst, Bool, true, false, not, ◌&&◌, cond, Some, None, rules, arith}
 use Rattle.std.proofs.lemmas.Grind.{common_steps}
 use Rattle.std.specs.List.{Contains, AllZip, filter}
@@ -68,7 +68,7 @@ zipped Copy [] (y ∷ ys) same h = absurd h
 zipped Copy (x ∷ xs) [] same h = absurd h
 zipped {X} Copy (x ∷ xs) (y ∷ ys) same h = ap (λ (z : X). z ∷ ys) (same x y h.0) ∙ ap (λ (l : List X). x ∷ l) (zipped Copy xs ys same h.1)
 
--- an order of keys in which just equal ones compare as such
+-- an order of keys in which exactly the equal ones compare as such
 pub record IsExact {K : Type 0} (c : K → K → Ordering) : Type 0 where
   pub total : IsTotalOrder c
   pub exact : CmpEqualImpliesEq c

@@ -14,7 +14,7 @@ use Rattle.hot_log.specs.Indexing.{AreHeldAbove}
 use Rattle.hot_log.proofs.Orders.{key_less}
 use Rattle.hot_log.proofs.Keyed.{Entry}
 
--- the keys that are left: of held records of later epochs, and each that such a search is for is among them
+-- the keys that are left: of stored records of later epochs, and each that such a search is for is among them
 pub record AreLater (b : BookData) (held : List RecordData) (epoch number : ℕ) (left : List Entry) : Type 0 where
   pub listed : (r : RecordData) → IsOpenedBelow b held epoch number r → Contains left (key_of r, r.page)
   pub backed : (e : Entry) → Contains left e → (r : RecordData) × Contains held r × HasKey e.0 r × (r.page ≡ e.1) × (epoch < r.epoch)
@@ -37,7 +37,7 @@ abbrev own : RecordData → Entry
 own r = (key_of r, r.page)
 
 module _ (b : BookData) (held : List RecordData) (epoch number : ℕ) (x : Entry) (left rest : List Entry) (is : left ≡ x ∷ rest) (l : AreLater b held epoch number left) where
-  -- one that is searched for is the first, or behind it
+  -- one that is searched for is the first, or after it
   first_or_behind : (r : RecordData) → IsOpenedBelow b held epoch number r → (x ≡ own r) ⊎ Contains rest (own r)
   first_or_behind r h = which x rest (own r) (subst (λ (m : List Entry). Contains m (own r)) is (l.listed r h))
 

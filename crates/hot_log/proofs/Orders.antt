@@ -1,4 +1,4 @@
--- The order of keys in groups, and what stands first and last among the members of a rising list that pass a test.
+-- The order of keys in groups, and the first and last among the members of a rising list that pass a test.
 use Rattle.std.proofs.Common.{◌≡◌, ℕ, ◌<◌, ◌⊎◌, inl, inr, ⊎_elim, List, [], ◌∷◌, ◌++◌, sym, subst, arith, Bool, true, rules, ◌↔◌}
 use Rattle.std.proofs.lemmas.Grind.{common_steps}
 use Rattle.std.specs.List.{Contains, filter}

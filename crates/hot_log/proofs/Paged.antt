@@ -89,7 +89,7 @@ below_of r s h = grind arith
 not_below : (r s : RecordData) → is_below r s ≡ false → RecordBefore r s → ⊥
 not_below r s h p = grind arith
 
--- a record stands where it is apart from each of them
+-- a record is where it is apart from each of them
 rising_insert : (r : RecordData) (ss : List RecordData) → IsRising RecordBefore ss → ((s : RecordData) → Contains ss s → RecordBefore r s ⊎ RecordBefore s r) → IsRising RecordBefore (insert_by_key r ss)
 rising_insert r [] rising apart = (tt, tt)
 rising_insert r (s ∷ ss) rising apart = either (is_below r s) refl (rising_insert r ss rising.1 (λ x h. apart x (there s ss x h)))
@@ -124,7 +124,7 @@ entry_of (f ∷ es) r h =
 pub place_as : (g e n h a b : ℕ) → g ≡ h → e ≡ a → n ≡ b → ◌≡◌ {A = Place} (g, key_in e n) (h, key_in a b)
 place_as g e n h a b p q r = cc
 
--- records with different places and no key twice, in the order of their keys
+-- records with different positions and no key twice, in the order of their keys
 pub record IsApart (es : List Entry) : Type 0 where
   pub rising : IsRising (λ (x y : Entry). place_cmp x.0 y.0 ≡ Less) es
   pub placed : (e : Entry) → Contains es e → e.0 ≡ place_of e.1
@@ -166,7 +166,7 @@ held_of m is = record {
   shaped = λ r h. is.shaped r ((in_order (records_in m) r).0 h);
 }
 
--- each record stands under its page and key
+-- each record is stored under its page and key
 pub own_entry : (m : Map) → IsPaged m → (r : RecordData) → Contains (seen m) r → Contains m (place_of r, r)
 own_entry m is r h =
     let t = entry_of m r ((in_order (records_in m) r).0 h) in
@@ -198,7 +198,7 @@ got m is page key (Some r) e =
     let k : (page, key) ≡ place_of r = is.placed ((page, key), r) at in
     (seen_in m ((page, key), r) at, sym (ap (λ (p : Place). p.0) k), (sym (ap (λ (p : Place). p.1.epoch) k), sym (ap (λ (p : Place). p.1.number) k)))
 
--- what a map that gains a record under its free key holds
+-- the entries of a map that gains a record under its free key
 pub record Grows (old new : Map) (redo : RecordData) : Type 0 where
   pub was : IsPaged old
   pub ordered : IsStrictlySortedBy place_cmp (keys_of new)
@@ -207,7 +207,7 @@ pub record Grows (old new : Map) (redo : RecordData) : Type 0 where
   pub fits : redo.page < 65536
   pub at : new ≡ insert_entry place_cmp old (place_of redo) redo
 
--- no entry stands at its place
+-- no entry is at its position
 gains : (old new : Map) (redo : RecordData) → Grows old new redo → (e : Entry) → Contains new e ↔ (Contains old e ⊎ (e ≡ (place_of redo, redo)))
 gains old new redo g e =
     subst (λ (l : List Entry). Contains l e ↔ (Contains old e ⊎ (e ≡ (place_of redo, redo)))) (sym g.at)
@@ -263,7 +263,7 @@ grown_paged old new redo g = record {
     was : (r : RecordData) → Contains (records_in new) r → Contains (seen old) r ⊎ (r ≡ redo)
     was r h = (grown_members old new redo g r).0 ((in_order (records_in new) r).1 h)
 
--- what a map that loses a place holds
+-- the entries of a map that loses a position
 pub record Shrinks (old new : Map) (page : ℕ) (key : Key) : Type 0 where
   pub was : IsPaged old
   pub ordered : IsStrictlySortedBy place_cmp (keys_of new)

@@ -10,11 +10,11 @@ use Rattle.redo_core.proofs.Listing.{lists_as}
 use Rattle.epoch_book.specs.Book.{BookData}
 use Rattle.hot_log.specs.Alive.{IsHeldOf, IsAliveBetween, PartsAt, PartsAtKey}
 
--- what was answered, under another property
+-- the result, under another property
 pub if_ok : {T E : Type 0} (r : Result T E) (P Q : T → Type 0) → ((v : T) → P v → Q v) → IfOk r P → IfOk r Q
 if_ok r P Q f h = search rules
 
--- the alive records between the keys that part them at two numbers are those between the numbers
+-- the alive records between the keys that part them at two LSNs are those between the LSNs
 pub number_is : (b : BookData) (held : List RecordData) (page from to low : ℕ) (high : Key) → PartsAt b from low → PartsAtKey b to high → (r : RecordData) → IsAliveBetween b held page (key_in low from) high r ↔ IsHeldOf b held page from to r
 number_is b held page from to low high above up r = (
   λ h. (
@@ -37,7 +37,7 @@ number_is b held page from to low high above up r = (
 pub by_number : (b : BookData) (held : List RecordData) (page from to low : ℕ) (high : Key) (xs : List RecordData) → PartsAt b from low → PartsAtKey b to high → Lists BeforeByNumber (IsAliveBetween b held page (key_in low from) high) xs → Lists BeforeByNumber (IsHeldOf b held page from to) xs
 by_number b held page from to low high xs above up lists = search (rules, lists_as, number_is)
 
--- there are none where the keys, or the numbers, do not rise
+-- there are none where the keys, or the LSNs, do not rise
 pub none_between : (b : BookData) (held : List RecordData) (page from to low : ℕ) (high : Key) (xs : List RecordData) → PartsAt b from low → PartsAtKey b to high → (low ≤ high.epoch → from < to → ⊥) → xs ≡ [] → Lists BeforeByNumber (IsHeldOf b held page from to) xs
 none_between b held page from to low high xs above up apart is =
     subst (λ (l : List RecordData). Lists BeforeByNumber (IsHeldOf b held page from to) l) (sym is)

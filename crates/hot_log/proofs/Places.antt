@@ -36,7 +36,7 @@ le_true o h e = cc
 le_of : (o : Ordering) → (o ≡ Greater → ⊥) → (is_le o && not false) ≡ true
 le_of o h = search rules
 
--- a key of the group above another, as the order of places says it
+-- a key of the group above another, in terms of the order of positions
 in_group_above : (g a b e n : ℕ) → PairBefore a b e n → Below (g, key_in a b) (g, key_in e n)
 in_group_above g a b e n p = place_less_of (g, key_in a b) (g, key_in e n) (inr (refl, p))
 
@@ -61,7 +61,7 @@ next_other keys g after x t rising is other e n h p =
     (λ (b : Below x (g, key_in e n)). ⊎_elim (λ (l : x.0 < g). omega arith) (λ (q : (x.0 ≡ g) × KeyBefore x.1 (key_in e n)). other q.0) (place_less x (g, key_in e n) b))
     (f.2 (g, key_in e n) h (lt_of (place_cmp (g, after) (g, key_in e n)) (in_group_above g after.epoch after.number e n p)))
 
--- the keys behind the first of a range
+-- the keys after the first of a range
 module _ (keys : List Place) (g : ℕ) (after : Key) (x : Place) (t : List Place) (rising : IsRising Below keys) (is : filter (range_contains place_cmp (Excluded (g, after)) Unbounded) keys ≡ x ∷ t) (same : x.0 ≡ g) where
   abbrev test : Place → Bool
   test = range_contains place_cmp (Excluded (g, after)) Unbounded

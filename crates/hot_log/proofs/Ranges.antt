@@ -1,4 +1,4 @@
--- What ranges of a map by page and key hold.
+-- The entries of ranges of a map by page and key.
 use Rattle.std.proofs.Common.{◌≡◌, ℕ, ◌+◌, ◌<◌, ◌≤◌, ◌⊎◌, ◌↔◌, inl, inr, ⊎_elim, List, [], ◌∷◌, ◌++◌, sym, ◌∙◌, ap, subst, arith, Bool, true, Option, Some, None, rules}
 use Rattle.std.proofs.lemmas.List.{map-append}
 use Rattle.std.proofs.lemmas.Grind.{common_steps}
@@ -140,11 +140,11 @@ alive_none b ys none = search rules
 pub joined : (xs : List Entry) (x : Entry) (r : RecordData) → Contains (records_in (xs ++ x ∷ [])) r ↔ (Contains (records_in xs) r ⊎ (r ≡ x.1))
 joined xs x r = rw map-append (joins_last (records_in xs) x.1 r)
 
--- within one page, a place below another is that of a record with a lower key
+-- within one page, a position below another is that of a record with a lower key
 pub same_page : (page : ℕ) (p q : Place) (r s : RecordData) → p ≡ place_of r → q ≡ place_of s → p.0 ≡ page → q.0 ≡ page → place_cmp p q ≡ Less → RecordBefore r s
 same_page page p q r s at bt e f low = search rules
 
--- a walk through a range that has come to an entry
+-- a walk through a range that has reached an entry
 pub record Walks (m : Map) (page : ℕ) (above to : Key) (xs : List Entry) (x : Entry) : Type 0 where
   pub es : List Entry
   pub rest : List Entry

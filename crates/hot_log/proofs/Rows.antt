@@ -1,4 +1,4 @@
--- The first row of alive records of a page, which a walk takes from what lists the records.
+-- The first run of alive records of a page, which a walk removes from the lists of keys.
 use Rattle.std.proofs.Common.{◌≡◌, ℕ, ◌⊎◌, ◌↔◌, inl, inr, ⊎_elim, List, [], ◌∷◌, ◌++◌, refl, sym, ◌∙◌, ap, subst, arith, Bool, true, not, ◌==◌, ◌&&◌, Option, Some, None, rules}
 use Rattle.std.specs.List.{Contains, filter}
 use Rattle.std.specs.BTreeMap.Range.{range_contains}
@@ -25,7 +25,7 @@ use Rattle.hot_log.proofs.Paged.{Entry, Map, entry_of, held_of, own_entry, recor
 use Rattle.hot_log.proofs.Places.{Place, pair_or_not}
 use Rattle.hot_log.proofs.Ranges.{IsRange, joined, range_of, same_page}
 
--- held records without that of a key
+-- stored records without that of a key
 abbrev other_key : ℕ → ℕ → RecordData → Bool
 other_key e n r = not (r.epoch == e && r.number == n)
 
@@ -63,7 +63,7 @@ pages_same old new keys same is = record {
   backed = λ e n page h. let t = is.backed e n page h in (t.0, (same t.0).0 t.1, t.2, t.3);
 }
 
--- what is listed are the held records without those with P
+-- what is listed are the stored records without those with P
 pub record Left (P : RecordData → Type 0) (held : List RecordData) (keys : List (Key × ℕ)) (backs : List Place) : Type 0 where
   pub left : List RecordData
   pub removes : Removes P held left
@@ -111,7 +111,7 @@ left_lists P held keys backs is left form removes =
       by_back = index_same (λ r. r.back) is.left left backs same is.indexed.by_back;
     }
 
--- a walk over the records of a page between two keys: those passed, and those to come
+-- a walk over the records of a page between two keys: those passed, and those left
 pub record Walk (m : Map) (page : ℕ) (above to : Key) (xs ys : List Entry) : Type 0 where
   pub paged : IsPaged m
   pub range : IsRange m page above to (xs ++ ys)
@@ -157,7 +157,7 @@ front m page above to xs ys w r s h k =
     same_page page t.0 u.0 r s (w.paged.placed (t.0, r) a.0) (w.paged.placed (u.0, s) b.0) a.1.page b.1.page
     (before_come Before xs ys (t.0, r) (u.0, s) w.range.rising t.1 u.1)
 
--- the last of the row so far; none of those passed is above it, or none of a row has come
+-- the last of the run so far; none of those passed is above it, or none of a run has been reached
 abbrev pub EndsRow : List Entry → Key → Option Key → Type 0
 EndsRow xs start None = (r : RecordData) → Contains (records_in xs) r → KeyBefore start (key_of r) → ⊥
 EndsRow xs start (Some last) =
@@ -178,7 +178,7 @@ pub record Rowed (b : BookData) (held : List RecordData) (above : Key) (xs : Lis
 pub rowed_none : (b : BookData) (held : List RecordData) (above : Key) (keys : List (Key × ℕ)) (backs : List Place) → IsIndexed held keys backs → Rowed b held above [] above None keys backs
 rowed_none b held above keys backs is = search rules
 
--- an alive record is one more of the row
+-- an alive record is one more of the run
 pub rowed_alive : (b : BookData) (m : Map) (page : ℕ) (above to : Key) (xs rest : List Entry) (x : Entry) (start : Key) (last : Option Key) (keys less : List (Key × ℕ)) (backs fewer : List Place) (g e n : ℕ) → Walk m page above to xs (x ∷ rest) → Rowed b (seen m) above xs start last keys backs
     → IsAlive b.cuts b.complete x.1.epoch x.1.number → g ≡ x.1.back → e ≡ x.1.epoch → n ≡ x.1.number → LosesPage keys (key_in e n) less → LosesKey backs g (key_in e n) fewer → Rowed b (seen m) above (xs ++ x ∷ []) start (Some (key_in e n)) less fewer
 rowed_alive b m page above to xs rest x start last keys less backs fewer g e n w is alive p q s loses drops = record {
@@ -216,7 +216,7 @@ rowed_alive b m page above to xs rest x start last keys less backs fewer g e n w
         (λ u. subst (λ (y : ℕ). KeyBefore (key_in y start.number) (key_of x.1)) u.2.0 (subst (λ (y : ℕ). KeyBefore (key_in u.0.epoch y) (key_of x.1)) u.2.1 (behind u.0 u.1)))
         is.low
 
--- one that is not alive, in front of the row
+-- one that is not alive, before the run
 pub rowed_dead : (b : BookData) (m : Map) (page : ℕ) (above to : Key) (xs rest : List Entry) (x : Entry) (start : Key) (keys : List (Key × ℕ)) (backs : List Place) (e n : ℕ) → Walk m page above to xs (x ∷ rest) → Rowed b (seen m) above xs start None keys backs
     → (IsAlive b.cuts b.complete x.1.epoch x.1.number → ⊥) → e ≡ x.1.epoch → n ≡ x.1.number → Rowed b (seen m) above (xs ++ x ∷ []) (key_in e n) None keys backs
 rowed_dead b m page above to xs rest x start keys backs e n w is dead q s = record {
@@ -287,7 +287,7 @@ rowed_all b m page above to xs start keys backs w is = (
   left_lists (InRow xs start) (seen m) keys backs is.left (seen m) (held_of m w.paged) (λ r. (λ h. (h, λ k. is.ends r k.0 k.1), λ h. h.0)),
 )
 
--- without the records of the row
+-- without the records of the run
 pub row_gone : (b : BookData) (page : ℕ) (above to start last : Key) (old new : List RecordData) → IsRow b old page above to start last → Removes (IsBetween page start last) old new → RemovesRow b page above to old new (Some last)
 row_gone b page above to start last old new row removes = (
   λ r. (

@@ -1,4 +1,4 @@
--- Two logs gone over side by side: what the one lacks of the other, by page and then by key.
+-- Two logs scanned side by side: what the one lacks of the other, by page and then by key.
 use Rattle.std.proofs.Common.{◌≡◌, ◌⊎◌, ◌↔◌, inl, inr, ⊎_elim, List, [], ◌∷◌, ◌++◌, Option, Some, Bor, refl, sym, subst, arith, rules}
 use Rattle.std.proofs.lemmas.Grind.{common_steps}
 use Rattle.std.specs.List.{Contains, cons_option}
@@ -17,7 +17,7 @@ use Rattle.hot_log.proofs.Maps.{rising_entries}
 use Rattle.hot_log.proofs.Paged.{Entry, Map, seen, in_order, entry_of}
 use Rattle.hot_log.proofs.Places.{Place}
 
--- ---- the own records: some are passed, and one of the others comes next
+-- ---- the own records: some are passed, and one of the others is next
 -- what is taken off a list, and what is left, are the list
 pub taken : (old : List RecordData) (first : Option (Bor RecordData)) (new : List RecordData) → TakesFirst deref old first new
     → cons_option (option_copied first) new ≡ old
@@ -27,7 +27,7 @@ pub ahead_of : (old : List RecordData) (first : Option (Bor RecordData)) (new : 
     → IsRising PlaceBefore old → StandsNext (option_copied first) new
 ahead_of old first new takes rising = search rules
 
--- what comes is of all own records, and what is passed is before a record
+-- what is left is of all own records, and what is passed is before a record
 pub record Passes (all : List RecordData) (x : RecordData) (next : Option RecordData) (rest : List RecordData) : Type 0 where
   pub ahead : StandsNext next rest
   pub among : (r : RecordData) → Contains (cons_option next rest) r → Contains all r
@@ -57,7 +57,7 @@ passes_one all x own rest first left passes low takes =
           (passes.before r h);
     }
 
--- where none is before a record, it is among them just where it comes next
+-- where none is before a record, it is among them exactly where it is next
 pub is_next : (all : List RecordData) (x own : RecordData) (rest : List RecordData) → own ∷ rest ≡ all → IsRising PlaceBefore (own ∷ rest)
     → ((r : RecordData) → Contains all r → PlaceBefore r x → ⊥) → (own ≡ x) ↔ Contains all x
 is_next all x own rest is rising none_before = (
@@ -68,7 +68,7 @@ is_next all x own rest is rising none_before = (
       (which own rest x (subst (λ (l : List RecordData). Contains l x) (sym is) h)),
 )
 
--- where the one that comes next is not before a record, none that is left is
+-- where the one that is next is not before a record, none that is left is
 pub passed_all : (all : List RecordData) (x own : RecordData) (rest : List RecordData) → Passes all x (Some own) rest → (PlaceBefore own x → ⊥)
     → (r : RecordData) → Contains (own ∷ rest) r ↔ (Contains all r × (PlaceBefore r x → ⊥))
 passed_all all x own rest passes not_before r = (
@@ -82,11 +82,11 @@ passed_all all x own rest passes not_before r = (
   λ h. ⊎_elim (λ (u : Contains (own ∷ rest) r). u) (λ (u : PlaceBefore r x). absurd (h.1 u)) (passes.before r h.0),
 )
 
--- what is left of the held records: those that none of the others gone over is after
+-- what is left of the stored records: those that none of the others scanned is after
 abbrev pub LeftOf : List RecordData → List RecordData → List RecordData → Type 0
 LeftOf held seen left = (r : RecordData) → Contains left r ↔ (Contains held r × ((y : RecordData) → Contains seen y → PlaceBefore r y → ⊥))
 
--- the records are those of a list that are not held, in the order of that list
+-- the records are those of a list that are not stored, in the order of that list
 abbrev pub LacksOf : List RecordData → List RecordData → List RecordData → Type 0
 LacksOf held seen missing = Lists PlaceBefore (λ r. Contains seen r × (Contains held r → ⊥)) missing
 
@@ -145,7 +145,7 @@ before_rest (z ∷ zs) ys x y rising h =
 pub map_rising : (m : Map) → IsPaged m → IsRising PlaceBefore (records_in m)
 map_rising m paged = rising_records m paged.placed (rising_entries place_cmp m paged.ordered)
 
--- those gone over are before the one that the walk has come to
+-- those scanned are before the one that the walk has reached
 pub before_next : (m : Map) (xs ys : List RecordData) (x : RecordData) → IsPaged m → records_in m ≡ xs ++ x ∷ ys
     → (y : RecordData) → Contains xs y → PlaceBefore y x
 before_next m xs ys x paged split y h = search (rules, before_rest, map_rising)
@@ -182,7 +182,7 @@ left_next held seen_so own left x was goes r = (
   ),
 )
 
--- a record above those gone over is held just if it is left
+-- a record above those scanned is stored exactly if it is left
 pub held_left : (held seen_so own left : List RecordData) (x : RecordData) → LeftOf held seen_so own
     → ((r : RecordData) → Contains left r ↔ (Contains own r × (PlaceBefore r x → ⊥))) → ((y : RecordData) → Contains seen_so y → PlaceBefore y x)
     → Contains held x ↔ Contains left x

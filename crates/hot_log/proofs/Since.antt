@@ -1,4 +1,4 @@
--- Searches upwards from a number, where no alive record above it is of an epoch before one.
+-- Searches upwards from an LSN, where no alive record above it is of an epoch before one.
 use Rattle.std.proofs.Common.{◌≡◌, ℕ, ◌<◌, ◌≤◌, ◌⊎◌, ⊎_elim, List, arith}
 use Rattle.redo_core.specs.Data.{RecordData}
 use Rattle.redo_core.specs.Keys.{key_in, key_of, KeyBefore}
@@ -15,7 +15,7 @@ use Rattle.hot_log.proofs.Climb.{Rest, alive_key, positive}
 use Rattle.hot_log.proofs.Keyed.{Entry}
 use Rattle.hot_log.proofs.Places.{pair_or_not}
 
--- ---- the key from which a search begins: that which parts the alive records at the number, or the first of the epoch
+-- ---- the key from which a search begins: that which parts the alive records at the LSN, or the first of the epoch
 pub parting_starts : (b : BookData) (number since epoch : ℕ) → PartsAt b number epoch → StartsAbove b number since (key_in epoch number)
 parting_starts b number since epoch parts = (λ e n a lt le. (parts.0 e n a).0 lt, λ e n a p. (parts.0 e n a).1 p)
 
@@ -31,7 +31,7 @@ first_starts b number since epoch parts up = (
       (pair_or_not epoch number since 0)),
 )
 
--- ---- what is alive above the number is above that key
+-- ---- what is alive above the LSN is above that key
 pub none_at_zero : (b : BookData) (held : List RecordData) (number : ℕ) → HasNoneEarlier b held number 0
 none_at_zero b held number r h lt = omega arith
 
@@ -56,7 +56,7 @@ onward_since b held number since at left starts none above = record {
   rising = above.rising;
 }
 
--- a record with the number as its backlink
+-- a record with the LSN as its backlink
 pub over_start : (b : BookData) (held : List RecordData) (back since : ℕ) (at : Key) → StartsAbove b back since at → HasNoneEarlier b held back since → IsHeld held
     → (r : RecordData) → IsHeldAlive b held r → r.back ≡ back → KeyBefore at (key_of r)
 over_start b held back since at starts none form r h e =

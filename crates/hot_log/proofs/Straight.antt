@@ -1,4 +1,4 @@
--- Straight chains: no stray and no fork from one number to another.
+-- Contiguous chains: no orphan record and no fork from one LSN to another.
 use Rattle.std.proofs.Common.{◌≡◌, ℕ, ◌<◌, ◌≤◌, ⊎_elim, List, sym, ◌∙◌, ap, subst, arith, Some, rules}
 use Rattle.std.proofs.lemmas.Bool.{cases_lt}
 use Rattle.redo_core.specs.Data.{RecordData}
@@ -9,16 +9,16 @@ use Rattle.hot_log.specs.Alive.{IsHeldAlive, IsLinkedFrom, IsContiguous}
 use Rattle.hot_log.specs.Found.{IsLeastRecord}
 use Rattle.hot_log.proofs.Chain.{link_at_least}
 
--- a straight chain
+-- a contiguous chain
 pub record Straight (b : BookData) (held : List RecordData) (from top : ℕ) : Type 0 where
   pub is : IsContiguous b held from top
   pub linked : IsLinkedFrom b held from top
 
--- a linked number above top is that of an alive record above top
+-- a linked LSN above top is that of an alive record above top
 pub linked_above : (b : BookData) (held : List RecordData) (from top : ℕ) → from ≤ top → (n : ℕ) → IsLinkedFrom b held from n → top < n → (r : RecordData) × IsHeldAlive b held r × (r.number ≡ n)
 linked_above b held from top le n l up = search rules
 
--- where no alive record up to a limit is above top, no linked number up to there is
+-- where no alive record up to a limit is above top, no linked LSN up to there is
 pub none_over : (b : BookData) (held : List RecordData) (from top limit : ℕ) → from ≤ top → ((r : RecordData) → IsHeldAlive b held r → r.number ≤ limit → r.number ≤ top) → (n : ℕ) → IsLinkedFrom b held from n → n ≤ limit → n ≤ top
 none_over b held from top limit le low n l to =
     ⊎_elim

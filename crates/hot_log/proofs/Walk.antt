@@ -1,4 +1,4 @@
--- A walk over the held keys above one, and the records with P that it has passed.
+-- A walk over the stored keys above one, and the records with P that it has passed.
 use Rattle.std.proofs.Common.{◌≡◌, ◌⊎◌, inl, inr, ⊎_elim, List, [], ◌∷◌, ◌++◌, Some, None, ap, sym, ◌∙◌, subst, arith, rules}
 use Rattle.std.specs.List.{Contains}
 use Rattle.std.specs.declared.cmp.Ordering.TheVariants.{Less}
@@ -30,11 +30,11 @@ module _ (held : List RecordData) (at : Key) (x : Entry) (left rest : List Entry
   behind : (e : Entry) → Contains rest e → KeyBefore x.0 e.0
   behind e h = key_less x.0 e.0 (each (λ (y : Entry). key_cmp x.0 y.0 ≡ Less) rest e (subst (IsRising (λ x y. key_cmp x.0 y.0 ≡ Less)) is a.rising).0 h)
 
-  -- a held record above is the first, or behind it
+  -- a stored record above is the first, or after it
   first_or_behind : (r : RecordData) → Contains held r → KeyBefore at (key_of r) → (x ≡ own r) ⊎ Contains rest (own r)
   first_or_behind r h p = which x rest (own r) (subst (λ (m : List Entry). Contains m (own r)) is (a.listed r h p))
 
-  -- what is left of a walk is a walk from the key that came last
+  -- what is left of a walk is a walk from the last key
   pub on_from : AreHeldAbove held x.0 rest
   on_from = record {
     listed = λ r h p. ⊎_elim
@@ -53,7 +53,7 @@ module _ (held : List RecordData) (at : Key) (x : Entry) (left rest : List Entry
         let t = a.backed x (subst (λ (m : List Entry). Contains m x) (sym is) (here x rest)) in
         ap (λ (y : RecordData). y.page) (one_key held form.rising r t.0 (has r p) t.1 (k.0 ∙ sym t.2.0) (k.1 ∙ sym t.2.1)) ∙ t.3
 
-    -- a record with P that has been passed was before, or has the key that came last
+    -- a record with P that has been passed was before, or has the last key
     passed_before : (r : RecordData) → IsPassedBy P x.0 r → IsPassedBy P at r ⊎ HasKey x.0 r
     passed_before r h = ⊎_elim
         (λ (up : KeyBefore at (key_of r)). ⊎_elim

@@ -1,4 +1,4 @@
--- Keys that a walk goes over beside a chain.
+-- Keys that a walk scans beside a chain.
 use Rattle.std.specs.Prelude.{◌≡◌, ℕ, ◌<◌, List, ◌∷◌, ◌++◌, Option, Some, None}
 use Rattle.std.specs.List.{Contains}
 use Rattle.std.specs.declared.cmp.Ordering.TheVariants.{Less}
@@ -11,7 +11,7 @@ use Rattle.epoch_book.specs.Book.{BookData}
 use Rattle.hot_log.specs.Held.{HasKey}
 use Rattle.hot_log.specs.Alive.{IsHeldAlive}
 
--- the keys of the alive records above a number are among these, and no other alive ones; they rise
+-- the keys of the alive records above an LSN are among these, and no other alive ones; they rise
 pub record AreOnward (book : BookData) (held : List RecordData) (number : ℕ) (left : List (Key × ℕ)) : Type 0 where
   pub listed : (r : RecordData) → IsHeldAlive book held r → number < r.number → Contains left (key_of r, r.page)
   pub backed : (e : Key × ℕ) → Contains left e → IsAlive book.cuts book.complete e.0.epoch e.0.number → (r : RecordData) × IsHeldAlive book held r × HasKey e.0 r × (number < r.number)

@@ -1,9 +1,9 @@
--- The records that a page is made of.
+-- The records that determine a page.
 use Rattle.std.specs.Prelude.{◌≡◌, ◌≤◌, ◌⊎◌, true, List}
 use Rattle.redo_core.specs.Data.{RecordData}
 use Rattle.redo_core.specs.Order.{Lists, BeforeByNumber}
 
--- the records with P in order of their numbers, or those from one on that begins its page anew: what comes before that one does not show
+-- the records with P in order of their LSNs, or those from one with `init` on: what comes before that one has no effect on the page
 abbrev pub ListsAnew : (RecordData → Type 0) → List RecordData → Type 0
 ListsAnew P xs =
     Lists BeforeByNumber P xs

@@ -34,7 +34,7 @@ GainsKey old group key new = (p : ℕ × Key) → Contains new p ↔ (Contains o
 abbrev pub LosesKey : List (ℕ × Key) → ℕ → Key → List (ℕ × Key) → Type 0
 LosesKey old group key new = (p : ℕ × Key) → Contains new p ↔ (Contains old p × (p ≡ (group, key) → ⊥))
 
--- the keys are those of the held records, each in the group that a number of its record names
+-- the keys are those of the stored records, each in the group that `group` gives for its record
 pub record IsIndexBy (group : RecordData → ℕ) (held : List RecordData) (keys : List (ℕ × Key)) : Type 0 where
   pub listed : (r : RecordData) → Contains held r → InGroup keys (group r) r.epoch r.number
   pub backed : (g e n : ℕ) → InGroup keys g e n → (r : RecordData) × Contains held r × (group r ≡ g) × HasKey (key_in e n) r
@@ -88,32 +88,32 @@ pub record AreAbove (keys : List (Key × ℕ)) (after : Key) (above : List (Key 
   pub each : (e : Key × ℕ) → Contains above e ↔ (Contains keys e × KeyBefore after e.0)
   pub rising : IsRising (λ x y. key_cmp x.0 y.0 ≡ Less) above
 
--- the keys are those of the held records, each with the page of its record
+-- the keys are those of the stored records, each with the page of its record
 pub record IsKeyPages (held : List RecordData) (keys : List (Key × ℕ)) : Type 0 where
   pub listed : (r : RecordData) → Contains held r → Contains keys (key_of r, r.page)
   pub backed : (e n page : ℕ) → Contains keys (key_in e n, page) → (r : RecordData) × Contains held r × HasKey (key_in e n) r × (r.page ≡ page)
 
--- held records with the page of each key and the index by segment backlink
+-- stored records with the page of each key and the index by segment backlink
 pub record IsIndexed (held : List RecordData) (keys : List (Key × ℕ)) (backs : List (ℕ × Key)) : Type 0 where
   pub form : IsHeld held
   pub by_key : IsKeyPages held keys
   pub by_back : IsIndexBy (λ r. r.back) held backs
 
--- the least key above the one given of the held records that a number puts into a group, or none
+-- the least key above the one given of the stored records of one group, or none
 abbrev pub IsNextHeld : (RecordData → ℕ) → List RecordData → ℕ → Key → Option Key → Type 0
 IsNextHeld group held g after None = (r : RecordData) → Contains held r → group r ≡ g → KeyBefore after (key_of r) → ⊥
 IsNextHeld group held g after (Some key) =
     ((r : RecordData) × Contains held r × (group r ≡ g) × HasKey key r × KeyBefore after (key_of r))
     × ((r : RecordData) → Contains held r → group r ≡ g → KeyBefore after (key_of r) → HasKey key r ⊎ KeyBefore key (key_of r))
 
--- the greatest key at or below the one given of the held records that a number puts into a group, or none
+-- the greatest key at or below the one given of the stored records of one group, or none
 abbrev pub IsLastHeld : (RecordData → ℕ) → List RecordData → ℕ → Key → Option Key → Type 0
 IsLastHeld group held g to None = (r : RecordData) → Contains held r → group r ≡ g → KeyBefore to (key_of r)
 IsLastHeld group held g to (Some key) =
     ((r : RecordData) × Contains held r × (group r ≡ g) × HasKey key r × (KeyBefore to (key_of r) → ⊥))
     × ((r : RecordData) → Contains held r → group r ≡ g → (KeyBefore to (key_of r) → ⊥) → HasKey key r ⊎ KeyBefore (key_of r) key)
 
--- the record of a page and a key, or none where none is held
+-- the record of a page and a key, or none where none is stored
 abbrev pub IsRecordOf : List RecordData → ℕ → Key → Option RecordData → Type 0
 IsRecordOf held page key None = (r : RecordData) → Contains held r → r.page ≡ page → HasKey key r → ⊥
 IsRecordOf held page key (Some r) = Contains held r × (r.page ≡ page) × HasKey key r
@@ -128,7 +128,7 @@ abbrev pub IsLastRecord : List RecordData → ℕ → Key → Option RecordData 
 IsLastRecord held page to None = IsLastHeld (λ r. r.page) held page to None
 IsLastRecord held page to (Some r) = Contains held r × IsLastHeld (λ r. r.page) held page to (Some (key_of r))
 
--- the keys of the held records above one, with the pages of these, rising
+-- the keys of the stored records above one, with the pages of these, rising
 pub record AreHeldAbove (held : List RecordData) (after : Key) (above : List (Key × ℕ)) : Type 0 where
   pub listed : (r : RecordData) → Contains held r → KeyBefore after (key_of r) → Contains above (key_of r, r.page)
   pub backed : (e : Key × ℕ) → Contains above e → (r : RecordData) × Contains held r × HasKey e.0 r × (r.page ≡ e.1) × KeyBefore after (key_of r)

@@ -12,7 +12,7 @@ use Rattle.epoch_book.specs.Book.{BookData}
 abbrev pub KeepsKey : BookData → ℕ → Key → Type 0
 KeepsKey b point key = IsWaiting b.complete key.epoch ⊎ (IsAlive b.cuts b.complete key.epoch key.number × (point < key.number))
 
--- a held record that waits, or is alive above a point
+-- a stored record that waits, or is alive above a point
 abbrev pub IsKeptAbove : BookData → List RecordData → ℕ → RecordData → Type 0
 IsKeptAbove b held point r = Contains held r × (IsWaiting b.complete r.epoch ⊎ (IsAlive b.cuts b.complete r.epoch r.number × (point < r.number)))
 
@@ -20,7 +20,7 @@ IsKeptAbove b held point r = Contains held r × (IsWaiting b.complete r.epoch �
 abbrev pub IsKeptUnlisted : BookData → List RecordData → ℕ → List Key → RecordData → Type 0
 IsKeptUnlisted b held point keys r = IsKeptAbove b held point r × (Contains keys (key_of r) → ⊥)
 
--- the keys of just the records with P, in the order of the keys
+-- exactly the keys of the records with P, in the order of the keys
 pub record ListsKeysOf (P : RecordData → Type 0) (keys : List Key) : Type 0 where
   pub kept : List RecordData
   pub lists : Lists RecordBefore P kept

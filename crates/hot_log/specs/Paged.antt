@@ -1,4 +1,4 @@
--- A map of records in which each stands under its page and key, seen in the order of the keys.
+-- A map of records by page and key, seen in the order of the keys.
 use Rattle.std.specs.Prelude.{◌≡◌, ℕ, ◌<◌, Bool, ◌==◌, nat_lt, ◌&&◌, ◌||◌, if◌then◌else◌, List, [], ◌∷◌, map, Option, None}
 use Rattle.std.specs.List.{Contains, cons_option}
 use Rattle.std.specs.Option.{IsNone}
@@ -25,7 +25,7 @@ place_of r = (r.page, key_of r)
 abbrev pub PlaceBefore : RecordData → RecordData → Type 0
 PlaceBefore r s = place_cmp (place_of r) (place_of s) ≡ Less
 
--- the record that comes next and the rest rise by place; where none comes next, none is left
+-- the record that comes next and the rest rise by page and key; where none comes next, none is left
 pub record StandsNext (next : Option RecordData) (rest : List RecordData) : Type 0 where
   pub rising : IsRising PlaceBefore (cons_option next rest)
   pub ended : IsNone next → rest ≡ []
@@ -37,7 +37,7 @@ records_in entries = map (λ (e : (ℕ × Key) × RecordData). e.1) entries
 abbrev pub is_below : RecordData → RecordData → Bool
 is_below r s = nat_lt r.epoch s.epoch || (r.epoch == s.epoch && nat_lt r.number s.number)
 
--- a record in front of the first that it is below
+-- a record before the first that it is below
 abbrev pub insert_by_key : RecordData → List RecordData → List RecordData
 insert_by_key r [] = r ∷ []
 insert_by_key r (s ∷ ss) = if is_below r s then r ∷ s ∷ ss else s ∷ insert_by_key r ss

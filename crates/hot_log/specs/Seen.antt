@@ -1,9 +1,9 @@
--- What is said of a book and of held records, said of a view that lends both.
+-- Predicates of a book and of stored records, as predicates of a view that borrows both.
 use Rattle.std.specs.Prelude.{List}
 use Rattle.redo_core.specs.Data.{RecordData}
 use Rattle.epoch_book.specs.Book.{BookData}
 use Rattle.hot_log.specs.declared.view.View.{View}
 
--- `seen_in view IsLinkedFrom from n` is `IsLinkedFrom` of the view's book and held records, from `from`, to `n`
+-- `seen_in view IsLinkedFrom from n` is `IsLinkedFrom` of the view's book and stored records, from `from`, to `n`
 abbrev pub seen_in : {A : Type 1} → View → (BookData → List RecordData → A) → A
 seen_in view P = P view.book.now view.held.now

@@ -9,7 +9,7 @@ use redo_core::{Key, Record};
 use sorted_runs::Entries;
 use std::marker::Model;
 
-/// Records by page and key, and the one that comes next: they are gone over as far as those of another log are.
+/// Records by page and key, and the one that comes next: an iterator that follows the walk through another log.
 #[derive(Drop)]
 pub struct Ahead<'a> {
     next: Option<&'a Record>,
@@ -31,6 +31,7 @@ impl<'a> Model for Ahead<'a> {
 }
 
 impl<'a> Ahead<'a> {
+    /// An iterator before its first record.
     pub fn new(mut rest: Entries<'a, (u16, Key), Record>) -> Ahead<'a>
         requires { IsRising PlaceBefore (records_in rest) }
         ensures { result ≡ records_in rest.entry }
@@ -39,7 +40,7 @@ impl<'a> Ahead<'a> {
         Ahead { next, rest }
     }
 
-    /// Goes past the records of lower pages, and of lower keys of the same page.
+    /// Skips the records of lower pages, and of lower keys of the same page.
     pub fn pass_to(&mut self, redo: &Record)
         ensures { (r : RecordData) → Contains self.new r ↔ (Contains self.old r × (PlaceBefore r redo.now → ⊥)) }
     {
@@ -51,7 +52,7 @@ impl<'a> Ahead<'a> {
         }
     }
 
-    /// Whether this record comes next; no other is it, once those before it are passed.
+    /// Whether this record comes next; no other one equals it, once those before it are skipped.
     pub fn is_at(&self, redo: &Record) -> bool
         requires { (r : RecordData) → Contains self.now r → PlaceBefore r redo.now → ⊥ }
         ensures { IsTrue result ↔ Contains self.now redo.now }

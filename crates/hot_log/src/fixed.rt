@@ -1,5 +1,5 @@
-//! What the contracts fix, so that no other body meets them: a call that reads a log has one answer.
-//! Each function states its law and is called by nobody.
+//! What the contracts determine, so that no other body meets them: a call that reads a log has one result.
+//! Each function states a theorem and is called by nobody.
 
 ghost use Rattle.std.specs.Prelude.{◌≡◌, ◌≤◌};
 

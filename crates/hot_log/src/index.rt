@@ -23,6 +23,7 @@ impl Model for KeyIndex {
 }
 
 impl KeyIndex {
+    /// An index without keys. It allocates nothing.
     pub fn new(alloc: Global) -> Self
         ensures { result ≡ [] }
     {
@@ -31,7 +32,7 @@ impl KeyIndex {
         }
     }
 
-    /// An equal index with memory of its own. It fails only if memory runs out.
+    /// An equal index with memory of its own. The only error is an allocation failure.
     pub fn copy(&self) -> Result<Self, AllocError>
         ensures { IfOk result (λ i. i ≡ self.now) }
     {
@@ -40,7 +41,7 @@ impl KeyIndex {
         })
     }
 
-    /// Adds a key to a group. It fails only if memory runs out; the index is then as it was.
+    /// Adds a key to a group. The only error is an allocation failure, which leaves the index unchanged.
     pub fn insert(&mut self, group: u64, key: Key) -> Result<(), AllocError>
         ensures gains { OnOk result (GainsKey self.old group key self.new) }
         ensures unchanged { OnErr result (self.new ≡ self.old) }
@@ -49,7 +50,7 @@ impl KeyIndex {
         Ok(())
     }
 
-    /// Takes a key out of a group.
+    /// Removes a key from a group.
     pub fn remove(&mut self, group: u64, key: Key)
         ensures { LosesKey self.old group key self.new }
     {

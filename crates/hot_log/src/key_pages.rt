@@ -37,6 +37,7 @@ impl Model for KeyPages {
 }
 
 impl KeyPages {
+    /// A map without keys. It allocates nothing.
     pub fn new(alloc: Global) -> Self
         ensures { result ≡ [] }
     {
@@ -45,7 +46,7 @@ impl KeyPages {
         }
     }
 
-    /// Equal keys and pages with memory of their own. It fails only if memory runs out.
+    /// Equal keys and pages with memory of their own. The only error is an allocation failure.
     pub fn copy(&self) -> Result<Self, AllocError>
         ensures { IfOk result (λ k. k ≡ self.now) }
     {
@@ -61,8 +62,8 @@ impl KeyPages {
         self.map.get(&key).copied()
     }
 
-    /// Gives a key a page where it has none, and tells the page that it had. It fails only if memory runs out; the keys are then as
-    /// they were, without this one.
+    /// Sets the page of a key that has none, and returns the page that it had. The only error is an allocation failure, which leaves the
+    /// keys unchanged, without this one.
     pub fn add(&mut self, key: Key, page: u16) -> Result<Option<u16>, AllocError>
         ensures adds { IfOk result (AddsPage self.old key page self.new) }
         ensures absent { OnErr result (IsPageOf self.old key None) }
@@ -71,7 +72,7 @@ impl KeyPages {
         Ok(self.map.add(key, page)?)
     }
 
-    /// Takes a key out, and tells the page that it had.
+    /// Removes a key, and returns the page that it had.
     pub fn remove(&mut self, key: Key) -> Option<u16>
         ensures had { IsPageOf self.old key result }
         ensures loses { LosesPage self.old key self.new }
@@ -127,7 +128,7 @@ impl KeyPages {
         Some(*key)
     }
 
-    /// The keys above one given that wait, or are alive above a number, rising. It fails only if memory runs out.
+    /// The keys above one given that wait, or are alive above an LSN, rising. The only error is an allocation failure.
     pub fn kept_keys(
         &self,
         alloc: Global,

@@ -1,15 +1,15 @@
-//! The redo records that a segment holds, and what they link.
+//! The redo records that a segment stores, and what they link.
 //!
-//! A log holds at most one record of a key (epoch, number), in the order of the keys; another record under a held key is
-//! refused. Against a book of truncations it removes what an image has and what is dead; a `View` lends both, and answers which
-//! numbers are linked from a base, the alive records of a page in order of their numbers, the successor of a number, and what the
-//! first alive record above a number hangs on. Every answer is exact over every set of records, also one that no sound log has.
-//! Only `put`, `copy`, `records_of`, `records_since_init`, `kept_keys`, `kept_unlisted` and `missing_by_page` want memory.
+//! A log stores at most one record of a key (epoch, LSN), in the order of the keys; it refuses another record of a stored key.
+//! Given a book of truncations, it removes what an image contains and what is dead; a `View` borrows both, and returns which
+//! LSNs are linked from a base, the alive records of a page in order of their LSNs, the successor of an LSN, and the LSN that
+//! blocks the first alive record above one. Every result is exact for every set of records, also one that no sound log has.
+//! Only `put`, `copy`, `records_of`, `records_since_init`, `kept_keys`, `kept_unlisted` and `missing_by_page` allocate.
 //!
-//! The records stand by page and, within a page, by key (`records`); beside them are the page of each key (`key_pages`) and the
-//! keys by segment backlink (`index`). The questions of a view stand in `view`; those that go from key to key in `search`, and those
-//! that go along backlinks in `links`; `unlisted` has the kept records that a list of keys lacks. `removal` removes one by one, and
-//! `ahead` goes over one log as far as another one is gone over.
+//! The records are stored by page and, within a page, by key (`records`); beside them are the page of each key (`key_pages`) and the
+//! keys by segment backlink (`index`). `view` has the queries of a view; `search` has those that go from key to key, and `links` those
+//! that follow backlinks; `unlisted` has the kept records that a list of keys lacks. `removal` removes records one by one, and
+//! `ahead` iterates over one log in step with another.
 #![tactic(auto)]
 
 mod ahead;

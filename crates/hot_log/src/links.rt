@@ -1,4 +1,4 @@
-//! The numbers that held records link, from a base on.
+//! The LSNs that stored records link, from a base on.
 ghost use Rattle.std.specs.Prelude.{◌≡◌, ℕ, ◌<◌, ◌≤◌, ◌↔◌, List, length, IsTrue, IfSome, IsNone, Some, None, false};
 ghost use Rattle.std.specs.Option.{option_copied};
 ghost use Rattle.redo_core.specs.Data.{RecordData};
@@ -18,7 +18,7 @@ use redo_core::{Key, Record};
 use sorted_runs::Entries;
 
 impl<'a> View<'a> {
-    /// The greatest number up to a limit that is linked from a base.
+    /// The greatest LSN up to a limit that is linked from a base.
     pub fn linked_to(&self, from: u64, limit: u64) -> u64
         requires { from ≤ limit }
         ensures linked { seen_in self.now IsLinkedFrom from result }
@@ -30,11 +30,11 @@ impl<'a> View<'a> {
         self.linked_counted(from, limit, &mut steps)
     }
 
-    /// The same; `steps`, handed in at 0, counts the alive records that the search reaches: each whose backlink is linked and at most
+    /// The same; `steps`, which starts at 0, counts the alive records that the search reaches: each whose backlink is linked and at most
     /// `limit`, once.
     ///
-    /// It counts records and not look-ups. Over a log with forks the search also looks at a fork's sibling and at each record on its way
-    /// back to the last fork; these looks are not counted. No memory is taken, and dead or waiting records are not walked.
+    /// It counts records and not look-ups. In a log with forks the search also visits a fork's sibling and each record on its way
+    /// back to the last fork, which it does not count. It allocates nothing, and does not visit dead or waiting records.
     pub fn linked_counted(&self, from: u64, limit: u64, steps: &mut Steps) -> u64
         requires ordered { from ≤ limit }
         requires fresh { steps.old.count ≡ 0 }
@@ -44,7 +44,7 @@ impl<'a> View<'a> {
         ensures counted { (xs : List RecordData) → Lists RecordBefore (seen_in self.now IsReached from limit) xs → steps.new.count ≡ length xs }
         ensures form { IsHeld self.now.held.now }
     {
-        // No more records are reached than are held, so the count fits.
+        // The search reaches no more records than are stored, so the count fits.
         let _held = self.held.len();
         let mut top = from;
         let mut back = from;
@@ -93,7 +93,7 @@ impl<'a> View<'a> {
         forked || self.alive_of_back(back, key, 0).is_some()
     }
 
-    /// Whether a number is linked, by a walk down the backlinks.
+    /// Whether an LSN is linked, by a walk down the backlinks.
     fn is_linked(&self, from: u64, number: u64) -> bool
         ensures { IsTrue result ↔ seen_in self.now IsLinkedFrom from number }
     {
@@ -107,7 +107,7 @@ impl<'a> View<'a> {
         at == from
     }
 
-    /// The last alive record of a page whose number is linked from a base and at most `limit`, or None where there is none.
+    /// The last alive record of a page whose LSN is linked from a base and at most `limit`, or None where there is none.
     pub fn greatest_linked_of(&self, page: u16, from: u64, limit: u64) -> Option<&'a Record>
         ensures { IsGreatestRecord (λ r. seen_in self.now IsLinkedHeld from r × (r.page ≡ page) × (r.number ≤ limit)) (option_copied result) }
     {
@@ -121,7 +121,7 @@ impl<'a> View<'a> {
         None
     }
 
-    /// The end of the chain from a number on: the greatest number linked from there. None where the chain has a fork or a stray.
+    /// The end of the chain from an LSN on: the greatest LSN linked from there. None where the chain has a fork or an orphan record.
     pub fn contiguous_end(&self, from: u64) -> Option<u64>
         ensures some { IfSome result (seen_in self.now IsStraightEnd from) }
         ensures none { IsNone result → (n : ℕ) → seen_in self.now IsStraightEnd from n → ⊥ }
@@ -129,7 +129,7 @@ impl<'a> View<'a> {
         self.straight_end_since(from, 0)
     }
 
-    /// The same, where no alive record above the number is of an epoch before the one given: dead records of those epochs are not visited.
+    /// The same, where no alive record above the LSN is of an epoch before the one given: dead records of those epochs are not visited.
     pub fn straight_end_since(&self, from: u64, since: u16) -> Option<u64>
         requires { seen_in self.now HasNoneEarlier from since }
         ensures some { IfSome result (seen_in self.now IsStraightEnd from) }
@@ -146,7 +146,7 @@ impl<'a> View<'a> {
         Some(top)
     }
 
-    /// The held keys from the alive ones above a number on, with the pages of their records, rising, where no alive one is of an epoch
+    /// The stored keys from the alive ones above an LSN on, with the pages of their records, rising, where no alive one is of an epoch
     /// before the one given.
     fn keys_on(&self, number: u64, since: u16) -> Entries<'a, Key, u16>
         requires { seen_in self.now HasNoneEarlier number since }
@@ -155,10 +155,10 @@ impl<'a> View<'a> {
         self.held.keys_above(start_above(self.book, number, since))
     }
 
-    /// The number on which the first alive record above a number hangs: that record names it as its segment backlink, or names a held one
-    /// that does, and so on down, and no alive record that is held has it. None where no alive record is above the number.
+    /// The LSN that blocks the first alive record above an LSN: that record names it as its segment backlink, or names a stored one
+    /// that does, and so on down, and no stored alive record has it. None where no alive record is above the LSN.
     ///
-    /// Over a sound log the record's own backlink is that number, so the walk down the backlinks ends at once.
+    /// In a sound log the record's own backlink is that LSN, so the walk down the backlinks ends at once.
     pub fn gap_above(&self, number: u64) -> Option<u64>
         ensures { seen_in self.now IsGapAbove number result }
     {
@@ -170,7 +170,7 @@ impl<'a> View<'a> {
         Some(redo.back())
     }
 
-    /// The alive record with this number, where the number is linked from a base; else None.
+    /// The alive record with this LSN, where the LSN is linked from a base; otherwise None.
     pub fn linked_record(&self, from: u64, number: u64) -> Option<&'a Record>
         ensures { IsOnlyRecord (λ r. seen_in self.now IsLinkedHeld from r × (r.number ≡ number)) (option_copied result) }
     {
@@ -182,7 +182,7 @@ impl<'a> View<'a> {
     }
 }
 
-/// The next of some keys that is alive; those before it, and it, are passed.
+/// The next of some keys that is alive; the walk skips those before it, and it.
 fn next_alive(book: &EpochBook, left: &mut Entries<'_, Key, u16>) -> Option<Key>
     ensures { PassesToAlive book.now left.old result left.new }
 {
@@ -194,7 +194,7 @@ fn next_alive(book: &EpochBook, left: &mut Entries<'_, Key, u16>) -> Option<Key>
     None
 }
 
-/// Whether a walk has come to a key.
+/// Whether a walk has reached a key.
 fn is_at(next: Option<Key>, key: Key) -> bool
     ensures { IsTrue result ↔ (next ≡ Some key) }
 {

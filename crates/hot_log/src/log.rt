@@ -25,9 +25,9 @@ use std::alloc::{AllocError, Global};
 use std::marker::Model;
 use thiserror::Error;
 
-/// The redo records that a segment holds, by page and key.
+/// The redo records that a segment stores, by page and key.
 ///
-/// Beside them stand the page of each key, and the keys by segment backlink: those of the held records and no others.
+/// It also has the page of each key, and the keys by segment backlink: those of the stored records and no others.
 #[derive(Drop)]
 pub struct HotLog {
     pub(crate) records: PagedRecords,
@@ -64,7 +64,7 @@ pub enum PutFault {
 }
 
 impl HotLog {
-    /// A log that holds no record.
+    /// A log without records.
     pub fn new(alloc: Global) -> Self
         ensures { result ≡ [] }
     {
@@ -75,7 +75,7 @@ impl HotLog {
         }
     }
 
-    /// An equal log with memory of its own. It fails only if memory runs out.
+    /// An equal log with memory of its own. The only error is an allocation failure.
     pub fn copy(&self) -> Result<Self, AllocError>
         ensures { IfOk result (λ h. h ≡ self.now) }
     {
@@ -86,7 +86,7 @@ impl HotLog {
         })
     }
 
-    /// How many records are held.
+    /// The number of records.
     pub fn len(&self) -> usize
         ensures value { result ≡ length self.now }
         ensures form { IsHeld self.now }
@@ -94,13 +94,14 @@ impl HotLog {
         self.records.len()
     }
 
-    /// It does nothing. It is called for what it ensures: a log has its records in order.
+    /// Does nothing. Callers use its contract: a log has its records in order.
     pub fn opens_form(&self)
         ensures form { IsHeld self.now }
     {
         self.records.opens_form();
     }
 
+    /// Whether it stores no record.
     pub fn is_empty(&self) -> bool
         ensures value { IsTrue result ↔ (self.now ≡ []) }
         ensures form { IsHeld self.now }
@@ -108,7 +109,7 @@ impl HotLog {
         self.len() == 0
     }
 
-    /// The record of a key, or None where none is held.
+    /// The record of a key, or None where none is stored.
     pub fn get(&self, key: Key) -> Option<&Record>
         ensures { IsRecordAt self.now key (option_copied result) }
     {
@@ -116,7 +117,7 @@ impl HotLog {
         self.records.get(page, key)
     }
 
-    /// Whether a record of a key is held.
+    /// Whether a record of a key is stored.
     pub fn holds_key(&self, key: Key) -> bool
         ensures { IsTrue result ↔ HoldsKey self.now key }
     {
@@ -133,7 +134,7 @@ impl HotLog {
         self.by_key.key_after(after)
     }
 
-    /// Holds one more record. Each error hands the record back and leaves the log as it was.
+    /// Stores one more record. Each error returns the record and leaves the log unchanged.
     pub fn put(&mut self, redo: Record) -> Result<Put, Refused<Record, PutFault>>
         ensures put { IfOk result (Puts self.old redo self.new) }
         ensures refused { IfErr result (λ e. (e.value ≡ redo) × RefusesPut self.old redo e.fault) }
@@ -166,7 +167,7 @@ impl HotLog {
         }
     }
 
-    /// Removes the record of a key, if one is held.
+    /// Removes the record of a key, if one is stored.
     pub fn remove(&mut self, key: Key)
         ensures removes { Removes (HasKey key) self.old self.new }
         ensures form { IsHeld self.new }
@@ -180,7 +181,7 @@ impl HotLog {
         self.by_back.remove(redo.back(), key);
     }
 
-    // Removes the first row of alive records of a page between two keys, and tells its last key.
+    // Removes the first run of alive records of a page between two keys, and returns its last key.
     pub(crate) fn remove_row(
         &mut self,
         book: &EpochBook,
@@ -254,15 +255,15 @@ impl HotLog {
         self.by_back.next_two(back, after)
     }
 
-    /// The least page above the one given that a held record writes, whatever its standing; the least of all for None.
+    /// The least page above the one given that a stored record writes, whatever its standing; the least of all for None.
     pub fn page_after(&self, after: Option<u16>) -> Option<u16>
         ensures { IsPageAfter self.now after result }
     {
         self.records.page_after(after)
     }
 
-    /// The records of another log that this one does not hold, by page, and within a page by key. Both are gone over side by side, so
-    /// none is looked up. It fails only if memory runs out.
+    /// The records of another log that this one does not store, by page, and within a page by key. It scans both side by side, without
+    /// look-ups. The only error is an allocation failure.
     pub fn missing_by_page<'a>(
         &self,
         alloc: Global,
@@ -273,7 +274,7 @@ impl HotLog {
         self.records.missing_by_page(alloc, &other.records)
     }
 
-    /// Removes the alive records of a page with numbers at most the version of its image and at most a point.
+    /// Removes the alive records of a page with LSNs at most the version of its image and at most a point.
     pub fn remove_folded(&mut self, book: &EpochBook, page: u16, version: u64, point: u64)
         ensures removes { Removes (IsFolded book.now page version point) self.old self.new }
         ensures form { IsHeld self.new }
@@ -289,7 +290,7 @@ impl HotLog {
         removal::remove_dead(self, book);
     }
 
-    // The greatest key, or None where no record is held.
+    // The greatest key, or None where no record is stored.
     pub(crate) fn greatest_key(&self) -> Option<Key>
         ensures greatest { IsGreatestHeld self.now result }
         ensures form { IsHeld self.now }
@@ -314,8 +315,8 @@ impl Clone for HotLog {
     }
 }
 
-// Holds a record whose key is free, and lists the key by the segment backlink. It fails only if memory runs out: the record comes
-// back, and what is held and listed is as it was.
+// Stores a record whose key is free, and lists the key by the segment backlink. The only error is an allocation failure: it returns
+// the record, and leaves what is stored and listed unchanged.
 fn hold(
     records: &mut PagedRecords,
     by_back: &mut KeyIndex,

@@ -24,7 +24,7 @@ use std::alloc::{AllocError, Global};
 use std::marker::Model;
 use std::ops::Bound;
 
-/// Records by page and, within a page, by key: epoch, then number. No two have one key.
+/// Records by page and, within a page, by key: epoch, then LSN. No two have one key.
 #[derive(Drop)]
 pub struct PagedRecords {
     map: SortedRuns<(u16, Key), Record>,
@@ -43,6 +43,7 @@ impl Model for PagedRecords {
 }
 
 impl PagedRecords {
+    /// A map without records. It allocates nothing.
     pub fn new(alloc: Global) -> Self
         ensures { result ≡ [] }
     {
@@ -51,7 +52,7 @@ impl PagedRecords {
         }
     }
 
-    /// Equal records with memory of their own. It fails only if memory runs out.
+    /// Equal records with memory of their own. The only error is an allocation failure.
     pub fn copy(&self) -> Result<Self, AllocError>
         ensures { IfOk result (λ p. p ≡ self.now) }
     {
@@ -60,6 +61,7 @@ impl PagedRecords {
         })
     }
 
+    /// The number of records.
     pub fn len(&self) -> usize
         ensures value { result ≡ length self.now }
         ensures form { IsHeld self.now }
@@ -67,7 +69,7 @@ impl PagedRecords {
         self.map.len()
     }
 
-    /// It does nothing. It is called for what it ensures: the records are in order.
+    /// Does nothing. Callers use its contract: the records are in order.
     pub fn opens_form(&self)
         ensures form { IsHeld self.now }
     {
@@ -81,7 +83,7 @@ impl PagedRecords {
         self.map.get(&(page, key))
     }
 
-    /// Whether this record is held.
+    /// Whether this record is stored.
     pub fn has(&self, redo: &Record) -> bool
         ensures { IsTrue result ↔ Contains self.now redo.now }
     {
@@ -92,7 +94,7 @@ impl PagedRecords {
         }
     }
 
-    /// Holds a record under its page and key. It fails only if memory runs out: the records are then as they were, and it comes back.
+    /// Stores a record by its page and key. The only error is an allocation failure, which leaves the records unchanged and returns it.
     pub fn insert(&mut self, redo: Record) -> Result<(), Refused<Record, AllocError>>
         requires { IsRecordAt self.old (key_of redo) None }
         ensures gains { OnOk result ((r : RecordData) → Contains self.new r ↔ (Contains self.old r ⊎ (r ≡ redo))) }
@@ -110,7 +112,7 @@ impl PagedRecords {
         }
     }
 
-    /// Takes out the record of a page and a key, if there is one.
+    /// Removes the record of a page and a key, if there is one.
     pub fn remove(&mut self, page: u16, key: Key) -> Option<Record>
         ensures value { IsRecordOf self.old page key result }
         ensures removes { Removes (λ r. (r.page ≡ page) × HasKey key r) self.old self.new }
@@ -119,7 +121,7 @@ impl PagedRecords {
         self.map.remove(&(page, key))
     }
 
-    /// Takes out the records of a page with keys above one and up to another.
+    /// Removes the records of a page with keys above one and up to another.
     pub fn remove_between(&mut self, page: u16, above: Key, to: Key)
         ensures removes { Removes (IsBetween page above to) self.old self.new }
         ensures form { IsHeld self.new }
@@ -166,7 +168,7 @@ impl PagedRecords {
         Some(place.0)
     }
 
-    /// The alive records of a page with keys above one and up to another, rising. It fails only if memory runs out.
+    /// The alive records of a page with keys above one and up to another, rising. The only error is an allocation failure.
     pub fn alive_between(
         &self,
         alloc: Global,
@@ -188,7 +190,7 @@ impl PagedRecords {
         Ok(found)
     }
 
-    /// The same from the last of them on that begins the page anew, where one does. What comes before that one is not looked at.
+    /// The same from the last of them with `init` on, where there is one. It does not visit what comes before that one.
     pub fn alive_since_init(
         &self,
         alloc: Global,
@@ -216,8 +218,8 @@ impl PagedRecords {
 }
 
 impl PagedRecords {
-    /// The records of another log that this one does not hold, by page, and within a page by key. Both logs are gone over side by side,
-    /// so none is looked up. It fails only if memory runs out.
+    /// The records of another log that this one does not store, by page, and within a page by key. It scans both logs side by side,
+    /// without look-ups. The only error is an allocation failure.
     pub fn missing_by_page<'a>(
         &self,
         alloc: Global,
@@ -238,8 +240,8 @@ impl PagedRecords {
 }
 
 impl PagedRecords {
-    /// Takes the keys of the first row of alive records of a page between two keys from what lists the records, and tells a key that
-    /// the row is above, and its last one.
+    /// Removes the keys of the first run of alive records of a page between two keys from the lists of keys, and returns a key that
+    /// the run is above, and its last one.
     pub fn unlist_row(
         &self,
         by_key: &mut KeyPages,

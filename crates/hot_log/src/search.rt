@@ -1,4 +1,4 @@
-//! Searches of held records in a book's view.
+//! Searches of stored records in a book's view.
 ghost use Rattle.std.specs.Prelude.{◌≡◌, ℕ, ◌<◌, ◌≤◌, ◌⊎◌, ◌↔◌, IsTrue, IfSome, IsNone, Some, None};
 ghost use Rattle.std.specs.Option.{option_copied};
 ghost use Rattle.redo_core.specs.Data.{RecordData};
@@ -16,7 +16,7 @@ use crate::view::View;
 use epoch_book::{EpochBook, Standing};
 use redo_core::{Key, Record};
 
-/// Whether a record is alive; one that waits is not looked up.
+/// Whether a record is alive; it does not look up one that waits.
 pub(crate) fn is_alive(book: &EpochBook, epoch: u16, number: u64) -> bool
     ensures alive { IsTrue result ↔ IsAlive book.now.cuts book.now.complete epoch number }
     ensures book { IsBook book.now }
@@ -24,7 +24,7 @@ pub(crate) fn is_alive(book: &EpochBook, epoch: u16, number: u64) -> bool
     epoch <= book.complete_epoch() && matches!(book.stands(epoch, number), Standing::Alive)
 }
 
-/// Whether a record of a key waits, or is alive above a number.
+/// Whether a record of a key waits, or is alive above an LSN.
 pub fn is_kept(book: &EpochBook, key: Key, point: u64) -> bool
     ensures { IsTrue result ↔ KeepsKey book.now point key }
 {
@@ -32,7 +32,7 @@ pub fn is_kept(book: &EpochBook, key: Key, point: u64) -> bool
         || (point < key.number && is_alive(book, key.epoch, key.number))
 }
 
-/// The epoch that parts the alive records at a number: those above the number are those above this epoch and number by key.
+/// The epoch that parts the alive records at an LSN: those above the LSN are those above this epoch and LSN by key.
 pub(crate) fn epoch_above(book: &EpochBook, number: u64) -> u16
     ensures parts { PartsAt book.now number result }
     ensures known { result ≤ book.now.complete }
@@ -42,9 +42,9 @@ pub(crate) fn epoch_above(book: &EpochBook, number: u64) -> u16
     book.last_cut_at(number)
 }
 
-/// A key that each alive record of a number up to this one is at or below, and no other alive record.
+/// A key that each alive record of an LSN up to this one is at or below, and no other alive record.
 ///
-/// Its epoch is the one in which the number itself can be alive. The epoch that parts the alive records at the number is a later one
+/// Its epoch is the one in which the LSN itself can be alive. The epoch that parts the alive records at the LSN is a later one
 /// where truncations have it as their `lo`, and from there a search would meet every dead record between the two.
 pub(crate) fn last_key_to(book: &EpochBook, number: u64) -> Key
     ensures parts { PartsAtKey book.now number result }
@@ -67,7 +67,7 @@ pub(crate) fn last_key_to(book: &EpochBook, number: u64) -> Key
 
 /// Below a dead key, a key that each alive record of a lower key is at or below.
 ///
-/// What is above the least `lo` of the later truncations is dead in each epoch up to this one, so a search passes over all of it in one
+/// What is above the least `lo` of the later truncations is dead in each epoch up to this one, so a search skips all of it in one
 /// step, and not record by record.
 fn key_down(book: &EpochBook, key: Key) -> Key
     requires { 0 < key.number }
@@ -76,7 +76,7 @@ fn key_down(book: &EpochBook, key: Key) -> Key
 {
     match book.least_lo(key.epoch) {
         Some(lo) if lo < key.number => last_key_to(book, lo),
-        // It is not above the `hi` of its own epoch: an alive record of an earlier one may have a higher number.
+        // It is not above the `hi` of its own epoch: an alive record of an earlier one may have a higher LSN.
         _ => Key {
             epoch: key.epoch,
             number: key.number - 1,
@@ -84,7 +84,7 @@ fn key_down(book: &EpochBook, key: Key) -> Key
     }
 }
 
-/// A key that each alive record above a number is above where its epoch is at least the one given; no other alive record is above it.
+/// A key that each alive record above an LSN is above where its epoch is at least the one given; no other alive record is above it.
 pub(crate) fn start_above(book: &EpochBook, number: u64, since: u16) -> Key
     ensures starts { StartsAbove book.now number since result }
     ensures book { IsBook book.now }
@@ -108,7 +108,7 @@ fn is_up_to(key: Key, to: Key) -> bool
 }
 
 impl<'a> View<'a> {
-    /// The alive record with this number.
+    /// The alive record with this LSN.
     pub fn alive_of(&self, number: u64) -> Option<&'a Record>
         ensures { IsOnlyRecord (λ r. seen_in self.now IsHeldAlive r × (r.number ≡ number)) (option_copied result) }
     {
@@ -124,7 +124,7 @@ impl<'a> View<'a> {
         }
     }
 
-    /// The first alive record of a page above a number.
+    /// The first alive record of a page above an LSN.
     pub(crate) fn alive_above(&self, page: u16, number: u64) -> Option<&'a Record>
         ensures found { IsLeastRecord (λ r. seen_in self.now IsPageAlive page r × (number < r.number)) (option_copied result) }
         ensures form { IsHeld self.now.held.now }
@@ -142,7 +142,7 @@ impl<'a> View<'a> {
         None
     }
 
-    /// The last alive record of a page up to a number.
+    /// The last alive record of a page up to an LSN.
     pub(crate) fn alive_to(&self, page: u16, number: u64) -> Option<&'a Record>
         ensures found { IsGreatestRecord (λ r. seen_in self.now IsPageAlive page r × (r.number ≤ number)) (option_copied result) }
         ensures form { IsHeld self.now.held.now }
@@ -158,7 +158,7 @@ impl<'a> View<'a> {
         None
     }
 
-    /// The first alive record above a number.
+    /// The first alive record above an LSN.
     pub(crate) fn alive_after(&self, number: u64) -> Option<&'a Record>
         ensures found { IsLeastRecord (λ r. seen_in self.now IsHeldAlive r × (number < r.number)) (option_copied result) }
         ensures form { IsHeld self.now.held.now }
@@ -167,7 +167,7 @@ impl<'a> View<'a> {
         self.held.get(key)
     }
 
-    /// The key of the first alive record above a number, where none is of an epoch before the one given.
+    /// The key of the first alive record above an LSN, where none is of an epoch before the one given.
     fn alive_key(&self, number: u64, since: u16) -> Option<Key>
         requires { seen_in self.now HasNoneEarlier number since }
         ensures found { seen_in self.now IsAliveKey number result }
@@ -184,7 +184,7 @@ impl<'a> View<'a> {
         None
     }
 
-    /// Whether an alive record has a number between two, where none above the lower one is of an epoch before the one given: dead records
+    /// Whether an alive record has an LSN between two, where none above the lower one is of an epoch before the one given: dead records
     /// of those epochs are not visited.
     pub fn has_between(&self, above: u64, below: u64, since: u16) -> bool
         requires { seen_in self.now HasNoneEarlier above since }
@@ -197,8 +197,8 @@ impl<'a> View<'a> {
         }
     }
 
-    /// Whether no alive record is above a number, as one look at the greatest key tells, where none there is of an epoch before the one
-    /// given. Where what is above is not alive, it may be false too.
+    /// Whether no alive record is above an LSN, by one look at the greatest key, where none there is of an epoch before the one
+    /// given. Where records above are dead or wait, it may be false too.
     pub fn has_none_above(&self, number: u64, since: u16) -> bool
         requires { seen_in self.now HasNoneEarlier number since }
         ensures { IsTrue result → seen_in self.now HasNoneAbove number }
@@ -209,9 +209,9 @@ impl<'a> View<'a> {
         }
     }
 
-    /// The least key above the one given of the alive records with this segment backlink, where no alive record above that number is of an
-    /// epoch before `since`. An alive number is above its backlink, so its key is above the one that parts the alive records there: dead
-    /// records of earlier epochs are passed unseen. What waits has a key above all that is alive, so the search ends there.
+    /// The least key above the one given of the alive records with this segment backlink, where no alive record above that LSN is of an
+    /// epoch before `since`. An alive LSN is above its backlink, so its key is above the one that parts the alive records there: dead
+    /// records of earlier epochs are not visited. What waits has a key above all that is alive, so the search ends there.
     pub(crate) fn alive_of_back(&self, back: u64, after: Key, since: u16) -> Option<Key>
         requires { seen_in self.now HasNoneEarlier back since }
         ensures found { seen_in self.now IsAliveOfBack back after result }
@@ -234,7 +234,7 @@ impl<'a> View<'a> {
     }
 
     /// The least key of the alive records with this segment backlink, and whether another of them has it, where no alive record above that
-    /// number is of an epoch before the one given.
+    /// LSN is of an epoch before the one given.
     pub(crate) fn first_of_back(&self, back: u64, since: u16) -> Option<(Key, bool)>
         requires { seen_in self.now HasNoneEarlier back since }
         ensures none { IsNone result → seen_in self.now IsAliveOfBack back (key_in 0 0) None }
@@ -248,7 +248,7 @@ impl<'a> View<'a> {
             number: 0,
         };
         let (first, second) = self.held.next_two_of_back(back, start)?;
-        // Over a sound log an alive record is mostly the only one with its backlink, and no look at the truncations is wanted.
+        // In a sound log an alive record is mostly the only one with its backlink, and the truncations need not be searched.
         if second.is_none() && is_alive(self.book, first.epoch, first.number) {
             return Some((first, false));
         }
@@ -261,7 +261,7 @@ impl<'a> View<'a> {
         Some((first, is_second))
     }
 
-    /// The least alive number with this segment backlink, or None where there is none.
+    /// The least alive LSN with this segment backlink, or None where there is none.
     pub fn next_after(&self, back: u64) -> Option<u64>
         ensures { IsLeast (λ n. (r : RecordData) × seen_in self.now IsHeldAlive r × (r.back ≡ back) × (r.number ≡ n)) result }
     {
@@ -276,7 +276,7 @@ impl<'a> View<'a> {
         Some(key.number)
     }
 
-    /// Whether the record of a page and a key is alive, and its segment backlink below a number.
+    /// Whether the record of a page and a key is alive, and its segment backlink below an LSN.
     fn is_below(&self, page: u16, key: Key, number: u64) -> bool
         ensures { IsTrue result ↔ ((r : RecordData) × seen_in self.now IsHeldAlive r × HasKey key r × (r.page ≡ page) × (r.back < number)) }
     {
@@ -290,7 +290,7 @@ impl<'a> View<'a> {
         }
     }
 
-    /// The last alive record up to a number, whatever its page, or None where there is none.
+    /// The last alive record up to an LSN, whatever its page, or None where there is none.
     pub fn last_alive(&self, to: u64) -> Option<&'a Record>
         ensures found { IsGreatestRecord (λ r. seen_in self.now IsHeldAlive r × (r.number ≤ to)) (option_copied result) }
         ensures form { IsHeld self.now.held.now }
@@ -305,7 +305,7 @@ impl<'a> View<'a> {
         None
     }
 
-    /// Whether an alive record of an epoch above the one given has a segment backlink below a number.
+    /// Whether an alive record of an epoch above the one given has a segment backlink below an LSN.
     pub fn opens_below(&self, epoch: u16, number: u64) -> bool
         ensures { IsTrue result ↔ ((r : RecordData) × seen_in self.now IsOpenedBelow epoch number r) }
     {

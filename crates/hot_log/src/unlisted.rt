@@ -15,8 +15,8 @@ use redo_core::{Key, Record};
 use std::alloc::{AllocError, Global};
 
 impl<'a> View<'a> {
-    /// The records that wait, or are alive above a number, and whose keys are not among the ones given, which rise; rising by key. Its
-    /// only error is lack of memory.
+    /// The records that wait, or are alive above an LSN, and whose keys are not among the ones given, which rise; rising by key. Its
+    /// only error is an allocation failure.
     pub fn kept_unlisted(
         &self,
         alloc: Global,
@@ -28,7 +28,7 @@ impl<'a> View<'a> {
     {
         let mut found = Vec::new(alloc);
         let mut place = 0;
-        // A record that waits, or is alive above the number, has a key above this one.
+        // A record that waits, or is alive above the LSN, has a key above this one.
         let mut left = self.held.keys_above(Key {
             epoch: epoch_above(self.book, point),
             number: point,
@@ -42,7 +42,7 @@ impl<'a> View<'a> {
         Ok(found)
     }
 
-    /// The record of a page and a key, where it is kept and not listed; if it is listed, its key likely stands at the place given.
+    /// The record of a page and a key, where it is kept and not listed; if it is listed, its key is likely at the index given.
     fn unlisted_at(
         &self,
         point: u64,
@@ -62,7 +62,7 @@ impl<'a> View<'a> {
     }
 }
 
-/// The first place from one on where the listed key is not below a key. Held and listed keys are gone over side by side.
+/// The first index from one on where the listed key is not below a key. It scans stored and listed keys side by side.
 fn reach(keys: &[Key], from: usize, key: Key) -> usize {
     let mut place = from;
     while place < keys.len() && keys[place] < key {
@@ -71,7 +71,7 @@ fn reach(keys: &[Key], from: usize, key: Key) -> usize {
     place
 }
 
-/// Whether a key is among keys that rise. It is looked for at a place first, and on both sides of it.
+/// Whether a key is among keys that rise. The search tries an index first, and then both sides of it.
 fn is_listed(keys: &[Key], place: usize, key: Key) -> bool
     requires { IsRising KeyBefore keys.now }
     ensures { IsTrue result ↔ Contains keys.now key }
@@ -85,7 +85,7 @@ fn is_listed(keys: &[Key], place: usize, key: Key) -> bool
     keys.binary_search(&key).is_ok()
 }
 
-/// Whether rising keys in front of a place are seen to be below a key: the last of them is.
+/// Whether the rising keys before an index are visibly below a key: the last of them is.
 fn are_below(keys: &[Key], place: usize, key: Key) -> bool
     requires { IsRising KeyBefore keys.now }
     ensures { IsTrue result → All (λ k. KeyBefore k key) (take place keys.now) }
@@ -93,7 +93,7 @@ fn are_below(keys: &[Key], place: usize, key: Key) -> bool
     place == 0 || (place <= keys.len() && keys[place - 1] < key)
 }
 
-/// Whether rising keys from a place on are above a key: the first of them is.
+/// Whether the rising keys from an index on are above a key: the first of them is.
 fn are_above(keys: &[Key], place: usize, key: Key) -> bool
     requires { IsRising KeyBefore keys.now }
     ensures { IsTrue result → All (KeyBefore key) (drop place keys.now) }

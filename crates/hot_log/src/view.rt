@@ -1,4 +1,4 @@
-//! Held records in a book's view.
+//! Stored records in a book's view.
 ghost use Rattle.std.specs.Prelude.{IfOk, map};
 ghost use Rattle.std.specs.Option.{option_copied};
 ghost use Rattle.redo_core.specs.Order.{Lists, BeforeByNumber};
@@ -15,9 +15,9 @@ use epoch_book::EpochBook;
 use redo_core::{Key, Record};
 use std::alloc::{AllocError, Global};
 
-/// Held records in the view of a book of truncations and advances, which tells which of them are dead, wait or are alive.
+/// Stored records in the view of a book of truncations and advances, which decides which of them are dead, wait or are alive.
 ///
-/// It lends both for questions. What changes the log takes the log and the book themselves.
+/// It borrows both for queries. What changes the log takes the log and the book themselves.
 #[derive(Clone, Copy)]
 pub struct View<'a> {
     pub book: &'a EpochBook,
@@ -25,7 +25,7 @@ pub struct View<'a> {
 }
 
 impl<'a> View<'a> {
-    /// The first alive record of a page with a number above `from` and up to `to`, or None where there is none.
+    /// The first alive record of a page with an LSN above `from` and up to `to`, or None where there is none.
     pub fn next_of(&self, page: u16, from: u64, to: u64) -> Option<&'a Record>
         ensures { IsLeastRecord (seen_in self.now IsHeldOf page from to) (option_copied result) }
     {
@@ -37,7 +37,7 @@ impl<'a> View<'a> {
         }
     }
 
-    /// The last alive record of a page with a number above `from` and up to `to`, or None where there is none.
+    /// The last alive record of a page with an LSN above `from` and up to `to`, or None where there is none.
     pub fn last_of(&self, page: u16, from: u64, to: u64) -> Option<&'a Record>
         ensures { IsGreatestRecord (seen_in self.now IsHeldOf page from to) (option_copied result) }
     {
@@ -49,7 +49,7 @@ impl<'a> View<'a> {
         }
     }
 
-    /// The alive records of a page with numbers above `from` and up to `to`, rising. It fails only if memory runs out.
+    /// The alive records of a page with LSNs above `from` and up to `to`, rising. The only error is an allocation failure.
     pub fn records_of(
         &self,
         alloc: Global,
@@ -71,8 +71,8 @@ impl<'a> View<'a> {
         held.records.alive_between(alloc, book, page, above, to)
     }
 
-    /// The same from the last of them on that begins the page anew, where one does: what comes before that one does not show in the
-    /// page, and is not looked at. It fails only if memory runs out.
+    /// The same from the last of them with `init` on, where there is one: what comes before that one has no effect on the
+    /// page, and is not visited. The only error is an allocation failure.
     pub fn records_since_init(
         &self,
         alloc: Global,
@@ -94,12 +94,12 @@ impl<'a> View<'a> {
         held.records.alive_since_init(alloc, book, page, above, to)
     }
 
-    /// The keys of the records that wait, or are alive above a number, rising. It fails only if memory runs out.
+    /// The keys of the records that wait, or are alive above an LSN, rising. The only error is an allocation failure.
     pub fn kept_keys(&self, alloc: Global, point: u64) -> Result<Vec<Key>, AllocError>
         ensures { IfOk result (λ v. ListsKeysOf (seen_in self.now IsKeptAbove point) v.items) }
     {
         let (book, held) = (self.book, self.held);
-        // A record that waits, or is alive above the number, has a key above this one.
+        // A record that waits, or is alive above the LSN, has a key above this one.
         let above = Key {
             epoch: epoch_above(book, point),
             number: point,
@@ -107,7 +107,7 @@ impl<'a> View<'a> {
         held.by_key.kept_keys(alloc, book, above, point)
     }
 
-    /// The epoch after the complete one, where a held record waits; else None.
+    /// The epoch after the complete one, where a stored record waits; otherwise None.
     pub fn awaited(&self) -> Option<u16>
         ensures { seen_in self.now IsAwaited result }
     {

@@ -7,7 +7,7 @@ use Rattle.hot_log.specs.Alive.{PartsAt, PartsAtKey}
 use Rattle.hot_log.proofs.Views.{view_of}
 use Rattle.hot_log.proofs.search.last_key_to.Goals as goal
 
--- a number that is alive in a later epoch than the first is above that epoch's hi
+-- an LSN that is alive in a later epoch than the first is above that epoch's hi
 parts_at_none : (b : BookData) (number : ℕ) → IsBook b → number ≡ 0 → PartsAtKey b number (key_in 0 0)
 parts_at_none b number is zero e n a = (
   λ lt. let t : PairBefore 0 0 e n = grind arith in t,
@@ -20,7 +20,7 @@ parts_at_none b number is zero e n a = (
       p,
 )
 
--- the number itself can be alive in the one epoch alone
+-- the LSN itself can be alive in the one epoch alone
 parts_below : (b : BookData) (number epoch : ℕ) → (number ≡ 0 → ⊥) → PartsAt b (number - 1) epoch → PartsAtKey b number (key_in epoch number)
 parts_below b number epoch some parts e n a = (
   λ lt. ⊎_elim

@@ -25,7 +25,7 @@ loop-redo-init c =
       lacks_none c.args.self.now (map now c.new-missing.result.items) (ap (map now) c.new-missing.ensures.items),
     )
 
--- the records of what is gone over, one entry more
+-- the records of what is scanned, one more entry
 records_more : (xs ys : List Entry) (x : Entry) → records_in (xs ++ x ∷ ys) ≡ records_in xs ++ x.1 ∷ records_in ys
 records_more xs ys x = rw map-append
 

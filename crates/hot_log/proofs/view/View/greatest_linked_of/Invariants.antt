@@ -3,7 +3,7 @@ use Rattle.redo_core.specs.Data.{RecordData}
 use Rattle.hot_log.specs.Alive.{IsLinkedHeld}
 use Rattle.hot_log.proofs.view.View.greatest_linked_of.Given as goal
 
--- no linked record of the page is above the number
+-- no linked record of the page is above the LSN
 abbrev pub invariant-loop-redo : goal.invariant-loop-redo
 invariant-loop-redo l = record {
   bound : l.to ≤ l.limit;

@@ -2,7 +2,7 @@ use Rattle.std.proofs.Common.{◌↔◌}
 use Rattle.hot_log.specs.Alive.{IsLinkedFrom}
 use Rattle.hot_log.proofs.view.View.is_linked.Given as goal
 
--- the number is linked where the one that the walk has come to is
+-- the LSN is linked where the one that the walk has reached is
 abbrev pub invariant-loop-at : goal.invariant-loop-at
 invariant-loop-at l = IsLinkedFrom l.self.book.now l.self.held.now l.from l.number ↔ IsLinkedFrom l.self.book.now l.self.held.now l.from l.at
 
