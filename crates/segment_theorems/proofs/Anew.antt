@@ -9,7 +9,7 @@ use Rattle.segment_theorems.specs.State.{State, image_of}
 use Rattle.segment_theorems.specs.Shows.{IsApplied, Shows}
 use Rattle.segment_theorems.specs.FromInit.{ShowsFrom}
 
--- a record with `init` does not look at the page
+-- a record with `init` does not depend on the page
 pub write_anew : (r : RecordData) (i j : List ℕ) → r.init ≡ true → write i r ≡ write j r
 write_anew r i j e = rw e refl
 

@@ -1,4 +1,4 @@
--- A state answers as its facts, from the laws of positions, pages and meanings.
+-- A state gives the results of its facts, by the theorems of positions, pages and meanings.
 use Rattle.std.proofs.Common.{◌≤◌, ℕ, List, refl, arith}
 use Rattle.redo_core.specs.Position.{Position, IsPosition}
 use Rattle.redo_core.specs.declared.facts.Fact.{Fact}

@@ -45,7 +45,7 @@ page_final log F G f g l pt q front gront p v i le page =
       result = page.result;
     }
 
--- the points and waiting advances of facts that stand at f
+-- the points and waiting advances of facts of position f
 pub record IsBookOf (roster : ℕ) (F : List Fact) (f : Position) (ps : List ℕ) (ws : List AdvanceData) : Type 0 where
   pub position : IsPosition roster F f
   pub points : ps ≡ f.points
@@ -196,7 +196,7 @@ image_as : (F G : List Fact) (u : Position) (p v w : ℕ) (i j : List ℕ) → w
     → (w ≤ u.anchor) × IsPageAt (F ++ G) u.epoch p w j
 image_as F G u p v w i j a b h = search rules
 
--- an image that comes from one side
+-- an image from one side
 image_joined : {roster : ℕ} (log F G : List Fact) (f g u : Position) (s t s' : State) → IsLog roster log → IsPart (F ++ G) log → MeansAt roster log F f s
     → MeansAt roster log G g t → IsPosition roster (F ++ G) u → (p : ℕ)
     → ((version_of s'.store p ≡ version_of s.store p) × (image_of s'.store p ≡ image_of s.store p))

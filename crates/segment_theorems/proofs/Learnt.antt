@@ -95,7 +95,7 @@ book_joins s other new joins = record {
   newest = λ g. (omega arith, let e = bare_version other g in omega arith);
 }
 
--- the points that a state learns where advances that wait no longer count
+-- the points that a state learns where advances that waited take effect
 learnt_point : (s : State) (k reader n m : ℕ) → n ≡ 0 → IsGreatest (λ i. (i ≡ point_of s.book.points reader) ⊎ HasAdvance s.book.waits k reader i) m
     → IsGreatest (Known s n [] k reader) m
 learnt_point s k reader n m zero g = (
@@ -151,7 +151,7 @@ no_cuts_here a c = (λ h. absurd (none_in c h), λ h. absurd (advance_no_cut a c
 advance_exists : (roster : ℕ) (a : AdvanceData) → (p : Position) × IsPosition roster (Advance a ∷ []) p
 advance_exists roster a = front_exists roster (Advance a ∷ []) (λ r x. absurd (advance_no_record a r x))
 
--- the points of one advance that counts
+-- the points of one effective advance
 abbrev ArePointsOf : ℕ → AdvanceData → List ℕ → Type 0
 ArePointsOf roster a ps = (reader : ℕ) → IsReader roster reader → IsPoint (a ∷ []) 0 reader (point_of ps reader)
 
@@ -159,7 +159,7 @@ own_advances : (a : AdvanceData) → advances (Advance a ∷ []) ≡ a ∷ []
 unfolding advances
 own_advances a = refl
 
--- one of epoch 0 counts
+-- one of epoch 0 is effective
 pub counting_means : (roster : ℕ) (log : List Fact) (a : AdvanceData) → Contains log (Advance a) → a.epoch ≡ 0 → (ps : List ℕ) × ArePointsOf roster a ps
     × Means roster log (Advance a ∷ []) (bare (book_of [] 0 ps []))
 counting_means roster log a h z =
@@ -208,7 +208,7 @@ no_late log F s a b x = ((a.1.book.waits b).0 x).1
 same_cuts_more : (cs : List CutData) (c : CutData) → Contains cs c ↔ (Contains cs c ⊎ Contains [] c)
 same_cuts_more cs c = (λ y. inl y, λ y. ⊎_elim (λ (u : Contains cs c). u) (λ (u : Contains [] c). absurd (none_in c u)) y)
 
--- the reader's point, where an advance of epoch 0 counts
+-- the reader's point, where an advance of epoch 0 takes effect
 first_point : {roster : ℕ} (log F : List Fact) (s : State) (reader n m : ℕ) (a : AdvanceData) → (x : Means roster log F s) → a.epoch ≡ 0
     → IsPoint (a ∷ []) 0 reader n → IsGreatest (λ i. (i ≡ point_of s.book.points reader) ⊎ HasAdvance (a ∷ []) s.book.complete reader i) m
     → IsGreatest (Known s n [] s.book.complete reader) m
@@ -236,7 +236,7 @@ joins_book : {roster : ℕ} (log F : List Fact) (s : State) (ns : List ℕ) (vs 
     → Joins s (bare (book_of [] 0 ns vs)) (record s { book = book_of s.book.cuts s.book.complete ms ws })
 joins_book log F s ns vs ms ws x waits count points = search (rules, book_joins, same_cuts_more, epoch_of)
 
--- it counts, and is of epoch 0
+-- it is effective, and is of epoch 0
 count_first : {roster : ℕ} (log F : List Fact) (s : State) (ns ms : List ℕ) (a : AdvanceData) → (x : Means roster log F s) → a.epoch ≡ 0
     → ArePointsOf roster a ns → RaisesPoints s.book.complete s.book.points (a ∷ []) ms
     → Joins s (bare (book_of [] 0 ns [])) (record s { book = book_of s.book.cuts s.book.complete ms s.book.waits })
@@ -247,7 +247,7 @@ count_first log F s ns ms a x z own g =
     (λ reader r. first_point log F s reader (point_of ns reader) (point_of ms reader) a x z (own reader (subst (λ n. IsReader n reader) x.1.readers r))
     (g.each reader r))
 
--- the reader's point, where an advance of a later epoch counts
+-- the reader's point, where an advance of a later epoch takes effect
 later_point : {roster : ℕ} (log F : List Fact) (s : State) (reader n m : ℕ) (a : AdvanceData) → (x : Means roster log F s) → n ≡ 0
     → IsGreatest (λ i. (i ≡ point_of s.book.points reader) ⊎ HasAdvance (a ∷ []) s.book.complete reader i) m
     → IsGreatest (Known s n (a ∷ []) s.book.complete reader) m
@@ -262,7 +262,7 @@ later_point log F s reader n m a x z g = (
       (λ (u : Contains (a ∷ []) b.0). g.1 i (inr (b.0, u, b.2, b.3, b.4))) b.1) y2) y,
 )
 
--- it counts, and is of a later epoch
+-- it is effective, and is of a later epoch
 count_later : {roster : ℕ} (log F : List Fact) (s : State) (ns ms : List ℕ) (a : AdvanceData) → (x : Means roster log F s) → a.epoch ≤ s.book.complete
     → AreZero roster ns → RaisesPoints s.book.complete s.book.points (a ∷ []) ms → Joins s (bare (book_of [] 0 ns (a ∷ [])))
     (record s { book = book_of s.book.cuts s.book.complete ms s.book.waits })

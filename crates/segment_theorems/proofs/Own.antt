@@ -1,4 +1,4 @@
--- What a state tells by itself is what the facts tell that it means.
+-- What a state determines by itself is what the facts that it means determine.
 use Rattle.std.proofs.Common.{◌≡◌, ℕ, ◌≤◌, ◌↔◌, inr, List, sym, ◌∙◌, subst, arith, rules}
 use Rattle.redo_core.specs.Linked.{IsLinked}
 use Rattle.redo_core.specs.Linked.Linked.{start}
@@ -52,7 +52,7 @@ position_as log F p q s l m h =
 pub position_law : {roster : ℕ} (log F : List Fact) (p q : Position) (s : State) → IsLog roster log → MeansAt roster log F p s → HasPosition s q ↔ (q ≡ p)
 position_law log F p q s l m = (position_as log F p q s l m, λ e. subst (HasPosition s) (sym e) (position_of log F p s l m))
 
--- what the state calls settled is at or below the anchor
+-- what is stable in the state is at or below the anchor
 pub settled_low : {roster : ℕ} (log F : List Fact) (p : Position) (s : State) (n : ℕ) → IsLog roster log → MeansAt roster log F p s → IsStable s n
     → n ≤ p.anchor
 settled_low log F p s n l m h =

@@ -63,7 +63,7 @@ alive_in_facts log F f s m e n = (
   λ a. alive_within s.book.cuts (cuts F) (λ c h. (m.book.same_cuts c).0 h) s.book.complete e n (subst (λ k. IsAlive (cuts F) k e n) (sym m.epoch) a),
 )
 
--- a linked number below a record is at most the record's backlink
+-- a linked LSN below a record is at most the record's backlink
 linked_at_most_back : {roster : ℕ} (log F : List Fact) → IsLog roster log → IsPart F log → (k : ℕ) → HasCutsTo (cuts F) k → (r : RecordData)
     → Contains (records F) r → IsAlive (cuts F) k r.epoch r.number → (n : ℕ) → IsLinked F k n → n < r.number → n ≤ r.back
 linked_at_most_back log F l p k has r hr ar n start lt = omega arith
@@ -97,7 +97,7 @@ pub links_law : {roster : ℕ} (log F : List Fact) (f : Position) (s : State) (n
     → Linked s.book.cuts s.held s.book.complete s.base n ↔ (IsLinked F f.epoch n × (s.base ≤ n))
 links_law log F f s n l m = (links_down log F f s m n, λ h. links_up log F f s l m n h.0 h.1)
 
--- what is held of a page is what the facts have above its version
+-- what is stored of a page is what the facts have above its version
 pub held_of : {roster : ℕ} (log F : List Fact) (f : Position) (s : State) → IsLog roster log → MeansAt roster log F f s → (g q : ℕ) → q ≤ f.complete
     → (r : RecordData) → IsApplied s g q r ↔ OfPage F f.epoch g (version_of s.store g) q r
 held_of log F f s l m g q le r = (

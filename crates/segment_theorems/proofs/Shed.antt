@@ -73,7 +73,7 @@ anchor_page_is_final log F s anchor page image sound a top shows =
       shown = subst (λ n. IsPageAt F a.0.epoch page n image) (sym t) ((pages_law log F a.0 s page a.0.anchor image l a.1 (omega arith) le).0 here');
     }
 
--- other held records, base point and images
+-- other stored records, base point and images
 pub with_others : {roster : ℕ} (log F : List Fact) (p : Position) (old new : State) → MeansAt roster log F p old → new.book ≡ old.book
     → IsLinked F p.epoch new.base × (new.base ≤ p.anchor)
     → ((r : RecordData) → Contains new.held r → Contains old.held r)

@@ -1,4 +1,4 @@
--- A state answers as the facts that it means.
+-- A state gives the results of the facts that it means.
 use Rattle.std.specs.Prelude.{ℕ, ◌↔◌, List}
 use Rattle.redo_core.specs.Sets.{IsPart}
 use Rattle.redo_core.specs.Position.{Position, IsPosition}
@@ -12,7 +12,7 @@ use Rattle.segment_theorems.specs.Means.{Means}
 use Rattle.segment_theorems.specs.Shows.{Shows}
 use Rattle.segment_theorems.specs.HasMeaning.{HasPosition, HasMeaning}
 
--- The state stands where facts of the log stand, shows their page at each admissible point, and tells their meaning.
+-- The state has the position of facts of the log, yields their page at each admissible point, and has their meaning.
 pub record AnswersAs (roster : ℕ) (log facts : List Fact) (s : State) : Type 0 where
   pub part : IsPart facts log
   pub p : Position

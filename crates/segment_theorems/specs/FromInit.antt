@@ -1,4 +1,4 @@
--- A record with `init` begins its page anew, so nothing before it counts.
+-- A record with `init` starts its page from zeros, so nothing before it has an effect.
 use Rattle.std.specs.Prelude.{◌≡◌, ◌≤◌, ℕ, true, List}
 use Rattle.redo_core.specs.Data.{RecordData}
 use Rattle.redo_core.specs.Order.{Lists, BeforeByNumber}
@@ -12,7 +12,7 @@ pub record ShowsFrom (s : State) (page q : ℕ) (r : RecordData) (image : List �
   pub lists : Lists BeforeByNumber (λ x. IsApplied s page q x × (r.number ≤ x.number)) written
   pub result : image ≡ after_records zeros written
 
--- Where a record with `init` is applied to a page, the records from it on give the page that the state shows.
+-- Where a record with `init` is applied to a page, the records from it on give the page that the state yields.
 abbrev pub InitBeginsAnew : Type 0
 InitBeginsAnew =
     (s : State) (page q : ℕ) (r : RecordData) (image : List ℕ)

@@ -42,12 +42,12 @@ IsAccounted facts p key =
     ((r : RecordData) × IsKept facts p r × (r.epoch ≡ key.epoch) × (r.number ≡ key.number))
     ⊎ (IsDead (cuts facts) p.epoch key.epoch key.number ⊎ ((key.epoch ≤ p.epoch) × (key.number ≤ p.anchor)))
 
--- facts that stand at p answer for a summary
+-- facts of position p answer for a summary
 pub record AnswersFor (facts : List Fact) (p : Position) (summary : Listing) : Type 0 where
   pub anchor : summary.anchor ≤ p.anchor
   pub keys : (key : Key) → Contains summary.keys key → IsAccounted facts p key
 
--- a delta has what facts that stand at p have beyond a summary
+-- a delta has what facts of position p have beyond a summary
 pub record Fills (facts : List Fact) (p : Position) (summary : Listing) (d : Delta) : Type 0 where
   pub same_cuts : (c : CutData) → Contains d.book.cuts c ↔ Contains (cuts facts) c
   pub epoch : d.book.complete ≡ p.epoch
@@ -93,7 +93,7 @@ pub record IsDeltaFor (anchor : ℕ) (s : State) (summary : Listing) (d : Delta)
   pub same_waits : (a : AdvanceData) → Contains d.book.waits a ↔ Contains s.book.waits a
   pub of_held : (r : RecordData) → Contains d.records r
       → Contains s.held r × (IsWaiting s.book.complete r.epoch ⊎ IsAlive s.book.cuts s.book.complete r.epoch r.number)
-  -- where the summary's anchor is high enough, the records above it; else the pages at the anchor and the kept records
+  -- where the summary's anchor is high enough, the records above it; otherwise the pages at the anchor and the kept records
   pub rest :
       ((s.base ≤ summary.anchor) × (d.base ≡ 0) × (d.pages ≡ []) × ((r : RecordData) → IsKeptBy s summary.anchor r → Contains d.records r ⊎ IsListed summary r))
       ⊎ ((d.base ≡ anchor) × Lists ImageBefore (λ i. Shows s i.page anchor i.bytes × (i.bytes ≢ zeros)) d.pages

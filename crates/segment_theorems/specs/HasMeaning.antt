@@ -1,4 +1,4 @@
--- What a state tells by itself: its position and its meaning.
+-- What a state determines by itself: its position and its meaning.
 use Rattle.std.specs.Prelude.{◌≡◌, ◌≢◌, ℕ, ◌<◌, ◌≤◌, ◌⊎◌}
 use Rattle.std.specs.List.{Contains}
 use Rattle.redo_core.specs.Data.{RecordData}
@@ -12,11 +12,11 @@ use Rattle.redo_core.specs.Meaning.{Meaning, ImageBefore}
 use Rattle.segment_theorems.specs.State.{State, min_of}
 use Rattle.segment_theorems.specs.Shows.{Shows}
 
--- n is linked from the base point on, by the records that the state holds
+-- n is linked from the base point on, by the records that the state stores
 abbrev pub IsLinkedIn : State → ℕ → Type 0
 IsLinkedIn s n = Linked s.book.cuts s.held s.book.complete s.base n
 
--- the greatest of those numbers
+-- the greatest of those LSNs
 abbrev pub HasComplete : State → ℕ → Type 0
 HasComplete s complete = IsGreatest (IsLinkedIn s) complete
 
@@ -35,7 +35,7 @@ pub record HasPosition (s : State) (p : Position) : Type 0 where
   pub min : min_of s ≡ p.min
   pub anchor : HasAnchor s p.anchor
 
--- a held record is kept where it is alive above the anchor, or waits
+-- a stored record is kept where it is alive above the anchor, or waits
 abbrev pub IsKeptBy : State → ℕ → RecordData → Type 0
 IsKeptBy s anchor r =
     Contains s.held r × (IsWaiting s.book.complete r.epoch ⊎ (IsAlive s.book.cuts s.book.complete r.epoch r.number × (anchor < r.number)))

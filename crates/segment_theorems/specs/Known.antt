@@ -1,4 +1,4 @@
--- Which facts tell a state nothing new, and which ones it cannot take.
+-- Which facts add nothing to a state, and which ones conflict with it.
 use Rattle.std.specs.Prelude.{◌≡◌, ◌≢◌, ◌<◌, ◌⊎◌}
 use Rattle.std.specs.List.{Contains}
 use Rattle.redo_core.specs.Data.{RecordData, CutData}
@@ -12,8 +12,8 @@ use Rattle.redo_core.specs.declared.facts.Fact.TheVariants.{Record, Cut, Advance
 use Rattle.segment_theorems.specs.State.{State, min_of}
 use Rattle.segment_theorems.specs.HasMeaning.{IsStable}
 
--- The fact is known. A record: it is dead, held, or alive at or below the anchor. A truncation: it is stored.
--- An advance: it counts and its point is not above its reader's, or it waits already.
+-- The fact is known. A record: it is dead, stored, or alive at or below the anchor. A truncation: it is stored.
+-- An advance: it is effective and its point is not above its reader's, or it waits already.
 abbrev pub IsKnown : State → Fact → Type 0
 IsKnown s (Record r) =
     IsDead s.book.cuts s.book.complete r.epoch r.number
@@ -21,7 +21,7 @@ IsKnown s (Record r) =
 IsKnown s (Cut c) = Contains s.book.cuts c
 IsKnown s (Advance a) = KnowsAdvance s.book a
 
--- The fact and what is stored are not of one sound log. A record: another one is held under its key. A truncation: another one
+-- The fact and what is stored are not of one sound log. A record: another one of its key is stored. A truncation: another one
 -- of its epoch is stored, or it is not stored and its lo is below the minimum, or each reader is known to be past it.
 -- An advance: its reader is not of the roster, or a stored truncation of a later epoch cuts below its point.
 abbrev pub Conflicts : State → Fact → Type 0

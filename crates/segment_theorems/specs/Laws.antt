@@ -1,4 +1,4 @@
--- The laws of states: what a state shows of the facts that it means, and that its steps do what the calls promise.
+-- The theorems of states: what a state determines of the facts that it means, and that its steps do what the calls promise.
 use Rattle.std.specs.Prelude.{◌≡◌, ℕ, ◌<◌, ◌≤◌, ◌↔◌, List, []}
 use Rattle.std.specs.List.{Contains}
 use Rattle.redo_core.specs.Data.{RecordData, CutData, AdvanceData}
@@ -29,7 +29,7 @@ SameLinks =
     → IsSound roster log → MeansAt roster log facts p s
     → IsLinkedIn s n ↔ (IsLinked facts p.epoch n × (s.base ≤ n))
 
--- The position that the state tells is that of the facts.
+-- The position that the state computes is that of the facts.
 abbrev pub SamePosition : Type 0
 SamePosition =
     (roster : ℕ) (log facts : List Fact) (p q : Position) (s : State)
@@ -41,14 +41,14 @@ SameAnchor =
     (roster : ℕ) (log facts : List Fact) (p : Position) (s : State) (anchor : ℕ)
     → IsSound roster log → MeansAt roster log facts p s → HasAnchor s anchor → (s.book.complete ≡ p.epoch) × (anchor ≡ p.anchor)
 
--- A page that the state shows, from its anchor to its complete point, is the facts'.
+-- A page that the state yields, from its anchor to its complete point, is the facts'.
 abbrev pub TruePages : Type 0
 TruePages =
     (roster : ℕ) (log facts : List Fact) (p : Position) (s : State) (page q : ℕ) (image : List ℕ)
     → IsSound roster log → MeansAt roster log facts p s → p.anchor ≤ q → q ≤ p.complete
     → Shows s page q image ↔ IsPageAt facts p.epoch page q image
 
--- No block chain is broken, and each goes through every record that is applied to its page.
+-- No block chain is broken, and each contains every record that is applied to its page.
 abbrev pub WholeBlockChains : Type 0
 WholeBlockChains =
     (roster : ℕ) (log facts : List Fact) (p : Position) (s : State) (page q : ℕ) (r : RecordData)
@@ -67,7 +67,7 @@ SameKept =
     (roster : ℕ) (log facts : List Fact) (p : Position) (s : State) (r : RecordData)
     → IsSound roster log → MeansAt roster log facts p s → IsKeptBy s p.anchor r ↔ IsKept facts p r
 
--- A fact of the log leaves the meaning as it is exactly where the state knows it.
+-- A fact of the log leaves the meaning unchanged exactly where the state knows it.
 abbrev pub UnchangedExactly : Type 0
 UnchangedExactly =
     (s : State) (fact : Fact)
@@ -99,7 +99,7 @@ FinalPages =
     → IsSound roster log → MeansAt roster log facts p s → version ≤ p.anchor → IsFinalPage roster log page version image
     → IsPageAt facts p.epoch page version image
 
--- The page that a state shows at its anchor is final.
+-- The page that a state yields at its anchor is final.
 abbrev pub AnchorPageIsFinal : Type 0
 AnchorPageIsFinal =
     (roster : ℕ) (log facts : List Fact) (s : State) (anchor page : ℕ) (image : List ℕ)

@@ -16,11 +16,11 @@ use Rattle.segment_theorems.specs.State.{State, version_of, image_of}
 abbrev pub Matters : List CutData → ℕ → RecordData → Type 0
 Matters cs k r = IsWaiting k r.epoch ⊎ IsAlive cs k r.epoch r.number
 
--- a record that does not wait and that its page's image has, at or below the base point
+-- a record that does not wait and that its page's image contains, at or below the base point
 abbrev pub IsInImage : State → RecordData → Type 0
 IsInImage s r = (r.epoch ≤ s.book.complete) × (r.number ≤ s.base) × (r.number ≤ version_of s.store r.page)
 
--- the state means the facts, which stand at p, inside a log of the roster
+-- the state means the facts, whose position is p, inside a log of the roster
 pub record MeansAt (roster : ℕ) (log facts : List Fact) (p : Position) (s : State) : Type 0 where
   pub part : IsPart facts log
   pub position : IsPosition roster facts p
@@ -30,10 +30,10 @@ pub record MeansAt (roster : ℕ) (log facts : List Fact) (p : Position) (s : St
   pub readers : roster_of s.book ≡ roster
   -- the base point is linked, and not above the anchor
   pub base : IsLinked facts p.epoch s.base × (s.base ≤ p.anchor)
-  -- what is held is of the log, and of the facts unless it is dead
+  -- what is stored is of the log, and of the facts unless it is dead
   pub of_log : (r : RecordData) → Contains s.held r → Contains (records log) r
   pub of_facts : (r : RecordData) → Contains s.held r → Matters (cuts facts) p.epoch r → Contains (records facts) r
-  -- each of the facts' records that is not dead is held, or in its page's image
+  -- each of the facts' records that is not dead is stored, or in its page's image
   pub kept : (r : RecordData) → Contains (records facts) r → Matters (cuts facts) p.epoch r → Contains s.held r ⊎ IsInImage s r
   -- each image is the page at its version, which is not above the anchor
   pub versions : (page : ℕ) → version_of s.store page ≤ p.anchor

@@ -1,4 +1,4 @@
--- A state made anew from what another one means.
+-- A state rebuilt from what another one means.
 use Rattle.std.specs.Prelude.{◌≡◌, ℕ, ◌↔◌}
 use Rattle.std.specs.List.{Contains}
 use Rattle.redo_core.specs.Data.{RecordData}
@@ -7,7 +7,7 @@ use Rattle.segment_theorems.specs.Shows.{Shows}
 use Rattle.segment_theorems.specs.HasMeaning.{HasAnchor, IsKeptBy}
 use Rattle.segment_theorems.specs.Promises.{KeepsMeaning}
 
--- the book is the old one's, the base point its anchor, each page what it shows there, and just its kept records are held
+-- the book is the old one's, the base point its anchor, each page its page there, and exactly its kept records are stored
 pub record Restores (old new : State) : Type 0 where
   pub book : new.book ≡ old.book
   pub base : HasAnchor old new.base

@@ -1,4 +1,4 @@
--- How a state sheds what it needs no longer: steps on what it stores.
+-- How a state reclaims what it does not need: steps on what it stores.
 use Rattle.std.specs.Prelude.{◌≡◌, ◌≢◌, ℕ, ◌≤◌, ◌⊎◌, List}
 use Rattle.std.specs.List.{Contains}
 use Rattle.redo_core.specs.Data.{RecordData}
@@ -17,7 +17,7 @@ pub record CommitsImage (old : State) (page version : ℕ) (image : List ℕ) (n
   pub image_is : image_of new.store page ≡ image
   pub others : (other : ℕ) → other ≢ page → (version_of new.store other ≡ version_of old.store other) × (image_of new.store other ≡ image_of old.store other)
 
--- the base point is the anchor, and held records may go that are in their pages' images then
+-- the base point is the anchor, and stored records that their pages' new images contain may be dropped
 pub record RemovesFolded (old new : State) : Type 0 where
   pub book : new.book ≡ old.book
   pub base : HasAnchor old new.base
@@ -25,7 +25,7 @@ pub record RemovesFolded (old new : State) : Type 0 where
   pub kept : (r : RecordData) → Contains old.held r → Contains new.held r ⊎ IsInImage new r
   pub store : new.store ≡ old.store
 
--- held records may go that are dead
+-- dead stored records may be dropped
 pub record RemovesDead (old new : State) : Type 0 where
   pub book : new.book ≡ old.book
   pub held : (r : RecordData) → Contains new.held r → Contains old.held r

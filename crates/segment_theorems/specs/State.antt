@@ -6,7 +6,7 @@ use Rattle.redo_core.specs.Book.{BookData, book_of}
 pub use Rattle.redo_core.specs.Store.{StoredImage, Store, image_in}
 unfoldable pub use Rattle.redo_core.specs.Store.{version_of, image_of}
 
--- the book of truncations and advances, the held records, the base point and the images
+-- the book of truncations and advances, the stored records, the base point and the images
 pub record State : Type 0 where
   pub book : BookData
   pub held : List RecordData

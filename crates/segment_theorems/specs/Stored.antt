@@ -5,7 +5,7 @@ pub use Rattle.redo_core.specs.Store.{PageBefore, PutsImage}
 use Rattle.segment_theorems.specs.State.{State, StoredImage, version_of}
 use Rattle.segment_theorems.specs.Shedding.{CommitsImage}
 
--- An image that is put among the stored ones is committed.
+-- An image that is inserted among the stored ones is committed.
 abbrev pub PutCommits : Type 0
 PutCommits =
     (old new : State) (image : StoredImage)
