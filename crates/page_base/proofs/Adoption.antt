@@ -97,7 +97,7 @@ after_floor images floor base page is =
     (λ (none : (i : StoredImage) → Contains images i → i.page ≡ page → ⊥). after_none images floor base page is none)
     (some_or_none (λ (i : StoredImage). i.page ≡ page) (λ i. settled_eq i.page page) images)
 
--- where the images below the base go, and the floor rises to it, zeros are adopted
+-- where the images below the base are dropped, and the default version rises to it, zeros are adopted
 pub floor_adopts : (images new : List StoredImage) (floor base raised : ℕ) → IsBase images floor → new ≡ filter (is_new base) images
     → raised ≡ max floor base → Adopts (store_of images floor) base [] (store_of new raised)
 floor_adopts images new floor base raised is same top =

@@ -1,4 +1,4 @@
--- What a store shows after images were raised one after another.
+-- The images of a store after images were raised one after another.
 use Rattle.std.proofs.Common.{◌≡◌, ℕ, ◌<◌, ◌≤◌, ◌⊎◌, inl, inr, ⊎_elim, List, [], ◌∷◌, sym, ap, ◌∙◌, subst, arith, max, rules}
 use Rattle.std.specs.List.{Contains}
 use Rattle.redo_core.proofs.Members.{none_in, here, there, which}
@@ -89,7 +89,7 @@ raised_by (x ∷ xs) old new raises =
           (rest.listed i h);
     }
 
--- then zeros take the place of what is below the floor
+-- then zeros replace what is below the default version
 merged_page : (floor : ℕ) (given : List StoredImage) (old between new : Store) (page : ℕ) → RaisedBy old given between → Adopts between floor [] new
     → SamePage old new page ⊎ ((version_of old page < version_of new page) × (IsTaken given new page ⊎ IsFloored floor given new page))
 merged_page floor given old between new page raised adopts = search rules

@@ -1,4 +1,4 @@
--- An image that takes its place among images that rise by page.
+-- An image that is inserted among images that rise by page.
 use Rattle.std.proofs.Common.{◌≡◌, ◌≢◌, ℕ, zero, suc, ◌<◌, ◌≤◌, inl, inr, ⊎_elim, List, [], ◌∷◌, length, get_or, set, take, drop, refl, sym, ap, ◌∙◌, subst, arith, true, false, nat_lt, rules}
 use Rattle.std.proofs.lemmas.Grind.{common_steps}
 use Rattle.std.specs.List.{Contains, AllByRecursion, insert}
@@ -26,7 +26,7 @@ pub split : (page : ℕ) (images : List StoredImage) (place : ℕ) → place ≤
     → IsPartitionPoint (λ (i : StoredImage). nat_lt i.page page ≡ true) (λ i. nat_lt i.page page ≡ false) images place → SplitsAt page images place
 split page images place le point = grind (arith, common_steps)
 
--- no image is of a page where the one at the page's place is of another
+-- no image is of a page where the one at the page's index is of another
 pub gap_before : (page : ℕ) (images : List StoredImage) (place : ℕ) (x : StoredImage) → IsRising PageBefore images → SplitsAt page images place
     → place < length images → x ≡ get_or images place x → (x.page ≡ page → ⊥) → IsInsertionPoint page images place
 gap_before page images place x rising s l e other = record {
@@ -63,7 +63,7 @@ put_in_gap images place x rising gap = record {
         (λ (q : Contains (drop place images) i). let lt : x.page < i.page = gap.above i q in omega arith)
         (side place images i h)
 
--- an image put over its page's
+-- an image that replaces its page's
 set_over : (images : List StoredImage) (place : ℕ) (x : StoredImage) → IsRising PageBefore images → place < length images
     → ((i : StoredImage) → i ≡ get_or images place i → i.page ≡ x.page) → PutsImage images x (set images place x)
 set_over [] place x rising l own = absurd (omega (arith, l))

@@ -1,4 +1,4 @@
--- What a store shows of a page, from where the page's image stands, and after an image is put.
+-- The version and image of a page in a store, by the index of the page's image, and after an image is put.
 use Rattle.std.proofs.Common.{◌≡◌, ◌≢◌, ℕ, ◌<◌, ◌≤◌, inl, ⊎_elim, List, get_or, set, take, drop, refl, sym, ap, subst, arith, Ok, Err, rules}
 use Rattle.std.specs.List.{Contains, insert}
 use Rattle.redo_core.specs.Order.{IsRising}
@@ -27,7 +27,7 @@ at_gap images floor page place rising gap =
     (λ (q : Contains (drop place images) i). let lt : page < i.page = gap.above i q in omega arith)
     (side place images i h))
 
--- an image put at the place that was found for it
+-- an image put at the index that was found for it
 pub put_at : (from images : List StoredImage) (page place : ℕ) (x : StoredImage) → from ≡ images → page ≡ x.page → IsRising PageBefore images
     → IsPlace page from (Ok place) → PutsImage images x (set images place x)
 put_at from images page place x same own rising at = search (rules, put_over)
@@ -61,7 +61,7 @@ put_raises old new floor page version image rising put above = record {
     own : (version_of (store_of new floor) page ≡ version) × (image_of (store_of new floor) page ≡ image)
     own = (stored_images (store_of new floor) put.rising).0 (stored page version image) ((put.members (stored page version image)).1 (inl refl))
 
--- no version is below the floor
+-- no version is below the default one
 pub above_floor : (images : List StoredImage) (floor page : ℕ) → IsBase images floor → floor ≤ version_of (store_of images floor) page
 above_floor images floor page base =
     ⊎_elim

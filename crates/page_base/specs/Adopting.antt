@@ -30,7 +30,7 @@ StoresJust old base given new = (i : StoredImage) → Contains new.images i → 
 abbrev pub adopted : Store → ℕ → List (ℕ × List ℕ) → ℕ → List ℕ
 adopted store base given page = if nat_le base (version_of store page) then image_of store page else first_given given page
 
--- adopting the rest into the new store comes to what adopting all into the old one does
+-- adopting the rest into the new store has the result of adopting all into the old one
 pub record ComesTo (base : ℕ) (old : Store) (given : List (ℕ × List ℕ)) (new : Store) (rest : List (ℕ × List ℕ)) : Type 0 where
   pub versions : (page : ℕ) → max (version_of new page) base ≡ max (version_of old page) base
   pub images : (page : ℕ) → adopted new base rest page ≡ adopted old base given page
@@ -40,6 +40,6 @@ abbrev pub RaisesEachTo : ℕ → Store → List (ℕ × List ℕ) → Store →
 RaisesEachTo base old [] new = new ≡ old
 RaisesEachTo base old (g ∷ gs) new = (between : Store) × Raises old g.0 base g.1 between × RaisesEachTo base between gs new
 
--- raising the rest from the new store on comes to what raising all from the old one does
+-- raising the rest from the new store on has the result of raising all from the old one
 abbrev pub LeadsTo : ℕ → Store → List (ℕ × List ℕ) → Store → List (ℕ × List ℕ) → Type 0
 LeadsTo base old given new rest = (last : Store) → RaisesEachTo base new rest last → RaisesEachTo base old given last

@@ -1,4 +1,4 @@
--- How a store takes images of several versions, with a floor.
+-- How a store takes images of several versions, with a default version.
 use Rattle.std.specs.Prelude.{◌≡◌, ℕ, ◌<◌, ◌≤◌, ◌⊎◌, List, [], ◌∷◌, max}
 use Rattle.std.specs.List.{Contains}
 use Rattle.redo_core.specs.Writing.{zeros}
@@ -9,13 +9,13 @@ use Rattle.page_base.specs.Raising.{SamePage, Raises}
 abbrev pub IsTaken : List StoredImage → Store → ℕ → Type 0
 IsTaken given new page = (i : StoredImage) × Contains given i × (i.page ≡ page) × (version_of new page ≡ i.version) × (image_of new page ≡ i.bytes)
 
--- the page is zeros at the floor, and no image that was given for it has come so far
+-- the page is zeros at the default version, and no image has been given for it so far
 abbrev pub IsFloored : ℕ → List StoredImage → Store → ℕ → Type 0
 IsFloored floor given new page = ((i : StoredImage) → Contains given i → i.page ≡ page → i.version < floor) × (version_of new page ≡ floor)
     × (image_of new page ≡ zeros)
 
--- a page keeps what it had, or has an image that was given or zeros at the floor where that is of a higher version; no version is
--- below those given or the floor, and no other image is stored
+-- a page keeps what it had, or has an image that was given or zeros at the default version where that is a higher version; no version
+-- is below those given or the default version, and no other image is stored
 pub record Merges (old : Store) (floor : ℕ) (given : List StoredImage) (new : Store) : Type 0 where
   pub page : (page : ℕ)
       → SamePage old new page
@@ -31,6 +31,6 @@ abbrev pub RaisesEach : Store → List StoredImage → Store → Type 0
 RaisesEach old [] new = new ≡ old
 RaisesEach old (i ∷ is) new = (between : Store) × Raises old i.page i.version i.bytes between × RaisesEach between is new
 
--- raising the rest from the new store on comes to what raising all from the old one does
+-- raising the rest from the new store on has the result of raising all from the old one
 abbrev pub LeadsOn : Store → List StoredImage → Store → List StoredImage → Type 0
 LeadsOn old given new rest = (last : Store) → RaisesEach new rest last → RaisesEach old given last

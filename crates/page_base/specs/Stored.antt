@@ -11,7 +11,7 @@ stored page version bytes = record { page = page; version = version; bytes = byt
 abbrev pub store_of : List StoredImage → ℕ → Store
 store_of images floor = record { images = images; floor = floor }
 
--- the images rise by page, and none is of a version below the floor
+-- the images rise by page, and none is of a version below the default one
 pub record IsBase (images : List StoredImage) (floor : ℕ) : Type 0 where
   pub rising : IsRising PageBefore images
   pub high : (i : StoredImage) → Contains images i → floor ≤ i.version
@@ -19,7 +19,7 @@ pub record IsBase (images : List StoredImage) (floor : ℕ) : Type 0 where
 abbrev pub IsStored : Store → Type 0
 IsStored store = IsBase store.images store.floor
 
--- the image that a page has in a store, or none where it is zeros at the floor
+-- the image that a page has in a store, or none where it is zeros at the default version
 abbrev pub IsStoredImage : Store → ℕ → Option StoredImage → Type 0
 IsStoredImage store page None = (version_of store page ≡ store.floor) × (image_of store page ≡ zeros)
 IsStoredImage store page (Some i) = Contains store.images i × (i.page ≡ page) × (version_of store page ≡ i.version) × (image_of store page ≡ i.bytes)

@@ -23,7 +23,7 @@ fn raise_each(images: &mut Vec<BaseImage>, floor: u64, base: u64, pages: Vec<(u1
     }
 }
 
-// Lets the images below the base go, and answers the floor that stands for them.
+/// Drops the images below the base, and returns the default version that replaces theirs.
 pub fn raise_floor(images: &mut Vec<BaseImage>, floor: u64, base: u64) -> u64
     requires { IsBase images.old.items floor }
     ensures adopts { Adopts (store_of images.old.items floor) base [] (store_of images.new.items result) }
@@ -38,7 +38,7 @@ pub fn raise_floor(images: &mut Vec<BaseImage>, floor: u64, base: u64) -> u64
     floor.max(base)
 }
 
-// Adopts the pages given at the base, and answers the new floor.
+/// Adopts the pages given at the base, and returns the new default version.
 pub fn adopt(
     images: &mut Vec<BaseImage>,
     floor: u64,

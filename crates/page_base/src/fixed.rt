@@ -1,6 +1,6 @@
-//! What the contracts fix, so that no other body meets them: what is lent is the page's own, what is taken in shows one way, and
-//! nothing else is stored.
-//! Each function states its law and is called by nobody.
+//! What the contracts determine, so that no other body meets them: a borrowed image is the page's own, a stored one reads in one way,
+//! and nothing else is stored.
+//! Each function states a theorem and is called by nobody.
 
 ghost use Rattle.std.specs.Prelude.{◌≡◌, ℕ, [], IfSome, IsTrue};
 ghost use Rattle.redo_core.specs.Store.{version_of, image_of};
@@ -15,7 +15,7 @@ fn image_is_lent_one_way(store: &BaseStore, page: u16) -> Option<(&BaseImage, &B
     Some((store.stored_image(page)?, store.stored_image(page)?))
 }
 
-// Whether both stores took the image in.
+// Whether both stores took the image.
 fn image_is_raised_one_way(
     one: &mut BaseStore,
     other: &mut BaseStore,
@@ -34,7 +34,7 @@ fn image_is_raised_one_way(
     first && second
 }
 
-// Whether both stores took the pages in.
+// Whether both stores took the pages.
 fn pages_are_adopted_one_way(
     one: &mut BaseStore,
     other: &mut BaseStore,
@@ -53,7 +53,7 @@ fn pages_are_adopted_one_way(
     first && second
 }
 
-// Whether both stores took the images in.
+// Whether both stores took the images.
 fn floor_is_merged_one_way(
     one: &mut BaseStore,
     other: &mut BaseStore,
@@ -69,7 +69,7 @@ fn floor_is_merged_one_way(
     first && second
 }
 
-// Whether a store of no images took in pages, of which there are none.
+// Whether a store without images took an empty list of pages.
 fn no_page_is_adopted_of_none(
     store: &mut BaseStore,
     base: u64,
@@ -82,7 +82,7 @@ fn no_page_is_adopted_of_none(
     store.adopt(base, pages).is_ok()
 }
 
-// Whether a store of no images took in images, of which there are none.
+// Whether a store without images took an empty list of images.
 fn no_image_is_merged_of_none(store: &mut BaseStore, floor: u64, images: Vec<BaseImage>) -> bool
     requires store { store.old.images ≡ [] }
     requires images { images.items ≡ [] }

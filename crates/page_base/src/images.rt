@@ -5,7 +5,7 @@ use redo_core::SharedPage;
 use std::alloc::AllocError;
 use std::marker::Model;
 
-/// An image of a page, and the point of the log that it shows.
+/// An image of a page, and its version: the LSN whose state it is.
 #[derive(Drop)]
 pub struct BaseImage {
     page: u16,
@@ -23,7 +23,7 @@ impl Model for BaseImage {
 }
 
 impl BaseImage {
-    /// The image of a page at a version, which is a number of the log or 0.
+    /// The image of a page at a version, which is an LSN or 0.
     pub fn new(page: u16, version: u64, image: SharedPage) -> Self
         ensures { result ≡ stored page version image }
     {
@@ -34,19 +34,21 @@ impl BaseImage {
         }
     }
 
+    /// The number of the page.
     pub fn page(&self) -> u16
         ensures { result ≡ self.now.page }
     {
         self.page
     }
 
-    /// The point of the log that the image shows, a log sequence number or 0.
+    /// The version of the image, an LSN or 0.
     pub fn version(&self) -> u64
         ensures { result ≡ self.now.version }
     {
         self.version
     }
 
+    /// The page, borrowed.
     pub fn image(&self) -> &SharedPage
         ensures { result.now ≡ self.now.bytes }
     {
@@ -60,7 +62,7 @@ impl BaseImage {
         self.image
     }
 
-    /// An equal image, which shares the page. It takes no memory; the error comes where no more owners of the page can be counted.
+    /// An equal image, which shares the page. It allocates nothing; the error means that the count of the page's owners would overflow.
     pub fn copy(&self) -> Result<Self, AllocError>
         ensures { IfOk result (λ i. i ≡ self.now) }
     {

@@ -1,9 +1,9 @@
-//! The base images of a segment's pages: for each page an image, and the point of the log that it shows.
+//! The base images of a segment's pages: for each page an image, and its version, the LSN whose state it is.
 //!
-//! A page that is stored does not change: what copies a store, or takes an image out of it, shares the page.
-//! A page that was never raised is zeros at version 0, or at the greatest base adopted or floor taken over. Versions only rise: a
-//! raise replaces an older image, an adoption brings every page to the base at least, and a merge takes in what is newer. Each error is lack of memory, hands back what was
-//! given, and leaves the images as they were.
+//! A stored page is immutable: a copy of a store, or of one of its images, shares the page.
+//! A page that was never raised is zeros at version 0, or at the greatest base or default version taken from elsewhere. Versions only
+//! rise: a raise replaces an older image, an adoption brings every page at least to the base, and a merge takes what is newer. Each
+//! error is an allocation failure; it returns what was given and leaves the images unchanged.
 #![tactic(auto)]
 
 mod adopting;

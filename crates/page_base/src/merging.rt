@@ -25,7 +25,7 @@ fn raise_all(images: &mut Vec<BaseImage>, floor: u64, given: Vec<BaseImage>)
     }
 }
 
-// Takes in the images given and a floor, and answers the new floor.
+/// Merges the images given and a default version, and returns the new default version.
 pub fn merge(
     images: &mut Vec<BaseImage>,
     own: u64,

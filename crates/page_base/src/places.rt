@@ -1,4 +1,4 @@
-// Images that rise by page: where one stands, and how one changes.
+// Images that rise by page: the index of one, and how one changes.
 ghost use Rattle.std.specs.Prelude.{◌≡◌, ℕ, ◌+◌, ◌<◌, ◌≤◌, nat_lt, vec_len, vec_capacity, IsOk, IfOk, OnOk, IfErr, OnErr};
 ghost use Rattle.std.specs.Option.{option_copied};
 ghost use Rattle.redo_core.specs.Order.{IsRising};
@@ -11,7 +11,7 @@ use crate::images::BaseImage;
 use redo_core::{Page, Refused, SharedPage};
 use std::alloc::{AllocError, Global};
 
-// How many images are of pages below.
+// How many images are of lower pages.
 fn split_at(images: &[BaseImage], page: u16) -> usize
     requires { IsRising PageBefore images.now }
     ensures { SplitsAt page images.now result }
@@ -23,7 +23,7 @@ fn split_at(images: &[BaseImage], page: u16) -> usize
     )
 }
 
-// The place of a page's image, or where it would stand.
+/// The index of a page's image, or where it would be inserted.
 pub fn place_of(images: &[BaseImage], page: u16) -> Result<usize, usize>
     requires { IsRising PageBefore images.now }
     ensures { IsPlace page images.now result }
@@ -39,7 +39,7 @@ pub fn place_of(images: &[BaseImage], page: u16) -> Result<usize, usize>
     }
 }
 
-// The image of a page, whatever the floor.
+/// The stored image of a page, whatever the default version; None where it has none.
 pub fn stored_in(images: &[BaseImage], page: u16) -> Option<&BaseImage>
     requires { IsRising PageBefore images.now }
     ensures { (floor : ℕ) → IsStoredImage (store_of images.now floor) page (option_copied result) }
@@ -50,7 +50,7 @@ pub fn stored_in(images: &[BaseImage], page: u16) -> Option<&BaseImage>
     }
 }
 
-// The version of a page.
+/// The version of a page: that of its image, or the default version `floor`.
 pub fn version_in(images: &[BaseImage], floor: u64, page: u16) -> u64
     requires { IsRising PageBefore images.now }
     ensures { result ≡ version_of (store_of images.now floor) page }
@@ -61,7 +61,7 @@ pub fn version_in(images: &[BaseImage], floor: u64, page: u16) -> u64
     }
 }
 
-// A copy of the image of a page.
+/// A copy of the image of a page, or zeros. The only error is an allocation failure.
 pub fn image_in(
     images: &[BaseImage],
     floor: u64,
@@ -77,7 +77,7 @@ pub fn image_in(
     }
 }
 
-// Puts an image in its page's place; with room for one more it cannot fail.
+// Inserts or replaces the image of a page; with room for one more it cannot fail.
 fn put(images: &mut Vec<BaseImage>, image: BaseImage) -> Result<(), Refused<BaseImage, AllocError>>
     requires { IsRising PageBefore images.old.items }
     ensures puts { OnOk result (PutsImage images.old.items image images.new.items) }
@@ -101,7 +101,7 @@ fn put(images: &mut Vec<BaseImage>, image: BaseImage) -> Result<(), Refused<Base
     }
 }
 
-// Raises the image of a page; with room for one more it cannot fail.
+/// Raises the image of a page; with room for one more it cannot fail.
 pub fn raise(
     images: &mut Vec<BaseImage>,
     floor: u64,
@@ -129,7 +129,7 @@ pub fn raise(
     }
 }
 
-// Raises the image of a page to one that is not shared yet.
+/// Raises the image of a page to one that is not shared yet. The only error is an allocation failure; it returns the page.
 pub fn raise_page(
     images: &mut Vec<BaseImage>,
     floor: u64,
@@ -146,7 +146,7 @@ pub fn raise_page(
     if version <= version_in(images, floor, page) {
         return Ok(());
     }
-    // The room first: a page that is shared cannot be handed back as one that is not.
+    // Reserves first: a page that is shared cannot be returned as one that is not.
     if images.reserve(1).is_err() {
         return Err(Refused {
             value: image,

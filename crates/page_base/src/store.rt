@@ -12,7 +12,7 @@ use redo_core::{Page, Refused, SharedPage};
 use std::alloc::{AllocError, Global};
 use std::marker::Model;
 
-/// The base images of pages, rising by page. A page without one is zeros at the floor, and no image is of a version below that.
+/// The base images of pages, rising by page. A page without one is zeros at the default version, and no image is of a lower version.
 #[derive(Drop)]
 pub struct BaseStore {
     alloc: Global,
@@ -43,7 +43,7 @@ impl BaseStore {
         }
     }
 
-    /// An equal store, which shares the pages. It fails only if memory runs out.
+    /// An equal store, which shares the pages. The only error is an allocation failure.
     pub fn copy(&self) -> Result<Self, AllocError>
         ensures { IfOk result (λ s. s ≡ self.now) }
     {
@@ -66,28 +66,28 @@ impl BaseStore {
         &self.images
     }
 
-    /// The version of a page: that of its image, or the greatest base adopted or floor taken over, or 0.
+    /// The version of a page: that of its image, or the greatest base or default version taken from elsewhere, or 0.
     pub fn version(&self, page: u16) -> u64
         ensures { result ≡ version_of self.now page }
     {
         places::version_in(&self.images, self.floor, page)
     }
 
-    /// The version of the pages that have no image: the greatest floor taken over, or 0.
+    /// The default version, of the pages that have no image: the greatest base or default version taken from elsewhere, or 0.
     pub fn floor(&self) -> u64
         ensures { result ≡ self.now.floor }
     {
         self.floor
     }
 
-    /// A copy of the image of a page, or zeros. It fails only if memory runs out.
+    /// A copy of the image of a page, or zeros. The only error is an allocation failure.
     pub fn image(&self, page: u16) -> Result<Page, AllocError>
         ensures { IfOk result (λ image. image ≡ image_of self.now page) }
     {
         places::image_in(&self.images, self.floor, self.alloc, page)
     }
 
-    /// The stored image of a page, lent; None where the page has none, and so is zeros at the floor.
+    /// The stored image of a page, borrowed; None where the page has none, and so is zeros at the default version.
     pub fn stored_image(&self, page: u16) -> Option<&BaseImage>
         ensures { IsStoredImage self.now page (option_copied result) }
     {
@@ -95,7 +95,7 @@ impl BaseStore {
     }
 
     /// Gives a page an image of a version above the page's own; one of any other version changes nothing.
-    /// The error is lack of memory; it hands the image back and leaves the store as it was.
+    /// The error is an allocation failure; it returns the image and leaves the store unchanged.
     pub fn raise(
         &mut self,
         page: u16,
@@ -111,7 +111,7 @@ impl BaseStore {
     }
 
     /// Brings each page of a version below `base` to it, with the first image given of that page, or zeros where none is.
-    /// The error is lack of memory; it hands the pages back and leaves the store as it was.
+    /// The error is an allocation failure; it returns the pages and leaves the store unchanged.
     pub fn adopt(
         &mut self,
         base: u64,
@@ -132,8 +132,8 @@ impl BaseStore {
         }
     }
 
-    /// Raises each page given, in order, and then each page of a version below the floor to it, as zeros.
-    /// The error is lack of memory; it hands the images back and leaves the store as it was.
+    /// Raises each page given, in order, and then each page of a version below the default one `floor` to it, as zeros.
+    /// The error is an allocation failure; it returns the images and leaves the store unchanged.
     pub fn merge(
         &mut self,
         floor: u64,
