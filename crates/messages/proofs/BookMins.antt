@@ -1,4 +1,4 @@
--- The minimum read point of a book is a number of the log.
+-- The minimum read point of a book is at most the greatest LSN.
 use Rattle.std.proofs.Common.{ℕ, ◌≤◌, List, [], ◌∷◌, length, refl, arith}
 use Rattle.std.specs.List.{AllByRecursion}
 use Rattle.std.proofs.lemmas.List.Elements.{recursion_from_All}

@@ -1,4 +1,4 @@
--- Books of messages: what is read off their points.
+-- Books of messages: what follows from their points.
 use Rattle.std.specs.Prelude.{ℕ, Bool, nat_lt}
 use Rattle.redo_core.specs.Book.{BookData, roster_of}
 use Rattle.redo_core.specs.Roster.{least}

@@ -1,4 +1,4 @@
--- Deltas: which there are.
+-- The invariant of deltas.
 use Rattle.std.specs.Prelude.{◌≡◌, ◌≢◌, ℕ, ◌≤◌, List, []}
 use Rattle.std.specs.List.{AllByRecursion}
 use Rattle.redo_core.specs.Book.{BookData, IsBook}

@@ -1,4 +1,4 @@
--- Pieces: which there are. A segment is frozen into pieces under one name: first its head, then its pages and its records.
+-- The invariant of pieces. A segment is frozen into pieces under one name: first its head, then its pages and its records.
 use Rattle.std.specs.Prelude.{◌≡◌, ◌≢◌, ℕ, ◌<◌, ◌≤◌, Bool, true, false, length, ◌==◌}
 use Rattle.redo_core.specs.Book.{IsBook}
 use Rattle.redo_core.specs.Order.{IsRising, RecordBefore}
@@ -7,7 +7,7 @@ use Rattle.messages.specs.declared.pieces.PieceContent.{PieceContent}
 use Rattle.messages.specs.declared.pieces.PieceContent.TheVariants.{Head, Page, Records}
 use Rattle.messages.specs.Books.{book_min}
 
--- the name of the whole, which piece of how many it is, and what it brings
+-- the name of the whole, the index of the piece and how many there are, and its content
 pub record PieceData : Type 0 where
   pub name : ℕ
   pub index : ℕ

@@ -1,4 +1,4 @@
--- Summaries: which there are.
+-- The invariant of summaries.
 use Rattle.std.specs.Prelude.{ℕ, ◌≤◌, List}
 use Rattle.std.specs.List.{AllByRecursion}
 use Rattle.redo_core.specs.Book.{BookData, IsBook}

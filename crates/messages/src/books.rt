@@ -40,6 +40,7 @@ impl Book {
         }
     }
 
+    /// The truncations, rising by epoch.
     pub fn cuts(&self) -> &[Cut]
         ensures cuts { result.now ≡ self.now.cuts }
         ensures shape { IsBook self.now }
@@ -47,7 +48,7 @@ impl Book {
         &self.cuts
     }
 
-    /// The complete epoch: the last one up to which every truncation is there.
+    /// The complete epoch: the last one up to which every truncation is known.
     pub fn complete(&self) -> u16
         ensures complete { result ≡ self.now.complete }
         ensures shape { IsBook self.now }
@@ -71,6 +72,7 @@ impl Book {
         self.points.least()
     }
 
+    /// The waiting advances, rising by epoch, reader and point.
     pub fn waits(&self) -> &[Advance]
         ensures waits { result.now ≡ self.now.waits }
         ensures shape { IsBook self.now }
@@ -78,7 +80,7 @@ impl Book {
         &self.waits
     }
 
-    /// An equal book with memory of its own. It fails only if memory runs out.
+    /// An equal book with memory of its own. The only error is an allocation failure.
     pub fn copy(&self) -> Result<Self, AllocError>
         ensures { IfOk result (λ b. b ≡ self.now) }
     {
@@ -90,7 +92,7 @@ impl Book {
         })
     }
 
-    /// The book, lent.
+    /// The book, borrowed.
     pub fn lend(&self) -> BookRef<'_>
         ensures { result ≡ self.now }
     {
@@ -118,7 +120,7 @@ impl Book {
     }
 }
 
-/// A book that is lent: that of a message, or what a segment tells of its own.
+/// A borrowed book: that of a message, or the one that a segment exports.
 #[derive(Drop)]
 pub struct BookRef<'a> {
     cuts: &'a [Cut],
@@ -156,6 +158,7 @@ impl<'a> BookRef<'a> {
         }
     }
 
+    /// The truncations, rising by epoch.
     pub fn cuts(&self) -> &'a [Cut]
         ensures cuts { result.now ≡ self.now.cuts }
         ensures shape { IsBook self.now }
@@ -163,7 +166,7 @@ impl<'a> BookRef<'a> {
         self.cuts
     }
 
-    /// The complete epoch: the last one up to which every truncation is there.
+    /// The complete epoch: the last one up to which every truncation is known.
     pub fn complete(&self) -> u16
         ensures complete { result ≡ self.now.complete }
         ensures shape { IsBook self.now }
@@ -179,6 +182,7 @@ impl<'a> BookRef<'a> {
         self.points
     }
 
+    /// The waiting advances, rising by epoch, reader and point.
     pub fn waits(&self) -> &'a [Advance]
         ensures waits { result.now ≡ self.now.waits }
         ensures shape { IsBook self.now }
@@ -186,7 +190,7 @@ impl<'a> BookRef<'a> {
         self.waits
     }
 
-    /// An equal book with memory of its own. It fails only if memory runs out.
+    /// An equal book with memory of its own. The only error is an allocation failure.
     pub fn to_book(&self, alloc: Global) -> Result<Book, AllocError>
         ensures { IfOk result (λ b. b ≡ self.now) }
     {

@@ -8,7 +8,7 @@ use std::alloc::AllocError;
 use std::marker::Model;
 
 /// What one segment sends to another: its book, a base point up to the minimum read point with the pages there, none of
-/// zeros, by number, and records by epoch and number. At base 0 there are no pages.
+/// zeros, by page number, and records by epoch and LSN. At base 0 there are no pages.
 #[derive(Drop)]
 pub struct Delta {
     book: Book,
@@ -41,6 +41,7 @@ impl Delta {
         }
     }
 
+    /// The book of the sender.
     pub fn book(&self) -> &Book
         ensures book { result.now ≡ self.now.book }
         ensures shape { IsDelta self.now }
@@ -56,6 +57,7 @@ impl Delta {
         self.base
     }
 
+    /// The pages at the base point, rising by page number; a page that is missing is zeros.
     pub fn pages(&self) -> &[PageImage]
         ensures pages { result.now ≡ self.now.pages }
         ensures shape { IsDelta self.now }
@@ -63,6 +65,7 @@ impl Delta {
         &self.pages
     }
 
+    /// The records, rising by epoch and LSN.
     pub fn records(&self) -> &[Record]
         ensures records { result.now ≡ self.now.records }
         ensures shape { IsDelta self.now }
@@ -70,14 +73,14 @@ impl Delta {
         &self.records
     }
 
-    /// It does nothing. It is called for what it ensures: a delta has the form of one.
+    /// Does nothing. Callers use its contract: a delta satisfies the invariant of deltas.
     pub fn opens_form(&self)
         ensures form { IsDelta self.now }
     {
         let _base = self.base;
     }
 
-    /// An equal delta, which shares the pages. It fails only if memory runs out.
+    /// An equal delta, which shares the pages. The only error is an allocation failure.
     pub fn copy(&self) -> Result<Self, AllocError>
         ensures { IfOk result (λ d. d ≡ self.now) }
     {

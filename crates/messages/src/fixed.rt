@@ -1,5 +1,5 @@
-//! What the contracts fix, so that no other body meets them: a value is told by its parts, and in one way. Each function states its law
-//! and is called by nobody.
+//! What the contracts determine, so that no other body meets them: a value by its parts, and in one way. Each function states a
+//! theorem and is called by nobody.
 
 ghost use Rattle.std.specs.Prelude.{◌≡◌, IfOk};
 

@@ -29,12 +29,14 @@ impl PageImage {
         PageImage { number, page }
     }
 
+    /// The number of the page.
     pub fn number(&self) -> u16
         ensures { result ≡ self.now.page }
     {
         self.number
     }
 
+    /// The page, borrowed.
     pub fn page(&self) -> &Page
         ensures { result.now ≡ self.now.bytes }
     {
@@ -48,14 +50,14 @@ impl PageImage {
         &self.page
     }
 
-    /// The page, without taking memory.
+    /// The page, moved out without allocation.
     pub fn into_page(self) -> SharedPage
         ensures { result ≡ self.bytes }
     {
         self.page
     }
 
-    /// An equal image, which shares the page. It takes no memory; the error comes where no more owners of the page can be counted.
+    /// An equal image, which shares the page. It allocates nothing; the error means that the count of the page's owners would overflow.
     pub fn copy(&self) -> Result<Self, AllocError>
         ensures { IfOk result (λ p. p ≡ self.now) }
     {

@@ -1,7 +1,7 @@
-//! The values of messages: the summary that a segment tells of itself, the delta that answers it, and the pieces of a snapshot.
+//! The values of messages: the summary that a segment sends of itself, the delta that answers it, and the pieces of a snapshot.
 //!
-//! Each value keeps its rules from its construction on: `new` requires them, each getter tells them, and `specs/` has them, a file for
-//! each kind. A value has no bytes here.
+//! Each value satisfies its invariant from its construction on: `new` requires it, each getter ensures it, and `specs/` defines it,
+//! a file for each kind. A value has no encoding here.
 #![tactic(auto)]
 
 mod books;

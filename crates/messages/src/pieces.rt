@@ -6,10 +6,10 @@ use crate::images::PageImage;
 use redo_core::Record;
 use std::marker::Model;
 
-/// A piece has at most so many records.
+/// The most records of one piece.
 pub const MAX_BATCH: usize = 64;
 
-/// Records of one piece, by epoch and number.
+/// Records of one piece, by epoch and LSN.
 #[derive(Drop)]
 pub struct RecordBatch {
     records: Vec<Record>,
@@ -32,13 +32,14 @@ impl RecordBatch {
         RecordBatch { records }
     }
 
+    /// The records, rising by epoch and LSN.
     pub fn records(&self) -> &[Record]
         ensures { result.now ≡ self.now }
     {
         &self.records
     }
 
-    /// The records, without taking memory.
+    /// The records, moved out without allocation.
     pub fn into_records(self) -> Vec<Record>
         ensures { result.items ≡ self }
     {
@@ -46,7 +47,7 @@ impl RecordBatch {
     }
 }
 
-/// What a piece brings: the head with the book and the anchor, the image of a page, or records.
+/// What a piece contains: the head with the book and the anchor, the image of a page, or records.
 #[derive(Drop)]
 pub enum PieceContent {
     Head { book: Book, anchor: u64 },
@@ -54,8 +55,8 @@ pub enum PieceContent {
     Records(RecordBatch),
 }
 
-/// A piece of a snapshot: the name of the snapshot, which piece of how many it is, and what it brings. The head is piece 0, its
-/// anchor up to the minimum read point; a page is not all zeros; records are 1 to 64, by epoch and number.
+/// A piece of a snapshot: the name of the snapshot, the index of the piece and how many there are, and its content. The head is
+/// piece 0, its anchor up to the minimum read point; a page is not all zeros; records are 1 to 64, by epoch and LSN.
 #[derive(Drop)]
 pub struct Piece {
     name: u64,
@@ -88,6 +89,7 @@ impl Piece {
         }
     }
 
+    /// The name of the snapshot.
     pub fn name(&self) -> u64
         ensures name { result ≡ self.now.name }
         ensures shape { IsPiece self.now }
@@ -95,7 +97,7 @@ impl Piece {
         self.name
     }
 
-    /// From 0, for the head, to below the total.
+    /// The index of the piece: 0 for the head, and below the total.
     pub fn index(&self) -> u32
         ensures index { result ≡ self.now.index }
         ensures shape { IsPiece self.now }
@@ -111,6 +113,7 @@ impl Piece {
         self.total
     }
 
+    /// The content, borrowed.
     pub fn content(&self) -> &PieceContent
         ensures content { result.now ≡ self.now.content }
         ensures shape { IsPiece self.now }
@@ -118,14 +121,14 @@ impl Piece {
         &self.content
     }
 
-    /// It does nothing. It is called for what it ensures: a piece has the form of one.
+    /// Does nothing. Callers use its contract: a piece satisfies the invariant of pieces.
     pub fn opens_form(&self)
         ensures form { IsPiece self.now }
     {
         let _index = self.index;
     }
 
-    /// The content, without taking memory.
+    /// The content, moved out without allocation.
     pub fn into_content(self) -> PieceContent
         ensures content { result ≡ self.content }
         ensures shape { IsPiece self }

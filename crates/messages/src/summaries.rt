@@ -6,8 +6,8 @@ use redo_core::Key;
 use std::alloc::AllocError;
 use std::marker::Model;
 
-/// What one segment tells another of itself: its book, its anchor up to the minimum read point, and the keys of the records
-/// that it keeps, by epoch and number, each number from 1 to 2^48 - 1.
+/// What one segment sends another of itself: its book, its anchor up to the minimum read point, and the keys of the records
+/// that it keeps, by epoch and LSN, each LSN from 1 to 2^48 - 1.
 #[derive(Drop)]
 pub struct Summary {
     book: Book,
@@ -34,6 +34,7 @@ impl Summary {
         Summary { book, anchor, keys }
     }
 
+    /// The book of the sender.
     pub fn book(&self) -> &Book
         ensures book { result.now ≡ self.now.book }
         ensures shape { IsSummary self.now }
@@ -49,6 +50,7 @@ impl Summary {
         self.anchor
     }
 
+    /// The keys of the kept records, rising by epoch and LSN.
     pub fn keys(&self) -> &[Key]
         ensures keys { result.now ≡ self.now.keys }
         ensures shape { IsSummary self.now }
@@ -56,7 +58,7 @@ impl Summary {
         &self.keys
     }
 
-    /// An equal summary with memory of its own. It fails only if memory runs out.
+    /// An equal summary with memory of its own. The only error is an allocation failure.
     pub fn copy(&self) -> Result<Self, AllocError>
         ensures { IfOk result (λ s. s ≡ self.now) }
     {
