@@ -1,4 +1,4 @@
--- No definition: the proof that the log of a drill is sound, which the law of its name cites. A law's proof has to stand in specs/.
+-- No definition: the proof that the log of a drill is sound, which the law of its name cites. A law's proof must be in specs/.
 pub mod ByPlace
 pub mod Remainders
 pub mod Shapes

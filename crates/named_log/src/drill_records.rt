@@ -7,7 +7,7 @@ ghost use Rattle.named_log.specs.DrillLog.{drill_writes, record_of_epoch_0, reco
 use redo_core::{Fact, Write};
 use std::alloc::{AllocError, Global};
 
-/// The record of a number of epoch 0.
+/// The record of an LSN of epoch 0.
 pub(crate) fn first_epoch_record(alloc: Global, number: u64) -> Result<Fact, AllocError>
     requires { (1 ≤ number) × (number ≤ 1048576) }
     ensures { IfOk result (λ fact. fact ≡ Record (record_of_epoch_0 number)) }
@@ -40,7 +40,7 @@ pub(crate) fn second_epoch_record(alloc: Global, size: u64, j: u64) -> Result<Fa
     record(alloc, 1, number, back, page as u16, block_back)
 }
 
-// The greatest number up to h of a page, or 0.
+// The greatest LSN up to h of a page, or 0.
 fn last_number_of_page(h: u64, page: u64) -> u64
     ensures { result ≡ last_of_page h page }
 {
@@ -77,7 +77,7 @@ fn writes(alloc: Global, number: u64) -> Result<Vec<Write>, AllocError>
     Ok(writes)
 }
 
-// A write of the eight bytes of a number.
+// A write of the eight bytes of an LSN, the most significant first.
 fn number_at(alloc: Global, offset: u16, number: u64) -> Result<Write, AllocError>
     ensures { IfOk result (λ made. made ≡ record { offset = offset; bytes = to_be_bytes w64 number }) }
 {

@@ -1,4 +1,4 @@
-//! What the contracts fix, so that no other body meets them: the log of a drill is told in one way. Called by nobody.
+//! What the contracts determine, so that no other body meets them: the log of a drill, in one way. Called by nobody.
 
 ghost use Rattle.std.specs.Prelude.{◌≡◌, IfOk};
 

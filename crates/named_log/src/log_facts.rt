@@ -6,7 +6,7 @@ use redo_core::Fact;
 use std::alloc::{AllocError, Global};
 use std::marker::{Model, PhantomData};
 
-/// A fact of the log that `L` names, with its place in it.
+/// A fact of the log that `L` names, with its index (`place`) in it.
 #[derive(Drop)]
 pub struct LogFact<L: LogName> {
     place: u64,
@@ -26,7 +26,7 @@ impl<L: LogName> Model for LogFact<L> {
 }
 
 impl<L: LogName> LogFact<L> {
-    /// The fact of a place of the log, from 1, of which the caller knows that it stands there.
+    /// The fact at an index of the log, from 1, where the caller proves that it is there.
     pub fn new(place: u64, fact: Fact) -> LogFact<L>
         requires { fact_at L.log place ≡ Some fact }
         ensures { result ≡ record { place = place; fact = fact } }
@@ -38,7 +38,7 @@ impl<L: LogName> LogFact<L> {
         }
     }
 
-    /// The fact at a place of the log, from 1, or none outside it. It fails only if memory runs out.
+    /// The fact at an index of the log, from 1, or none outside it. The only error is an allocation failure.
     pub fn at(alloc: Global, place: u64) -> Result<Option<LogFact<L>>, AllocError>
         ensures value { IfOk result (λ found. found ≡ placed place (fact_at L.log place)) }
         ensures inside { IfOk result (λ found. IsSome found ↔ IsLogPlace L.log place) }
@@ -53,7 +53,7 @@ impl<L: LogName> LogFact<L> {
         }
     }
 
-    /// The place of the fact in its log, from 1.
+    /// The index of the fact in its log, from 1.
     pub fn place(&self) -> u64
         ensures value { result ≡ self.now.place }
         ensures stands { fact_at L.log result ≡ Some self.now.fact }
@@ -61,6 +61,7 @@ impl<L: LogName> LogFact<L> {
         self.place
     }
 
+    /// The fact, borrowed.
     pub fn fact(&self) -> &Fact
         ensures value { result.now ≡ self.now.fact }
         ensures stands { fact_at L.log self.now.place ≡ Some result.now }
@@ -68,7 +69,7 @@ impl<L: LogName> LogFact<L> {
         &self.fact
     }
 
-    /// The fact alone, taking no memory.
+    /// The fact alone, moved out without allocation.
     pub fn into_fact(self) -> Fact
         ensures value { result ≡ self.fact }
         ensures stands { fact_at L.log self.place ≡ Some result }

@@ -1,4 +1,4 @@
--- A list that a function gives by place.
+-- A list that a function gives by index.
 use Rattle.std.proofs.Common.{◌≡◌, ℕ, zero, suc, ◌+◌, ◌<◌, ◌≤◌, ◌⊎◌, ⊎_elim, map, refl, ap, subst, ◌∙◌, arith, le_refl, Some, None}
 use Rattle.std.specs.Prelude.{slice_get}
 use Rattle.std.specs.List.{Contains, range_with_len}

@@ -1,4 +1,4 @@
--- What stands in the log of a drill.
+-- What the log of a drill contains.
 use Rattle.std.proofs.Common.{◌≡◌, ℕ, ◌+◌, ◌-◌, ◌*◌, ◌<◌, ◌≤◌, ◌⊎◌, inl, inr, ⊎_elim, true, false, List, map, refl, sym, ap, subst, ◌∙◌, arith}
 use Rattle.std.specs.Prelude.{nat_le, ◌==◌}
 use Rattle.std.specs.List.{Contains, range_with_len}
@@ -38,7 +38,7 @@ fact_of_epoch_1 n j p l e =
     let w : p - (n + 2) ≡ j = omega (arith, e) in
     rw (t, u, v, w) refl
 
--- each place has one of four kinds
+-- each index has one of four kinds
 abbrev pub IsKindAt : ℕ → ℕ → Fact → Type 0
 IsKindAt n p f =
     ((1 ≤ p) × (p ≤ n) × (f ≡ Record (record_of_epoch_0 p)))
@@ -58,7 +58,7 @@ kind_of_place n p l u =
     (let t : (p ≡ n + 1) ⊎ (n + 1 < p) = grind arith in t)))
     (let t : (p ≤ n) ⊎ (n < p) = grind arith in t)
 
--- what the laws need to know of the log
+-- what the five laws depend on
 pub record IsDrillLog (n : ℕ) (log : List Fact) : Type 0 where
   pub least : 2 ≤ n
   pub most : n ≤ 1048576

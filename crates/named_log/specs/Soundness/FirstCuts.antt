@@ -1,4 +1,4 @@
--- The truncations that count, each the first of its epoch.
+-- The effective truncations, each the first of its epoch.
 use Rattle.std.proofs.Common.{◌≡◌, ⊎_elim, List, [], ◌∷◌, sym, subst, Bool, true, false, cond, not}
 use Rattle.std.specs.Prelude.{◌==◌}
 use Rattle.std.specs.List.{Contains, filter}
@@ -23,7 +23,7 @@ first_within (d ∷ ds) c h =
     (λ q. there d ds c (first_within ds c (filtered (λ x. not (x.epoch == d.epoch)) (first_cuts ds) c q)))
     (which d _ c h)
 
--- where there is a truncation, one counts
+-- where there is a truncation, one is effective
 pub some_counts : (cs : List CutData) (c : CutData) → Contains cs c → (d : CutData) × Contains (first_cuts cs) d × Contains cs d
 some_counts [] c h = absurd (none_in c h)
 some_counts (d ∷ ds) c h = (d, here d _, here d ds)

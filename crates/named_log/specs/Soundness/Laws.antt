@@ -1,4 +1,4 @@
--- The backlinks of a drill's records are the greatest numbers below them that are alive.
+-- The backlinks of a drill's records are the greatest LSNs below them that are alive.
 use Rattle.std.proofs.Common.{◌≡◌, ℕ, ◌+◌, ◌-◌, ◌/◌, ◌%◌, ◌<◌, ◌≤◌, ◌⊎◌, inl, inr, ⊎_elim, Bool, true, false, List, refl, sym, ap, subst, ◌∙◌, arith}
 use Rattle.std.specs.Prelude.{nat_lt, ◌==◌, if◌then◌else◌}
 use Rattle.std.specs.List.{Contains}
@@ -15,7 +15,7 @@ use Rattle.named_log.specs.Soundness.Contents.{IsDrillLog}
 pub opens_epoch_1 : (n : ℕ) (log : List Fact) → IsDrillLog n log → (c : CutData) → Contains (counted log) c → c.epoch ≡ 1
 opens_epoch_1 n log d c h = sym (ap (λ (x : CutData). x.epoch) (d.each_counted c h))
 
--- which numbers are alive
+-- which LSNs are alive
 alive_in_epoch_0 : (n : ℕ) (log : List Fact) → IsDrillLog n log → (m : ℕ) → IsAlive (counted log) 0 0 m
 alive_in_epoch_0 n log d m = record {
   known = omega arith;
@@ -37,7 +37,7 @@ alive_in_epoch_1 n log d m lt = record {
   spared = λ c h l k. absurd (omega (arith, l, k));
 }
 
--- what stands below a record of epoch 0
+-- what is below a record of epoch 0
 below_of_epoch_0 : (n i : ℕ) (log : List Fact) (Only : RecordData → Type 0) (m : ℕ) → IsDrillLog n log → IsAliveBelow log (record_of_epoch_0 i) Only m
     → (1 ≤ m) × (m < i) × Only (record_of_epoch_0 m)
 below_of_epoch_0 n i log Only m d b =
@@ -119,7 +119,7 @@ back_of_epoch_1 n j log d l u =
     P : ℕ → Type 0
     P = IsAliveBelow log (record_of_epoch_1 n j) (λ s. Unit {0})
 
--- the block backlinks: the record of the page eight numbers before, or the last one up to the lo
+-- the block backlinks: the record of the page eight LSNs before, or the last one up to the lo
 pub block_back_of_epoch_0 : (n i : ℕ) (log : List Fact) → IsDrillLog n log → 1 ≤ i → i ≤ n
     → IsGreatest (IsAliveBelow log (record_of_epoch_0 i) (λ s. s.page ≡ i % 8)) (if nat_lt 8 i then i - 8 else 0)
 block_back_of_epoch_0 n i log d l u =

@@ -2,7 +2,7 @@
 use Rattle.std.proofs.Common.{◌≡◌, ℕ, ◌+◌, ◌-◌, ◌*◌, ◌/◌, ◌%◌, ◌<◌, ◌≤◌, sym, ap, ◌∙◌, arith}
 use Rattle.std.proofs.Math.Nat.{div-add-mod, add-mul-mod_self_right, mod-lt, mod-eq_of_lt}
 
--- two numbers of one page are 8 apart
+-- two LSNs of one page are a multiple of 8 apart
 pub same_remainder_apart : (m i : ℕ) → m < i → m % 8 ≡ i % 8 → m + 8 ≤ i
 same_remainder_apart m i lt e = let a = div-add-mod m 8 in let b = div-add-mod i 8 in omega (arith, a, b, e, lt)
 
@@ -16,7 +16,7 @@ remainder_at_most m = let a = div-add-mod m 8 in omega (arith, a)
 pub remainder_below : (m : ℕ) → m % 8 < 8
 remainder_below m = mod-lt m (omega arith)
 
--- the greatest number up to h of page r
+-- the greatest LSN up to h of page r
 pub last_has_page : (h r : ℕ) → r < 8 → r ≤ h → (h - (h - r) % 8) % 8 ≡ r
 last_has_page h r small l =
     let a = div-add-mod (h - r) 8 in

@@ -134,7 +134,7 @@ keeps n p place log f d h (inr (inl a)) = subst (KeepsLaws 1 log place) (sym a) 
 keeps n p place log f d h (inr (inr (inl a))) = subst (KeepsLaws 1 log place) (sym a) (keeps_cut n place log d (subst (Contains log) a h))
 keeps n p place log f d h (inr (inr (inr a))) = subst (KeepsLaws 1 log place) (sym a.3) (keeps_epoch_1 n a.0 place log d a.1 a.2 (subst (Contains log) a.3 h))
 
--- the fact that stands at a place
+-- the fact at an index
 among : (xs : List Fact) (k : ℕ) (f : Fact) → slice_get xs k ≡ Some f → Contains xs f
 among [] k f e = absurd cc
 among (x ∷ xs) zero f e = let q : x ≡ f = cc in subst (λ z. Contains (z ∷ xs) f) (sym q) (here f xs)
@@ -172,7 +172,7 @@ drill_sound n =
     (λ (yes : (2 ≤ n) × (n ≤ 1048576)). subst (IsSound 1) (sym (log_is n yes.0 yes.1)) (contents_sound n yes.0 yes.1))
     (let t : ((n < 2) ⊎ (1048576 < n)) ⊎ ((2 ≤ n) × (n ≤ 1048576)) = grind arith in t)
 
--- what `fact` answers
+-- what `fact` returns
 pub at_place : (n p : ℕ) → 2 ≤ n → n ≤ 1048576 → 1 ≤ p → p ≤ 2 * n + 2 → fact_at (drill_log n) p ≡ Some (drill_fact n p)
 at_place n zero least most l u = absurd (omega (arith, l))
 at_place n (suc k) least most l u = ap (λ (xs : List Fact). slice_get xs k) (log_is n least most)
