@@ -1,4 +1,4 @@
--- With what else a fact breaks its law: what the searches know, and that what is told shows the law broken.
+-- The evidence of how a fact breaks its law: what the searches establish, and that the evidence implies the law is broken.
 use Rattle.std.proofs.Common.{◌≡◌, ◌≢◌, ℕ, ◌+◌, ◌<◌, ◌≤◌, inl, inr, ⊎_elim, List, length, get_or, take, refl, sym, ◌∙◌, subst, arith, Option, Some, None, true, rules}
 use Rattle.std.specs.Prelude.{slice_get, MatchOption, IfOk, IfSome, IsSome, Result, Ok, Err, ⊤}
 use Rattle.std.specs.List.{Contains}
@@ -101,7 +101,7 @@ no_cut_below roster log table lows a p t least l each c counts later past =
     (λ (above : a.point ≤ c.lo). above)
     (cases_lt c.lo a.point)
 
--- what is told shows that the law is broken
+-- the evidence implies that the law is broken
 key_shows : (log : List Fact) (place : ℕ) (fact : Fact) (b : Breach) → ReportsKey log (place + 1) fact b → Law1 (take place log) fact → ⊥
 key_shows log place fact (OtherFact p) h law =
     let w = h.1 in let at = w.1 in
@@ -166,7 +166,7 @@ shows_broken roster log place fact law b h k = search (rules, key_shows, begun_s
 pub tells_broken : ShowsBroken
 tells_broken roster log fault b place fact t e at k = search (rules, shows_broken)
 
--- what is told of a place is told of the fault
+-- what is reported of an index is reported of the fault
 abbrev pub AnswersAt : ℕ → List Fact → ℕ → Law → Option Breach → Fact → Type 0
 AnswersAt roster log place law found fact = MatchOption found (KeepsLaw roster log place fact law) (ReportsOf roster log (place + 1) fact law)
 

@@ -1,4 +1,4 @@
--- What a backlink has to name: the bounds of what is alive, and the greatest number among the facts before a place.
+-- What a backlink should name: the bounds of what is alive, and the greatest LSN among the facts before an index.
 use Rattle.std.proofs.Common.{◌≡◌, ◌≢◌, ℕ, ◌+◌, ◌<◌, ◌≤◌, ◌↔◌, ◌⊎◌, inr, ⊎_elim, List, length, min, refl, sym, ap, ◌∙◌, subst, arith, Option, Some, None, rules}
 use Rattle.std.specs.Prelude.{slice_get, MatchOption}
 use Rattle.std.specs.List.{Contains}
@@ -18,14 +18,14 @@ use Rattle.log_law.proofs.Least.{same_redo}
 use Rattle.log_law.specs.Targets.{IsPlaced, IsBoundTo, IsTarget}
 use Rattle.log_law.specs.declared.targets.Target.{Target}
 
--- each fact before a place has P
+-- each fact before an index has P
 abbrev pub EachBefore : List Fact → (Fact → Type 0) → ℕ → Type 0
 EachBefore log P p = (q : ℕ) (f : Fact) → q < p → slice_get log q ≡ Some f → P f
 
 pub each_more : (log : List Fact) (P : Fact → Type 0) (p : ℕ) (f : Fact) → slice_get log p ≡ Some f → P f → EachBefore log P p → EachBefore log P (p + 1)
 each_more log P p f at here each q g l h = search rules
 
--- and so each member has, where the place is the end
+-- and so does each member, where the index is the end
 pub each_member : (log : List Fact) (P : Fact → Type 0) (p : ℕ) (f : Fact) → length log ≤ p → EachBefore log P p → Contains log f → P f
 each_member log P p f l each h = each h.0 f (let m : h.0 < length log = h.1 in omega arith) (place_of log f h.0 h.1 h.2)
 
@@ -70,7 +70,7 @@ alive_within log view epoch number bound known small b = (
   λ h. record { known = known; begun = h.1; spared = ((b number).0 h.0).1 },
 )
 
--- the fact is a record that the backlink may name, and its number is above this one
+-- the fact is a record that the backlink may name, and its LSN is above this one
 abbrev pub IsBetter : List Fact → RecordData → (RecordData → Type 0) → ℕ → Fact → Type 0
 IsBetter log r Only top f = (s : RecordData) × (f ≡ Record s) × IsAlive (counted log) r.epoch s.epoch s.number × Only s × (s.number < r.number)
     × (top < s.number)
@@ -78,7 +78,7 @@ IsBetter log r Only top f = (s : RecordData) × (f ≡ Record s) × IsAlive (cou
 abbrev pub IsNoBetter : List Fact → RecordData → (RecordData → Type 0) → ℕ → Fact → Type 0
 IsNoBetter log r Only top f = IsBetter log r Only top f → ⊥
 
--- the target is that of the facts before a place
+-- the target is that of the facts before an index
 pub record IsTargetTo (log : List Fact) (r : RecordData) (Only : RecordData → Type 0) (p : ℕ) (t : Target) : Type 0 where
   pub stands : (t.number ≡ 0) ⊎ ((s : IsAliveBelow log r Only t.number) × IsPlaced log t.place (Record s.other))
   pub each : EachBefore log (IsNoBetter log r Only t.number) p

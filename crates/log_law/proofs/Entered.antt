@@ -1,4 +1,4 @@
--- The stack holds what is alive: at the start, in the view of the next epoch, and with one more record.
+-- The stack has what is alive: at the start, in the view of the next epoch, and with one more record.
 use Rattle.std.proofs.lemmas.Grind.{common_steps}
 use Rattle.std.proofs.Common.{◌≡◌, ℕ, ◌+◌, ◌<◌, ◌≤◌, ⊎_elim, List, [], ◌∷◌, ◌++◌, sym, ap, ◌∙◌, subst, arith, Option, Some, None, rules}
 use Rattle.std.specs.List.{Contains}
@@ -130,7 +130,7 @@ same_but_view old new s e t = grind (arith, common_steps)
 pub none_of : (o : Option CutData) → ((c : CutData) → o ≡ Some c → ⊥) → o ≡ None
 none_of o h = search rules
 
--- numbers of a group are not below what went on the stack before
+-- LSNs of a group are not below what was pushed before
 pub top_or_below : (log : List Fact) (group : List Item) (s : AliveRecords) → CanPush log group s → (t u : Item) → Contains group t → Contains group u
     → (old new : List Entry) (beneath : ℕ) → new ≡ record { number = t.number; page = t.page; beneath = beneath } ∷ old
     → ((y : Entry) → Contains old y → y.number ≤ u.number) → (x : Entry) → Contains new x → x.number ≤ u.number

@@ -53,7 +53,7 @@ pub first_at_epoch : (e : ℕ) (cs : List CutData) (c : CutData) → first_at e 
 first_at_epoch e [] c h = absurd (none-some c h)
 first_at_epoch e (d ∷ ds) c h = epoch_at e d ds c (d.epoch == e) refl (first_at_epoch e ds c) h
 
--- the truncations that count are the first of their epochs
+-- the effective truncations are the first of their epochs
 counted_first : (cs : List CutData) (c : CutData) → Contains (first_cuts cs) c → first_at c.epoch cs ≡ Some c
 counted_first [] c h = absurd (none_in c h)
 counted_first (d ∷ ds) c h =
@@ -86,7 +86,7 @@ counted_at log e c h = search (rules, first_at_epoch, counted_is)
 pub at_counted : (log : List Fact) (e : ℕ) (c : CutData) → Contains (counted log) c → c.epoch ≡ e → first_cut log e ≡ Some c
 at_counted log e c h q = subst (λ k. first_cut log k ≡ Some c) q ((counted_is log c).0 h)
 
--- what counts is among the truncations
+-- the effective ones are among the truncations
 first_among_at : (e : ℕ) (d : CutData) (ds : List CutData) (c : CutData) (b : Bool) → (first_at e ds ≡ Some c → Contains ds c)
     → cond b (Some d) (first_at e ds) ≡ Some c → Contains (d ∷ ds) c
 first_among_at e d ds c b ih h = search (rules, there)

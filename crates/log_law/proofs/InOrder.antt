@@ -1,4 +1,4 @@
--- Records and items that stand in the order of their keys.
+-- Records and items in the order of their keys.
 use Rattle.std.proofs.lemmas.Grind.{common_steps}
 use Rattle.std.proofs.Common.{◌≡◌, ℕ, zero, suc, ◌+◌, ◌-◌, ◌<◌, ◌≤◌, ◌↔◌, ⊎_elim, List, [], ◌∷◌, length, get_or, take, refl, ap, arith, Option, Some, None, rules}
 use Rattle.std.specs.Prelude.{slice_get}
@@ -19,7 +19,7 @@ use Rattle.log_law.specs.declared.links.Item.{Item}
 use Rattle.log_law.proofs.Least.{zero_item}
 use Rattle.log_law.proofs.Repeats.{law1_none, law1_advance}
 
--- the items in the first places are in key order
+-- the items of the first facts are in key order
 abbrev pub AreInOrderTo : List Item → ℕ → Type 0
 AreInOrderTo items p = (i j : ℕ) (d : Item) → i ≤ j → j < p → j < length items → KeyAtMost (get_or items i d) (get_or items j d)
 
@@ -30,11 +30,11 @@ pub more_in_order : (items : List Item) (p : ℕ) → 1 ≤ p → p < length ite
     → AreInOrderTo items p → AreInOrderTo items (p + 1)
 more_in_order items p one inside next h i j d l m n = search (rules, get_or_default)
 
--- the record's key is above those of the records in the first places
+-- the record's key is above those of the records among the first facts
 abbrev pub IsAboveTo : List Fact → ℕ → RecordData → Type 0
 IsAboveTo log p s = (i : ℕ) (r : RecordData) → i < p → slice_get log i ≡ Some (Record r) → RecordBefore r s
 
--- the greatest key in the first places, if they have a record
+-- the greatest key among the first facts, if they have a record
 abbrev pub IsLastKey : List Fact → ℕ → Option Key → Type 0
 IsLastKey log p last = (s : RecordData) → HasKeyAbove s last ↔ IsAboveTo log p s
 

@@ -58,7 +58,7 @@ page_greatest P g [] r has all = (inl refl, λ m p. absurd (let w = all m p in n
 page_greatest P g (x ∷ xs) r has all =
     page_at P g x xs (x.page == g) refl r has all (page_greatest P g xs r.1 (λ y h. has y (there x xs y h)))
 
--- a group of one key among the items, of which the lower ones went before
+-- a group of one key among the items, whose lower ones were visited before
 pub record IsGroup (log : List Fact) (items past group : List Item) (s : AliveRecords) : Type 0 where
   pub ordered : (c : CutData) → Contains (cuts log) c → c.lo ≤ c.hi
   pub are : AreItems log items
@@ -134,7 +134,7 @@ stack_below log items past group s g t ht it Q x hx q =
           (g.apart t u ht w.1);
     }
 
--- the greatest numbers that laws 3 and 4 speak of are the tops
+-- the greatest LSNs that laws 3 and 4 speak of are the tops
 pub law3_top : (log : List Fact) (items past group : List Item) (s : AliveRecords) → IsGroup log items past group s → (t : Item) → Contains group t
     → (it : IsItem log t) → IsGreatest (IsAliveBelow log it.redo (λ o. Unit {0})) (top_number (stack_of s))
 law3_top log items past group s g t ht it =

@@ -23,7 +23,7 @@ use Rattle.log_law.specs.Counted.{first_cut, or_first}
 use Rattle.log_law.proofs.FirstCuts.{first_cut-append, counted_is, counted_at, counted_among}
 use Rattle.log_law.proofs.Repeats.{cut_eq}
 
--- places of a longer log
+-- indices of a longer log
 pub old_place : (log : List Fact) (f g : Fact) (p : ℕ) → p < length log → slice_get (log ++ f ∷ []) p ≡ Some g → slice_get log p ≡ Some g
 old_place log f g p l h =
     slice_get-get_or log p g l ∙ ap Some (sym (get_or_append_left log (f ∷ []) g p l) ∙ get_or_from_slice_get (log ++ f ∷ []) p g g h)
@@ -82,7 +82,7 @@ advance_longer log f a h = (advance_in (log ++ f ∷ []) a).1 (Contains-append_l
 pub advance_last : (log : List Fact) (a : AdvanceData) → Contains (advances (log ++ Advance a ∷ [])) a
 advance_last log a = (advance_in (log ++ Advance a ∷ []) a).1 (Contains-push log (Advance a))
 
--- the truncations that count in a longer log
+-- the effective truncations of a longer log
 pub counted_longer : (log : List Fact) (f : Fact) (c : CutData) → Contains (counted log) c → Contains (counted (log ++ f ∷ [])) c
 counted_longer log f c h =
     (counted_is (log ++ f ∷ []) c).1 (first_cut-append log (f ∷ []) c.epoch ∙ ap (λ o. or_first o (first_cut (f ∷ []) c.epoch)) ((counted_is log c).0 h))

@@ -1,4 +1,4 @@
--- How far the readers have come before each epoch, fact by fact and reader by reader.
+-- The readers' points before each epoch, fact by fact and reader by reader.
 use Rattle.std.proofs.Common.{◌≡◌, ◌≢◌, ℕ, ◌+◌, ◌-◌, ◌<◌, ◌≤◌, ◌⊎◌, ◌↔◌, inl, inr, ⊎_elim, List, [], length, get_or, take, min, max, refl, sym, ◌∙◌, subst, arith, rules}
 use Rattle.std.specs.List.{Contains}
 use Rattle.redo_core.specs.Data.{CutData, AdvanceData}
@@ -10,7 +10,7 @@ use Rattle.redo_core.proofs.FactParts.{advance_in}
 use Rattle.redo_core.proofs.Rising.{front_to, up_to, take_grows}
 use Rattle.log_law.specs.Lows.{HasAbove, AreTops, AreLeastPoints, AreSteps, IsStep, HasTopAbove}
 
--- the readers are past a truncation just where its lo is below the number at its epoch
+-- the readers are past a truncation exactly where its lo is below the least point at its epoch
 pub past_low : (roster : ℕ) (log : List Fact) (count : ℕ) (lows : List ℕ) (c : CutData) → AreLeastPoints roster log count lows → c.epoch < count
     → ArePast roster (advances log) c → c.lo < get_or lows c.epoch 0
 past_low roster log count lows c a small past =
@@ -60,7 +60,7 @@ lows_more roster facts count lows tops new a t len lower = record {
       );
 }
 
--- one place more is the greatest up to it
+-- the value at the next index becomes the greatest up to it
 pub record Risen (old cur : List ℕ) (i : ℕ) : Type 0 where
   pub done : (e n : ℕ) → e < i → (n < get_or cur e 0) ↔ HasTopAbove old e n
   pub rest : (e : ℕ) → i ≤ e → get_or cur e 0 ≡ get_or old e 0

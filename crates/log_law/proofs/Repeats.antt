@@ -23,7 +23,7 @@ use Rattle.log_law.specs.Keys.{KeepLaw1To, IsFirstKeyConflict, IsSeenAt, IsSeen,
 use Rattle.log_law.proofs.FirstCuts.{first_cut-append, first_at_epoch, first_among}
 use Rattle.log_law.proofs.Least.{same_redo}
 
--- the facts up to a place and the one at it
+-- the facts up to an index and the one at it
 pub taken : (log : List Fact) (p : ℕ) (f : Fact) → slice_get log p ≡ Some f → take (p + 1) log ≡ take p log ++ f ∷ []
 taken log p f at = take_more log p f (slice_get_within log p f at) ∙ ap (λ g. take p log ++ g ∷ []) (get_or_from_slice_get log p f f at)
 
@@ -62,7 +62,7 @@ pub law1_not : (log : List Fact) (p i : ℕ) (r : RecordData) → IsSeenAt log p
     → Law1 (take p log) (Record r) → ⊥
 law1_not log p i r h differ law = differ (h.2 ∙ ap Some (law (Record h.0) (in_taken log p i (Record h.0) h.1 h.2) (h.3, h.4)))
 
--- what is kept of a key, one place on
+-- the map's entry of a key, one index on
 pub seen_here : (log : List Fact) (p : ℕ) (r : RecordData) → slice_get log p ≡ Some (Record r) → Law1 (take p log) (Record r)
     → IsSeenAt log (p + 1) r.epoch r.number (Some p)
 seen_here log p r at law = (
@@ -95,7 +95,7 @@ seen_other log p f e n (Some i) at apart h = (
       (taken_cases log p f (Record s) at m),
 )
 
--- what is kept of every key, after the record's place went in at its own
+-- the map's entry of every key, after the record's index is stored under its own
 pub seen_more : (log : List Fact) (p : ℕ) (r : RecordData) (e n : ℕ) (old new : Option ℕ) → slice_get log p ≡ Some (Record r) → Law1 (take p log) (Record r)
     → (is_same_key (key_of r) (key_in e n) ≡ true → new ≡ Some p) → (is_same_key (key_of r) (key_in e n) ≡ false → new ≡ old) → IsSeenAt log p e n old
     → IsSeenAt log (p + 1) e n new
@@ -174,7 +174,7 @@ pub seen_past : (log : List Fact) (p : ℕ) (f : Fact) (seen : Seen) → slice_g
     → IsSeen log (p + 1) seen
 seen_past log p f seen at apart h e n = seen_other log p f e n (get is_same_key seen (key_in e n)) at (λ r q i j. apart r q) (h e n)
 
--- a place after those that keep law 1, whose fact breaks it
+-- an index after those that keep law 1, whose fact breaks it
 pub broken_at : (log : List Fact) (p : ℕ) (f : Fact) → slice_get log p ≡ Some f → KeepLaw1To log p → (Law1 (take p log) f → ⊥) → IsFirstKeyConflict log p
 broken_at log p f at kept broken = record { before = kept; breaks = λ g e law. broken (subst (Law1 (take p log)) (same_Some g f (sym e ∙ at)) law) }
 

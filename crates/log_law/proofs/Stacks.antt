@@ -1,4 +1,4 @@
--- What is left of a falling stack without the numbers above lo.
+-- What is left of a falling stack without the LSNs above lo.
 use Rattle.std.proofs.Common.{◌≡◌, ℕ, ◌≤◌, ⊎_elim, List, [], ◌∷◌, refl, subst, arith, Bool, true, false, cond, rules}
 use Rattle.std.specs.Prelude.{nat_lt}
 use Rattle.std.specs.List.{Contains}

@@ -1,4 +1,4 @@
--- From what is known at a place to the law that its fact breaks first, and from place to place.
+-- From what is known at an index to the law that its fact breaks first, and from index to index.
 use Rattle.std.proofs.Common.{◌≡◌, ◌≢◌, ℕ, ◌+◌, ◌<◌, ◌≤◌, ⊎_elim, List, length, take, refl, sym, ◌∙◌, subst, arith, Option, Some, None, true, false, rules}
 use Rattle.std.specs.Prelude.{slice_get, MatchOption, ◌==◌}
 use Rattle.std.proofs.lemmas.Bool.{cases_lt, cases_eq}
@@ -36,7 +36,7 @@ pub advance_not_kept : (roster : ℕ) (log : List Fact) (place : ℕ) (a : Advan
     → BreaksFirst roster log place (Advance a) AdvanceKept
 advance_not_kept roster log place a one five = (five, (one, (tt, (tt, (tt, tt)))))
 
--- what the law of a broken link at a place says of the record there
+-- what the law of a broken link at an index implies for the record there
 record_link : (log : List Fact) (place : ℕ) (r : RecordData) (link : Option BrokenLink) (answer : Option Law) → slice_get log place ≡ Some (Record r)
     → IsFirstBrokenLink log link → ((b : BrokenLink) → link ≡ Some b → place ≤ b.place) → IsLawAt link place answer → Law2 log (Record r) → Judges log r answer
 record_link log place r None answer at first upto law two = subst (Judges log r) (sym law) (first place r at two)
@@ -92,7 +92,7 @@ pub cut_shape : (log : List Fact) (place : ℕ) (c : CutData) → {table : List 
     → HasShape (Cut c)
 cut_shape log place c t at = t.shapes c ((cut_in log c).1 (place, slice_get_within log place (Cut c) at, get_or_from_slice_get log place (Cut c) (Cut c) at))
 
--- what is found at a place
+-- what is found at an index
 pub verdict_at : (log : List Fact) (place other : ℕ) (f : Fact) (at : slice_get log place ≡ Some f) → IsFirstKeyConflict log other → place ≤ other
     → ((place == other) ≡ true → Law1 (take place log) f → ⊥) × ((place == other) ≡ false → Law1 (take place log) f)
 verdict_at log place other f at first l = search rules

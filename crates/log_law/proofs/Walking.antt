@@ -26,7 +26,7 @@ take_part (suc start) (suc stop) (x ∷ xs) l =
     ap (λ ys. x ∷ ys) (take_part start stop xs (omega (arith, l)) ∙ ap (λ n. take start xs ++ take n (drop start xs))
     (let q : stop - start ≡ suc stop - suc start = omega arith in q))
 
--- one key at two places, whatever stands past the end
+-- one key at two indices, whatever is past the end
 pub same_key : (items : List Item) (i j : ℕ) (d e : Item) → i < length items → j < length items → SameItemKey (get_or items i d) (get_or items j d)
     → SameItemKey (get_or items i e) (get_or items j e)
 same_key items i j d e l m same =
@@ -44,7 +44,7 @@ one_more_key items start stop inside l here same k d m n =
     subst (λ i. SameItemKey (get_or items i d) (get_or items start d)) e (same_key items stop start zero_item d l inside here))
     (cases_lt k stop)
 
--- the walk has come to an item that has a greater key than all before it
+-- the walk has reached an item that has a greater key than all before it
 pub record IsWalked (log : List Fact) (items : List Item) (start : ℕ) (alive : AliveRecords) (least : Option BrokenLink) : Type 0 where
   pub holds : HoldsAlive log (take start items) alive
   pub broken : IsLeastBroken log (take start items) least

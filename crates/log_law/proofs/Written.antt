@@ -1,4 +1,4 @@
--- What a writer keeps is what its log says: at the start, and with a record, a truncation or an advance more.
+-- What a writer stores is true of its log: at the start, and with one more record, truncation or advance.
 use Rattle.std.proofs.Common.{◌≡◌, ◌≢◌, ℕ, ◌+◌, ◌-◌, max, replicate, ◌<◌, ◌≤◌, ◌⊎◌, inl, inr, ⊎_elim, List, [], ◌∷◌, ◌++◌, length, get_or, refl, sym, ap, ◌∙◌, subst, arith, Option, Some, None, cond, Bool, true, rules}
 use Rattle.std.specs.Prelude.{slice_get, ◌==◌}
 use Rattle.std.specs.List.{Contains, AllByRecursion}
@@ -41,7 +41,7 @@ use Rattle.log_law.proofs.Repeats.{cut_eq, law1_advance}
 advance_same : (a b : AdvanceData) → Advance a ≡ Advance b → a ≡ b
 advance_same a b e = cc
 
--- the points where the advances that count are the same
+-- the points where the effective advances are the same
 points_as : {roster : ℕ} (xs ys : List AdvanceData) (k j : ℕ) (points : List ℕ)
     → ((a : AdvanceData) → Contains xs a → a.epoch ≤ k → Contains ys a × (a.epoch ≤ j))
     → ((a : AdvanceData) → Contains ys a → a.epoch ≤ j → Contains xs a × (a.epoch ≤ k)) → ArePoints roster xs k points → ArePoints roster ys j points

@@ -12,17 +12,17 @@ use Rattle.log_law.specs.declared.links.Item.{Item}
 abbrev pub stack_of : AliveRecords → List Entry
 stack_of s = reverse s.entries.items
 
--- the number on top, or 0
+-- the LSN on top, or 0
 abbrev pub top_number : List Entry → ℕ
 top_number [] = 0
 top_number (x ∷ xs) = x.number
 
--- the topmost number of a page, or 0
+-- the topmost LSN of a page, or 0
 abbrev pub page_top : ℕ → List Entry → ℕ
 page_top g [] = 0
 page_top g (x ∷ xs) = if x.page == g then x.number else page_top g xs
 
--- what is left without the numbers on top that are above lo
+-- what is left without the LSNs on top that are above lo
 abbrev pub without_above : ℕ → List Entry → List Entry
 without_above lo [] = []
 without_above lo (x ∷ xs) = if nat_lt lo x.number then without_above lo xs else x ∷ xs
@@ -32,7 +32,7 @@ abbrev pub without_top : List Entry → List Entry
 without_top [] = []
 without_top (x ∷ xs) = xs
 
--- each entry knows the topmost number of its page beneath it
+-- each entry knows the topmost LSN of its page beneath it
 abbrev pub KnowsBeneath : List Entry → Type 0
 KnowsBeneath [] = Unit {0}
 KnowsBeneath (x ∷ xs) = (x.beneath ≡ page_top x.page xs) × KnowsBeneath xs
@@ -46,7 +46,7 @@ pub record IsStack (s : AliveRecords) : Type 0 where
 abbrev pub NotBelow : Entry → Entry → Type 0
 NotBelow x y = y.number ≤ x.number
 
--- the stack has just those of the past items that are alive in its view, by rising number
+-- the stack has exactly those of the past items that are alive in its view, by rising LSN
 pub record HoldsAlive (log : List Fact) (past : List Item) (s : AliveRecords) : Type 0 where
   pub stack : IsStack s
   pub falls : IsRising NotBelow (stack_of s)
@@ -56,7 +56,7 @@ pub record HoldsAlive (log : List Fact) (past : List Item) (s : AliveRecords) : 
   pub all : (t : Item) → Contains past t → IsAlive (counted log) s.view t.epoch t.number → (x : Entry) × Contains (stack_of s) x × (x.number ≡ t.number)
       × (x.page ≡ t.page)
 
--- items of one number, alive in the view, that is not below what the stack has
+-- items of one LSN, alive in the view, that is not below what the stack has
 pub record CanPush (log : List Fact) (group : List Item) (s : AliveRecords) : Type 0 where
   pub alive : (t : Item) → Contains group t → IsAlive (counted log) s.view t.epoch t.number
   pub above : (t : Item) (x : Entry) → Contains group t → Contains (stack_of s) x → x.number ≤ t.number

@@ -1,4 +1,4 @@
--- Items, which stand for the records that keep law 2, and the least place whose backlinks are wrong.
+-- Items, which represent the records that keep law 2, and the least index whose backlinks are wrong.
 use Rattle.std.specs.Prelude.{◌≡◌, ℕ, ◌<◌, ◌≤◌, ◌⊎◌, ◌==◌, List, length, slice_get, slice_index_or, Option, Some, None, if◌then◌else◌}
 use Rattle.std.specs.List.{Contains}
 use Rattle.redo_core.specs.Data.{RecordData}
@@ -13,7 +13,7 @@ use Rattle.log_law.specs.declared.links.Item.{Item}
 use Rattle.log_law.specs.declared.links.BrokenLink.{BrokenLink}
 use Rattle.log_law.specs.Alive.{top_number, page_top}
 
--- the item stands for a record of the log that keeps law 2
+-- the item represents a record of the log that keeps law 2
 pub record IsItem (log : List Fact) (t : Item) : Type 0 where
   pub redo : RecordData
   pub at : slice_get log t.place ≡ Some (Record redo)
@@ -24,7 +24,7 @@ pub record IsItem (log : List Fact) (t : Item) : Type 0 where
   pub back : t.back ≡ redo.back
   pub block_back : t.block_back ≡ redo.block_back
 
--- the items stand for just these records among the first places
+-- the items represent exactly these records among the first facts
 pub record AreItemsTo (log : List Fact) (places : ℕ) (items : List Item) : Type 0 where
   pub each : (t : Item) → Contains items t → IsItem log t
   pub all : (p : ℕ) (r : RecordData) → p < places → slice_get log p ≡ Some (Record r) → Law2 log (Record r) → (t : Item) × Contains items t × (t.place ≡ p)
@@ -59,7 +59,7 @@ BreaksLink log r AdvanceKept = ⊥
 abbrev pub KeepsLinks : List Fact → RecordData → Type 0
 KeepsLinks log r = Law3 log (Record r) × Law4 log (Record r)
 
--- what is answered of a record's backlinks is right
+-- the verdict on a record's backlinks is right
 abbrev pub Judges : List Fact → RecordData → Option Law → Type 0
 Judges log r None = KeepsLinks log r
 Judges log r (Some law) = BreaksLink log r law
@@ -67,13 +67,13 @@ Judges log r (Some law) = BreaksLink log r law
 abbrev pub JudgesItem : List Fact → Item → Option Law → Type 0
 JudgesItem log t answer = (r : RecordData) → slice_get log t.place ≡ Some (Record r) → Judges log r answer
 
--- the least place of these items whose backlinks are wrong, if there is one
+-- the least index of these items whose backlinks are wrong, if there is one
 abbrev pub IsLeastBroken : List Fact → List Item → Option BrokenLink → Type 0
 IsLeastBroken log past None = (t : Item) → Contains past t → JudgesItem log t None
 IsLeastBroken log past (Some b) = ((t : Item) → Contains past t → t.place < b.place → JudgesItem log t None)
     × ((t : Item) × Contains past t × (t.place ≡ b.place) × JudgesItem log t (Some b.law))
 
--- the least place of the log whose record keeps law 2 and has a wrong backlink, if there is one
+-- the least index of the log whose record keeps law 2 and has a wrong backlink, if there is one
 abbrev pub IsFirstBrokenLink : List Fact → Option BrokenLink → Type 0
 IsFirstBrokenLink log None = (p : ℕ) (r : RecordData) → slice_get log p ≡ Some (Record r) → Law2 log (Record r) → KeepsLinks log r
 IsFirstBrokenLink log (Some b) = ((p : ℕ) (r : RecordData) → p < b.place → slice_get log p ≡ Some (Record r) → Law2 log (Record r) → KeepsLinks log r)

@@ -11,11 +11,11 @@ use Rattle.log_law.specs.declared.check.CheckFault.{CheckFault}
 use Rattle.log_law.specs.declared.check.CheckFault.TheVariants.{Unsound, Memory}
 use Rattle.log_law.specs.Links.{Judges}
 
--- the reported place counts from 1
+-- the reported index counts from 1
 abbrev pub Reports : ℕ → List Fact → LawFault → Type 0
 Reports roster log fault = (place : ℕ) × (fault.place ≡ place + 1) × IsFirstFault roster log place fault.law
 
--- an unsound log is reported by its first fault; lack of memory says nothing of the log
+-- an unsound log is reported by its first fault; an allocation failure implies nothing about the log
 abbrev pub ReportsFault : ℕ → List Fact → CheckFault → Type 0
 ReportsFault roster log (Unsound fault) = Reports roster log fault
 ReportsFault roster log Memory = Unit {0}
@@ -26,7 +26,7 @@ LinkJudges log (Record r) answer = Law2 log (Record r) → Judges log r answer
 LinkJudges log (Cut c) answer = Unit {0}
 LinkJudges log (Advance a) answer = Unit {0}
 
--- the law of a broken link, at its own place
+-- the law of a broken link, at its own index
 abbrev pub IsLawAt : Option BrokenLink → ℕ → Option Law → Type 0
 IsLawAt None place answer = answer ≡ None
 IsLawAt (Some b) place answer = (b.place ≡ place → answer ≡ Some b.law) × (b.place ≢ place → answer ≡ None)

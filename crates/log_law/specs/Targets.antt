@@ -1,4 +1,4 @@
--- What a backlink has to name: the greatest number below its record's own that is alive in the view of its epoch. Places count from 1.
+-- What a backlink should name: the greatest LSN below its record's own that is alive in the view of its epoch. Indices count from 1.
 use Rattle.std.specs.Prelude.{◌≡◌, ℕ, ◌+◌, ◌<◌, ◌≤◌, ◌⊎◌, ◌↔◌, List, length, slice_get, slice_index, Option, Some, None}
 use Rattle.std.specs.List.{Contains}
 use Rattle.redo_core.specs.Data.{RecordData, CutData}
@@ -8,16 +8,16 @@ use Rattle.redo_core.specs.declared.facts.Fact.{Fact}
 use Rattle.redo_core.specs.declared.facts.Fact.TheVariants.{Record}
 use Rattle.log_law.specs.declared.targets.Target.{Target}
 
--- the fact stands at a place
+-- the fact is at an index
 abbrev pub IsPlaced : List Fact → ℕ → Fact → Type 0
 IsPlaced log place fact = (before : ℕ) × (place ≡ before + 1) × (slice_get log before ≡ Some fact)
 
--- a record of the page, where there is one to keep to
+-- a record of the page, where one is given
 abbrev pub IsOfPage : Option ℕ → RecordData → Type 0
 IsOfPage None s = Unit {0}
 IsOfPage (Some page) s = s.page ≡ page
 
--- a bound is the greatest number of a record of the epoch that the later truncations up to the view's epoch leave alive
+-- a bound is the greatest LSN of a record of the epoch that the later truncations up to the view's epoch leave alive
 abbrev pub IsBoundTo : List Fact → ℕ → ℕ → ℕ → Type 0
 IsBoundTo log view epoch bound = (n : ℕ) → (n ≤ bound) ↔ ((n ≤ max_number) × ((c : CutData) → Contains (counted log) c → epoch < c.epoch → c.epoch ≤ view → n ≤ c.lo))
 
@@ -26,7 +26,7 @@ pub record AreBoundsTo (log : List Fact) (view : ℕ) (bounds : List ℕ) : Type
   pub len : length bounds ≡ view + 1
   pub each : (epoch : ℕ) → epoch ≤ view → IsBoundTo log view epoch (slice_index bounds epoch)
 
--- the number is the greatest that the backlink may name, with its record's place, or 0
+-- the LSN is the greatest that the backlink may name, with its record's index, or 0
 abbrev pub IsTarget : List Fact → RecordData → (RecordData → Type 0) → Target → Type 0
 IsTarget log r Only t =
     ((t.number ≡ 0) ⊎ ((s : IsAliveBelow log r Only t.number) × IsPlaced log t.place (Record s.other))) × ((n : ℕ) → IsAliveBelow log r Only n → n ≤ t.number)

@@ -1,4 +1,4 @@
--- What a writer keeps of its log, and what its calls do.
+-- What a writer stores of its log, and the effects of its calls.
 use Rattle.std.specs.Prelude.{◌≡◌, ℕ, ◌+◌, ◌<◌, ◌≤◌, ◌⊎◌, false, List, [], ◌∷◌, ◌++◌, Some, None}
 use Rattle.std.specs.List.{Contains}
 use Rattle.redo_core.specs.Writes.{WriteData}
@@ -18,7 +18,7 @@ use Rattle.log_law.specs.declared.writer.WriterFault.TheVariants.{Shape, LoBelow
 use Rattle.log_law.specs.Alive.{HoldsAlive}
 use Rattle.log_law.specs.Links.{AreItems}
 
--- the last number of epoch k, or its hi where it has no record yet
+-- the last LSN of epoch k, or its hi where it has no record yet
 pub record IsBoundAt (log : List Fact) (k bound : ℕ) : Type 0 where
   pub numbers : (r : RecordData) → Contains (records log) r → r.epoch ≡ k → r.number ≤ bound
   pub base : (c : CutData) → Contains (cuts log) c → c.epoch ≡ k → c.hi ≤ bound
@@ -33,7 +33,7 @@ IsBound log bound = (k : ℕ) × IsCompleteEpoch (cuts log) k × IsBoundAt log k
 abbrev pub IsMinimum : ℕ → List Fact → ℕ → Type 0
 IsMinimum roster log point = (k : ℕ) × IsCompleteEpoch (cuts log) k × ((points : List ℕ) × ArePoints roster (advances log) k points × (point ≡ least points))
 
--- a writer as contracts see it: how many readers there are, and all that was written
+-- a writer as contracts see it: the number of readers, and all that was written
 pub record WriterData : Type 0 where
   pub roster : ℕ
   pub log : List Fact
@@ -41,11 +41,11 @@ pub record WriterData : Type 0 where
 abbrev pub writer_of : ℕ → List Fact → WriterData
 writer_of roster log = record { roster = roster; log = log }
 
--- one fact more
+-- one more fact
 abbrev pub AppendsFact : WriterData → Fact → WriterData → Type 0
 AppendsFact old fact new = new ≡ writer_of old.roster (old.log ++ fact ∷ [])
 
--- what a writer keeps is what its sound log says
+-- what a writer stores is true of its sound log
 pub record IsWritten (roster : ℕ) (log : List Fact) (alive : AliveRecords) (last : ℕ) (points : List ℕ) : Type 0 where
   pub sound : IsSound roster log
   pub begun : HasCutsTo (counted log) alive.view
@@ -56,11 +56,11 @@ pub record IsWritten (roster : ℕ) (log : List Fact) (alive : AliveRecords) (la
   pub reached : ArePoints roster (advances log) alive.view points
   pub held : (past : List Item) × AreItems log past × HoldsAlive log past alive
 
--- a record of which only the number and the writes are judged
+-- a record of which only the LSN and the writes are checked
 abbrev pub plain_record : ℕ → List WriteData → RecordData
 plain_record number writes = record_of 0 number 0 0 0 writes
 
--- the record is of the complete epoch, above all its numbers, with what was given, and joins the log
+-- the record is of the complete epoch, above all its LSNs, with what was given, and joins the log
 pub record AppendsRecord (old new : WriterData) (given_number given_page : ℕ) (given_writes : List WriteData) (r : RecordData) : Type 0 where
   pub joins : AppendsFact old (Record r) new
   pub sound : IsSound new.roster new.log

@@ -12,16 +12,16 @@ use std::alloc::{AllocError, Global};
 pub(crate) struct Entry {
     number: u64,
     page: u16,
-    /// The greatest number of the page beneath, or 0.
+    /// The greatest LSN of the page beneath, or 0.
     beneath: u64,
 }
 
-/// The records of some epochs that are alive in a view, by rising number, with the greatest number of each page.
+/// The records of some epochs that are alive in a view, by rising LSN, with the greatest LSN of each page.
 #[derive(Drop)]
 pub(crate) struct AliveRecords {
     view: u16,
     entries: Vec<Entry>,
-    /// As long as the records needed: a page past its end has none.
+    /// As long as the records required: a page past its end has none.
     page_tops: Vec<u64>,
 }
 
@@ -39,7 +39,7 @@ impl AliveRecords {
         }
     }
 
-    /// The greatest number, or 0.
+    /// The greatest LSN, or 0.
     pub(crate) fn top(&self) -> u64
         ensures { result ≡ top_number (stack_of self.now) }
     {
@@ -49,7 +49,7 @@ impl AliveRecords {
         }
     }
 
-    /// The greatest number of a page, or 0.
+    /// The greatest LSN of a page, or 0.
     pub(crate) fn top_of(&self, page: u16) -> u64
         requires { IsStack self.now }
         ensures { result ≡ page_top page (stack_of self.now) }
@@ -57,7 +57,7 @@ impl AliveRecords {
         self.page_tops.get(usize::from(page)).copied().unwrap_or(0)
     }
 
-    /// Puts a record on top.
+    /// Pushes a record.
     pub(crate) fn push(&mut self, number: u64, page: u16) -> Result<(), AllocError>
         requires { IsStack self.old }
         ensures stack { OnOk result (IsStack self.new) }
@@ -121,7 +121,7 @@ impl AliveRecords {
         self.view
     }
 
-    /// Goes on to the view of the next epoch, whose truncation is at `lo`.
+    /// Advances to the view of the next epoch, whose truncation is at `lo`.
     pub(crate) fn begin(&mut self, lo: u64)
         requires stack { IsStack self.old }
         requires epoch { self.old.view < 65535 }
@@ -133,7 +133,7 @@ impl AliveRecords {
         self.pop_above(lo);
     }
 
-    /// Goes on to the view of a later epoch.
+    /// Advances to the view of a later epoch.
     pub(crate) fn enter(&mut self, epoch: u16, cuts: &CountedCuts)
         requires { IsStack self.old }
         ensures stack { IsStack self.new }

@@ -20,7 +20,7 @@ use redo_core::{Advance, Cut, Fact, Law, LawFault, Record, Roster};
 use std::alloc::{AllocError, Global};
 use thiserror::Error;
 
-/// With what else a fact breaks its law. Places count from 1.
+/// The evidence of how a fact breaks its law. Indices count from 1.
 #[derive(Clone, Copy, Debug, PartialEq, Eq, Error)]
 pub enum Breach {
     /// The earlier fact of the same key (law 1).
@@ -29,13 +29,13 @@ pub enum Breach {
     /// The least epoch that has no truncation, up to the fact's own (laws 2 and 5).
     #[error("epoch {epoch} has no truncation")]
     NotBegun { epoch: u16 },
-    /// The truncation of the record's epoch, whose `hi` is not below its number (law 2).
+    /// The truncation of the record's epoch, whose `hi` is not below its LSN (law 2).
     #[error("its number is not above the hi of fact {place}")]
     NotAbove { place: u64 },
-    /// The record that the backlink has to name, above the number that it names (laws 3 and 4).
+    /// The record that the backlink should name, above the LSN that it names (laws 3 and 4).
     #[error("its backlink passes over the record of fact {place}")]
     Passes { place: u64 },
-    /// The number that the backlink names, above those of all records that it may name (laws 3 and 4).
+    /// The LSN that the backlink names, above those of all records that it may name (laws 3 and 4).
     #[error("its backlink names {number}, which no record has that it may name")]
     NoTarget { number: u64 },
     /// The reader, outside the roster (law 5).
@@ -46,7 +46,7 @@ pub enum Breach {
     CutBelow { place: u64 },
 }
 
-/// With what else a reported fact breaks its law. None only for a fault that is none; the only error is lack of memory.
+/// The evidence of how a reported fact breaks its law. None only if the fault is not one; the only error is an allocation failure.
 pub fn breach_of(
     alloc: Global,
     facts: &[Fact],
@@ -62,7 +62,7 @@ pub fn breach_of(
     }
 }
 
-/// The same of a place from 0.
+/// The same for an index from 0.
 fn breach_at(
     alloc: Global,
     facts: &[Fact],
@@ -81,7 +81,7 @@ fn breach_at(
     breach_among(alloc, facts, roster, &cuts, place, fact, law)
 }
 
-/// The same of a fact at its place (from 0), over the truncations that count.
+/// The same for a fact at its index (from 0), by the effective truncations.
 fn breach_among(
     alloc: Global,
     facts: &[Fact],
@@ -118,7 +118,7 @@ fn key_breach(facts: &[Fact], place: usize, fact: &Fact) -> Option<Breach>
     None
 }
 
-/// Whether two facts have one key and differ.
+/// Whether two facts have the same key and differ.
 fn is_other(one: &Fact, two: &Fact) -> bool
     ensures { MatchBool result (SameKey one.now two.now × (one.now ≡ two.now → ⊥)) (SameKey one.now two.now → one.now ≡ two.now) }
 {
@@ -155,7 +155,7 @@ fn begun_breach(facts: &[Fact], cuts: &CountedCuts, fact: &Fact) -> Option<Breac
     Some(Breach::NotAbove { place })
 }
 
-/// The place (from 1) where a truncation stands first.
+/// The first index (from 1) of a truncation.
 fn place_of_cut(facts: &[Fact], sought: Cut) -> Option<u64>
     ensures { MatchOption result (Contains facts.now (Fact.Cut sought) → ⊥) (λ place. IsPlaced facts.now place (Fact.Cut sought)) }
 {
@@ -209,7 +209,7 @@ fn block_breach(
     }
 }
 
-/// What is wrong with a backlink of a record, over the records of a page or of all pages.
+/// What is wrong with a backlink of a record, in the chain of a page or of all pages.
 fn link_breach(
     alloc: Global,
     facts: &[Fact],
@@ -260,7 +260,7 @@ fn advance_breach(
     }
 }
 
-/// The place (from 1) of a truncation of a later epoch that counts, cuts below the advance's point, and all readers are past.
+/// The index (from 1) of an effective truncation of a later epoch that cuts below the advance's point and that all readers are past.
 fn cut_below(facts: &[Fact], cuts: &CountedCuts, lows: &[u64], advance: Advance) -> Option<u64>
     requires { Describes facts.now cuts.now }
     ensures { (roster : ℕ) → AreLeastPoints roster facts.now (length cuts.now.by_epoch.items) lows.now

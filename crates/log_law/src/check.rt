@@ -17,7 +17,7 @@ use thiserror::Error;
 /// Why a log was not found sound.
 #[derive(Clone, Copy, Debug, PartialEq, Eq, Error)]
 pub enum CheckFault {
-    /// The least place that breaks a law, with the least law that it breaks.
+    /// The least index that breaks a law, with the least law that it breaks.
     #[error("the log is not sound")]
     Unsound(LawFault),
     #[error("out of memory")]
@@ -26,7 +26,7 @@ pub enum CheckFault {
 
 /// Whether a log of the roster is sound.
 ///
-/// Errors: `Unsound` exactly where it is not; `Memory`, which says nothing of the log.
+/// Errors: `Unsound` exactly where it is not; `Memory`, which implies nothing about the log.
 pub fn check_log(alloc: Global, facts: &[Fact], roster: Roster) -> Result<(), CheckFault>
     ensures sound { OnOk result (IsSound roster facts.now) }
     ensures unsound { IfErr result (ReportsFault roster facts.now) }

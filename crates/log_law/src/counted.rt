@@ -16,10 +16,10 @@ use crate::lows::lows_of;
 use redo_core::{Advance, Cut, Fact, MAX_NUMBER, Roster};
 use std::alloc::{AllocError, Global};
 
-/// The truncations that count in a log, by epoch, and what they decide.
+/// The effective truncations of a log, by epoch, and what they decide.
 #[derive(Drop)]
 pub(crate) struct CountedCuts {
-    /// How many readers the log has.
+    /// The number of readers of the log.
     readers: u8,
     /// Each epoch's first truncation. It ends with the last epoch that has one.
     by_epoch: Vec<Option<Cut>>,
@@ -30,7 +30,7 @@ pub(crate) struct CountedCuts {
 }
 
 impl CountedCuts {
-    /// The truncations that count among these facts. It fails only if memory runs out.
+    /// The effective truncations among these facts. The only error is an allocation failure.
     pub(crate) fn new(alloc: Global, facts: &[Fact], roster: Roster) -> Result<Self, AllocError>
         ensures cuts { IfOk result (Describes facts.now) }
         ensures least_later_lo { IfOk result (HasLeastLaterLo roster facts.now) }
@@ -48,14 +48,14 @@ impl CountedCuts {
         })
     }
 
-    /// The truncation that counts for an epoch.
+    /// The effective truncation of an epoch.
     pub(crate) fn at(&self, epoch: u16) -> Option<Cut>
         ensures { result ≡ slice_index_or self.now.by_epoch.items epoch None }
     {
         self.by_epoch.get(usize::from(epoch)).copied().flatten()
     }
 
-    /// Whether the truncation is the one that counts for its epoch.
+    /// Whether the truncation is the effective one of its epoch.
     pub(crate) fn counts(&self, cut: &Cut) -> bool
         ensures { IsTrue result ↔ (slice_index_or self.now.by_epoch.items cut.now.epoch None ≡ Some cut.now) }
     {
@@ -65,7 +65,7 @@ impl CountedCuts {
         }
     }
 
-    /// Whether an epoch has begun, and a record of this number may stand in it.
+    /// Whether an epoch has begun, and admits a record of this LSN.
     pub(crate) fn admits(&self, epoch: u16, number: u64) -> bool
         ensures { (log : List Fact) (r : RecordData) → Describes log self.now → r.epoch ≡ epoch → r.number ≡ number → IsTrue result ↔ Law2 log (Record r) }
     {
@@ -75,7 +75,7 @@ impl CountedCuts {
         self.is_above_hi(epoch, number)
     }
 
-    /// Whether a number is above the `hi` of an epoch, where it has one.
+    /// Whether an LSN is above the `hi` of an epoch, where it has one.
     pub(crate) fn is_above_hi(&self, epoch: u16, number: u64) -> bool
         ensures { (log : List Fact) → Describes log self.now
             → IsTrue result ↔ ((c : CutData) → Contains (counted log) c → c.epoch ≡ epoch → c.hi < number) }
@@ -96,7 +96,7 @@ impl CountedCuts {
         None
     }
 
-    /// How many epochs the table has: the last one with a truncation, and 1.
+    /// The length of the table: the last epoch with a truncation, plus 1.
     pub(crate) fn epochs(&self) -> usize
         ensures { result ≡ length self.now.by_epoch.items }
     {
@@ -162,7 +162,7 @@ fn empty_table(alloc: Global, len: usize) -> Result<Vec<Option<Cut>>, AllocError
     vec![in alloc; None; len]
 }
 
-/// A list of `len` times the same number. It fails only if memory runs out.
+/// A list of `len` times the same value. The only error is an allocation failure.
 pub(crate) fn filled(alloc: Global, number: u64, len: usize) -> Result<Vec<u64>, AllocError>
     ensures { IfOk result (λ v. (length v.items ≡ len) × ((k : ℕ) → slice_index_or v.items k number ≡ number)) }
 {

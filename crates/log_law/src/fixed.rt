@@ -1,4 +1,4 @@
-//! What the contracts fix, so that no other body meets them. Each function states its law and is called by nobody.
+//! What the contracts determine, so that no other body meets them. Each function states a theorem and is called by nobody.
 
 ghost use Rattle.std.specs.Prelude.{◌≡◌, IfSome, MatchOption};
 ghost use Rattle.redo_core.specs.Sound.{IsSound};
@@ -10,7 +10,7 @@ use crate::writer::Writer;
 use redo_core::{Fact, LawFault, Roster};
 use std::alloc::Global;
 
-// The first fault, or none; nothing where memory ran out.
+// The first fault, or none; nothing where an allocation failed.
 fn verdict(alloc: Global, facts: &[Fact], roster: Roster) -> Option<Option<LawFault>>
     ensures { IfSome result (λ found. MatchOption found (IsSound roster facts.now) (Reports roster facts.now)) }
 {
@@ -39,7 +39,7 @@ fn log_is_told_one_way(writer: &Writer) -> (&[Fact], &[Fact])
     (writer.log(), writer.log())
 }
 
-// What a breach tells shows that the fault is one.
+// A breach implies that the fault is one.
 fn breach_shows_broken()
     ensures { ShowsBroken }
 {}

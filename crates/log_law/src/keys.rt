@@ -8,10 +8,10 @@ use redo_core::{Fact, Key, Record};
 use std::alloc::{AllocError, Global};
 use std::collections::HashMap;
 
-/// Where the first record of each key stands.
+/// The index of the first record of each key.
 type Places = HashMap<Key, usize>;
 
-/// The least place (from 0) that breaks law 1, or the number of facts. It fails only if memory runs out.
+/// The least index (from 0) that breaks law 1, or the number of facts. The only error is an allocation failure.
 pub(crate) fn first_key_conflict(
     alloc: Global,
     facts: &[Fact],
@@ -21,7 +21,7 @@ pub(crate) fn first_key_conflict(
     ensures { IfOk result (IsFirstKeyConflict facts.now) }
 {
     if has_rising_keys(facts) {
-        // Logs nearly always come so, and a map of their keys would be their greatest cost.
+        // Nearly all logs have rising keys, and a map of their keys would be their greatest cost.
         return Ok(first_cut_conflict(facts, cuts));
     }
     let mut seen = HashMap::with_capacity(alloc, facts.len())?;
@@ -71,7 +71,7 @@ fn is_above(redo: &Record, last: Option<Key>) -> bool
     }
 }
 
-/// What `first_key_conflict` is of a log whose keys rise, where truncations alone can break law 1.
+/// The result of `first_key_conflict` for a log whose keys rise, where only truncations can break law 1.
 fn first_cut_conflict(facts: &[Fact], cuts: &CountedCuts) -> usize
     requires cuts { Describes facts.now cuts.now }
     requires rising { HasRisingKeys facts.now }

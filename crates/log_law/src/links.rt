@@ -9,7 +9,7 @@ use crate::counted::CountedCuts;
 use redo_core::{Fact, Law, Record};
 use std::alloc::{AllocError, Global};
 
-/// A record's key, page and backlinks, and its place in the log (from 0).
+/// A record's key, page and backlinks, and its index in the log (from 0).
 #[derive(Clone, Copy, Drop)]
 struct Item {
     // By falling size, so that little is padded: a log has many.
@@ -21,14 +21,14 @@ struct Item {
     page: u16,
 }
 
-/// A place (from 0) whose record keeps law 2 and breaks law 3 or 4.
+/// An index (from 0) whose record keeps law 2 and breaks law 3 or 4.
 #[derive(Clone, Copy)]
 pub(crate) struct BrokenLink {
     pub(crate) place: usize,
     pub(crate) law: Law,
 }
 
-/// The least place whose record keeps law 2 and breaks law 3 or 4. It fails only if memory runs out.
+/// The least index whose record keeps law 2 and breaks law 3 or 4. The only error is an allocation failure.
 pub(crate) fn first_broken_link(
     alloc: Global,
     facts: &[Fact],
@@ -54,7 +54,7 @@ fn sort_by_key(items: &mut Vec<Item>) -> Result<(), AllocError>
     Ok(())
 }
 
-/// Whether the items need no sorting, as those of most logs.
+/// Whether the items are already sorted, as those of most logs are.
 fn is_in_key_order(items: &[Item]) -> bool
     ensures { IsTrue result ↔ IsInKeyOrder items.now }
 {
@@ -66,7 +66,7 @@ fn is_in_key_order(items: &[Item]) -> bool
     true
 }
 
-/// Whether an item may stand before another in key order.
+/// Whether an item may be before another in key order.
 fn is_key_at_most(item: &Item, other: &Item) -> bool
     ensures { IsTrue result ↔ KeyAtMost item.now other.now }
 {

@@ -7,7 +7,7 @@ use crate::counted::filled;
 use redo_core::{Advance, Fact, Roster};
 use std::alloc::{AllocError, Global};
 
-/// For each of the first `len` epochs, the least of the readers' points over the advances of earlier epochs.
+/// For each of the first `len` epochs, the least of the readers' points by the advances of earlier epochs.
 pub(crate) fn lows_of(
     alloc: Global,
     facts: &[Fact],
@@ -37,7 +37,7 @@ fn lower_all(lows: &mut Vec<u64>, tops: &[u64])
     }
 }
 
-// For each epoch, the reader's point over the advances of earlier epochs.
+// For each epoch, the reader's point by the advances of earlier epochs.
 fn tops_of(alloc: Global, facts: &[Fact], reader: u8, len: usize) -> Result<Vec<u64>, AllocError>
     ensures { IfOk result (λ v. AreTops facts.now reader len v.items) }
 {
@@ -70,7 +70,7 @@ fn note(tops: &mut Vec<u64>, advance: Advance, reader: u8)
     }
 }
 
-// Each number becomes the greatest up to its place.
+// Each value becomes the greatest up to its index.
 fn rise(tops: &mut Vec<u64>)
     ensures len { length tops.new.items ≡ length tops.old.items }
     ensures each { (e n : ℕ) → e < length tops.old.items → (n < slice_index tops.new.items e) ↔ HasTopAbove tops.old.items e n }

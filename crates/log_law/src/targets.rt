@@ -9,14 +9,14 @@ use crate::counted::{CountedCuts, filled};
 use redo_core::{Cut, Fact, MAX_NUMBER, Record};
 use std::alloc::{AllocError, Global};
 
-/// The greatest number that a backlink may name, or 0, and the place (from 1) of its record.
+/// The greatest LSN that a backlink may name, or 0, and the index (from 1) of its record.
 #[derive(Clone, Copy)]
 pub(crate) struct Target {
     pub(crate) place: u64,
     pub(crate) number: u64,
 }
 
-/// What a backlink of a record has to name, over the records of a page or of all pages. It fails only if memory runs out.
+/// What a backlink of a record should name, in the chain of a page or of all pages. The only error is an allocation failure.
 pub(crate) fn target_of(
     alloc: Global,
     facts: &[Fact],
@@ -31,7 +31,7 @@ pub(crate) fn target_of(
     Ok(target_among(facts, cuts, &bounds, redo, page))
 }
 
-/// For each epoch up to the view's, the greatest number of a record that the later truncations leave alive.
+/// For each epoch up to the view's, the greatest LSN of a record that the later truncations leave alive.
 fn alive_bounds(alloc: Global, cuts: &CountedCuts, view: u16) -> Result<Vec<u64>, AllocError>
     ensures { (log : List Fact) → Describes log cuts.now → IfOk result (λ v. AreBoundsTo log view v.items) }
 {

@@ -10,7 +10,7 @@ use std::alloc::{AllocError, Global};
 use std::marker::Model;
 use thiserror::Error;
 
-/// Why a writer refused a record, a truncation or an advance. The log is then as it was.
+/// Why a writer refused a record, a truncation or an advance. The log is unchanged.
 #[derive(Clone, Copy, Debug, PartialEq, Eq, Error)]
 pub enum WriterFault {
     #[error(transparent)]
@@ -33,7 +33,7 @@ pub struct Writer {
     log: Vec<Fact>,
     /// What is alive in the writer's epoch.
     alive: AliveRecords,
-    /// The last number of the epoch, or the epoch's `hi` where it has no record yet.
+    /// The last LSN of the epoch, or the epoch's `hi` where it has no record yet.
     last: u64,
     /// Each reader's point.
     points: ReadPoints,
@@ -51,7 +51,7 @@ impl Model for Writer {
 }
 
 impl Writer {
-    /// A writer of an empty log of a roster, in epoch 0. It fails only if memory runs out.
+    /// A writer of an empty log of a roster, in epoch 0. The only error is an allocation failure.
     pub fn new(alloc: Global, roster: Roster) -> Result<Self, AllocError>
         ensures { IfOk result (λ w. w ≡ writer_of roster []) }
     {
@@ -72,9 +72,9 @@ impl Writer {
         &self.log
     }
 
-    /// Writes a record of the current epoch, with the backlinks that a sound log asks for.
+    /// Writes a record of the current epoch, with the backlinks that a sound log requires.
     ///
-    /// Errors give the writes back and leave the log as it was: a fault of the record's shape; a number that is not above the
+    /// Errors return the writes and leave the log unchanged: a fault of the record's shape; an LSN that is not above the
     /// epoch's last one, or its `hi`, with that bound; `Memory`.
     pub fn append(
         &mut self,
@@ -125,9 +125,9 @@ impl Writer {
         Ok(record_with_links(epoch, number, back, page, block_back, writes))
     }
 
-    /// Opens the next epoch: numbers above `lo` are annulled, and its own are above `hi`.
+    /// Opens the next epoch: LSNs above `lo` are annulled, and its own are above `hi`.
     ///
-    /// Errors leave the log as it was: a fault of the truncation's shape; `lo` below the minimum read point, with that point; no
+    /// Errors leave the log unchanged: a fault of the truncation's shape; `lo` below the minimum read point, with that point; no
     /// epoch left; `Memory`.
     pub fn recover(&mut self, lo: u64, hi: u64) -> Result<Cut, WriterFault>
         ensures ok { IfOk result (λ c. RecoversAt self.old self.new lo hi c) }
@@ -158,7 +158,7 @@ impl Writer {
         Ok(cut)
     }
 
-    /// Says that reader 1 reads nothing below `point` any more. Errors are those of `advance_of`.
+    /// Records that reader 1 never again reads below `point`. Errors are those of `advance_of`.
     pub fn advance(&mut self, point: u64) -> Result<Advance, WriterFault>
         ensures ok { IfOk result (λ a. AdvancesAt self.old self.new 1 point a) }
         ensures unchanged { OnErr result (self.new ≡ self.old) }
@@ -167,9 +167,9 @@ impl Writer {
         self.advance_of(1, point)
     }
 
-    /// Says that a reader reads nothing below `point` any more.
+    /// Records that a reader never again reads below `point`.
     ///
-    /// Errors leave the log as it was: a fault of the advance's shape; a reader outside the roster; `Memory`.
+    /// Errors leave the log unchanged: a fault of the advance's shape; a reader outside the roster; `Memory`.
     pub fn advance_of(&mut self, reader: u8, point: u64) -> Result<Advance, WriterFault>
         ensures ok { IfOk result (λ a. AdvancesAt self.old self.new reader point a) }
         ensures unchanged { OnErr result (self.new ≡ self.old) }

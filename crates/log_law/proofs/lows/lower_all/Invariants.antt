@@ -1,7 +1,7 @@
 use Rattle.std.proofs.Common.{◌≡◌, ℕ, ◌<◌, ◌≤◌, get_or, length, min}
 use Rattle.log_law.proofs.lows.lower_all.Given as goal
 
--- the numbers so far are lowered, and the others are as they were
+-- the values so far are lowered, and the others are unchanged
 abbrev pub invariant-loop-epoch : goal.invariant-loop-epoch
 invariant-loop-epoch l = record {
   len : length l.lows.items ≡ length l.fn.lows.items;
