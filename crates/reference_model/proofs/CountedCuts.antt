@@ -1,4 +1,4 @@
--- The truncations that count in a log.
+-- The effective truncations of a log.
 use Rattle.std.proofs.Common.{◌≡◌, ◌≢◌, ℕ, zero, suc, ◌<◌, ◌≤◌, ◌↔◌, ⊎_elim, List, [], ◌∷◌, length, get_or, take, refl, sym, ap, ◌∙◌, subst, arith, Bool, true, not}
 use Rattle.std.specs.Prelude.{◌==◌}
 use Rattle.std.specs.List.{Contains, All, filter, filter_map}
@@ -18,7 +18,7 @@ use Rattle.redo_core.proofs.SoundFacts.{first_within, first_of_epoch}
 use Rattle.redo_core.proofs.CompleteEpochs.{has_cuts}
 use Rattle.reference_model.proofs.Scanned.{IsOther, IsSparedIfCounted, IsAboveIfCounted}
 
--- a truncation that counts is one of the log's
+-- an effective truncation is one of the log's
 pub counted_fact : (log : List Fact) (c : CutData) → Contains (counted log) c → Contains log (Cut c)
 unfolding counted
 counted_fact log c h = (cut_in log c).0 (first_within (cuts log) c h)
@@ -42,7 +42,7 @@ pub counted_unique : (log : List Fact) (c d : CutData) → Contains (counted log
 unfolding counted
 counted_unique log c d hc hd e = first_unique (cuts log) c d hc hd e
 
--- a truncation counts where none of its epoch stands before it
+-- a truncation is effective where none of its epoch is before it
 pub counted_at : (log : List Fact) (i : ℕ) (c : CutData) → i < length log → get_or log i (Cut c) ≡ Cut c → All (IsOther c.epoch) (take i log)
     → Contains (counted log) c
 unfolding counted cuts
@@ -62,7 +62,7 @@ read_cut log i f c l e q = subst (λ x. get_or log i x ≡ x) q (sym e)
 pub none_counted : (log : List Fact) (c : CutData) → All (IsOther c.epoch) log → Contains (counted log) c → ⊥
 none_counted log c all h = All-contains (IsOther c.epoch) log (Cut c) all (counted_fact log c h) refl
 
--- a record is alive where each truncation that counts spares it
+-- a record is alive where each effective truncation spares it
 pub all_counted_spare : (log : List Fact) (v e n : ℕ) → e ≤ v → All (IsSparedIfCounted log v e n) log → IsAlive (counted log) v e n
 all_counted_spare log v e n l all = record {
   known = l;

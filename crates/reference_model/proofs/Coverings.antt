@@ -22,7 +22,7 @@ use Rattle.log_theorems.proofs.SameSets.{same_meanings, turned}
 use Rattle.log_theorems.proofs.Union.{absorbed, covers_at, covers_of_parts}
 use Rattle.reference_model.specs.Comparing.{KeepsFact, Settles, CoversAll, IsCovering}
 
--- a record of a begun epoch, by its number
+-- a record of a begun epoch, by its LSN
 pub settled_low : (facts : List Fact) (p : Position) (r : RecordData) → r.epoch ≤ p.epoch → r.number ≤ p.anchor → Settles facts p (Record r)
 settled_low facts p r known low = inr (low, known)
 

@@ -1,4 +1,4 @@
--- What a fact that keeps or breaks a law says of it.
+-- What follows for a fact that keeps or breaks a law.
 use Rattle.std.proofs.Common.{◌≡◌, ℕ, ◌+◌, ◌-◌, ◌<◌, ◌⊎◌, ⊎_elim, List, length, get_or, refl, sym, subst, arith, Option, Some, rules}
 use Rattle.std.specs.Prelude.{slice_get}
 use Rattle.std.proofs.lemmas.Option.{slice_get_read}
@@ -25,7 +25,7 @@ pub none_found : (roster : ℕ) (log : List Fact) (place : ℕ) (f : Fact) (foun
     → ((law : Law) → found ≡ Some law → ⊥) → KeepsLaws roster log place f
 none_found roster log place f found h none = search rules
 
--- the places before the first fault
+-- the indices before the first fault
 abbrev pub KeepsBefore : ℕ → List Fact → ℕ → Type 0
 KeepsBefore roster log place = (earlier : ℕ) (f : Fact) → earlier < place → slice_get log earlier ≡ Some f → KeepsLaws roster log earlier f
 

@@ -31,11 +31,11 @@ reached_lower facts xs k g from q P Q lower all i d l = reached_at facts k g fro
 
 -- a record that may have been found, seen through its data
 module _ {X : Type 0} (data_of : X → RecordData) where
-  -- its number is at most n
+  -- its LSN is at most n
   abbrev pub FoundUpTo : Option X → ℕ → Type 0
   FoundUpTo found n = MatchOption found ⊥ (λ x. (data_of x).number ≤ n)
 
-  -- it is one of the page, from a number on
+  -- it is one of the page, from an LSN on
   abbrev pub FoundInPage : List Fact → ℕ → ℕ → ℕ → ℕ → Option X → Type 0
   FoundInPage facts k g from q found = MatchOption found (Unit {0}) (λ x. IsPageRecord facts k g q (data_of x) × (from ≤ (data_of x).number))
 

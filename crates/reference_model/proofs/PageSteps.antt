@@ -18,7 +18,7 @@ use Rattle.log_theorems.proofs.Log.{log_of_sound}
 use Rattle.log_theorems.proofs.Views.{alone, alive_up}
 use Rattle.reference_model.specs.PageRecords.{IsPageRecord, HasNumbersOnce, IsNextPageRecord, HasNoNext}
 
--- the image of the page with its records below a number
+-- the image of the page with its records below an LSN
 pub record IsPageBelow (facts : List Fact) (k g q from : ℕ) (image : List ℕ) : Type 0 where
   pub written : List RecordData
   pub lists : Lists BeforeByNumber (λ r. IsPageRecord facts k g q r × (r.number < from)) written
@@ -76,7 +76,7 @@ page_end facts k g q from image none p = record {
   result = p.result;
 }
 
--- in a part of a sound log two alive records never share a number
+-- in a part of a sound log two alive records never share an LSN
 pub once_if_sound : (roster : ℕ) (log facts : List Fact) (k g q : ℕ) → IsSound roster log → IsPart facts log → HasCutsTo (cuts facts) k
     → HasNumbersOnce facts k g q
 once_if_sound roster log facts k g q sound part has r s pr ps e =

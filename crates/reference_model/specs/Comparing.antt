@@ -1,4 +1,4 @@
--- Meanings compared fact by fact, as the positions of the facts have it.
+-- Meanings compared fact by fact, given the positions of the facts.
 use Rattle.std.specs.Prelude.{◌<◌, ◌≤◌, ◌⊎◌, List}
 use Rattle.std.specs.List.{Contains, AllZip}
 use Rattle.redo_core.specs.Sets.{cuts}
@@ -14,7 +14,7 @@ KeepsFact facts p (Record r) = IsWaiting p.epoch r.epoch ⊎ (IsAlive (cuts fact
 KeepsFact facts p (Cut c) = Unit {0}
 KeepsFact facts p (Advance a) = p.epoch < a.epoch
 
--- the fact tells the meaning of facts at p nothing: a record that is dead or not above the anchor, an advance up to its reader's point
+-- the fact adds nothing to the meaning of facts at p: a record that is dead or not above the anchor, an advance up to its reader's point
 abbrev pub Settles : List Fact → Position → Fact → Type 0
 Settles facts p (Record r) = IsDead (cuts facts) p.epoch r.epoch r.number ⊎ ((r.number ≤ p.anchor) × (r.epoch ≤ p.epoch))
 Settles facts p (Cut c) = ⊥

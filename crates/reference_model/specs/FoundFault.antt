@@ -1,4 +1,4 @@
--- The law that the fact at a place breaks first.
+-- The law that the fact at an index breaks first.
 use Rattle.std.specs.Prelude.{ℕ, List, Option, MatchOption}
 use Rattle.redo_core.specs.Sound.{KeepsLaws}
 use Rattle.redo_core.specs.Fault.{BreaksFirst}

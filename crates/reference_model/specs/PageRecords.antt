@@ -1,4 +1,4 @@
--- The records that make a page.
+-- The records that determine a page.
 use Rattle.std.specs.Prelude.{◌≡◌, ℕ, ◌≤◌, List}
 use Rattle.redo_core.specs.Data.{RecordData}
 use Rattle.redo_core.specs.Sets.{cuts}
@@ -10,7 +10,7 @@ use Rattle.redo_core.specs.declared.facts.Fact.{Fact}
 abbrev pub IsPageRecord : List Fact → ℕ → ℕ → ℕ → RecordData → Type 0
 IsPageRecord facts k g q r = IsLinkedRecord facts k r × (r.page ≡ g) × (r.number ≤ q)
 
--- no two different linked records of page g up to q have one number
+-- no two different linked records of page g up to q have one LSN
 abbrev pub HasNumbersOnce : List Fact → ℕ → ℕ → ℕ → Type 0
 HasNumbersOnce facts k g q = (r s : RecordData) → IsPageRecord facts k g q r → IsPageRecord facts k g q s → r.number ≡ s.number → r ≡ s
 
@@ -21,12 +21,12 @@ pub record StandsInPage (facts : List Fact) (k g q : ℕ) (r : RecordData) : Typ
   pub alive : IsAlive (cuts facts) k r.epoch r.number
   pub linked : IsLinked facts k r.number
 
--- r is the record of page g with the least number from `from` up to q
+-- r is the record of page g with the least LSN from `from` up to q
 pub record IsNextPageRecord (facts : List Fact) (k g from q : ℕ) (r : RecordData) : Type 0 where
   pub found : IsPageRecord facts k g q r
   pub above : from ≤ r.number
   pub least : (s : RecordData) → IsPageRecord facts k g q s → from ≤ s.number → r.number ≤ s.number
 
--- no record of page g stands from `from` up to q
+-- no record of page g is from `from` up to q
 abbrev pub HasNoNext : List Fact → ℕ → ℕ → ℕ → ℕ → Type 0
 HasNoNext facts k g from q = (r : RecordData) → IsPageRecord facts k g q r → from ≤ r.number → ⊥

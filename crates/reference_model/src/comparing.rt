@@ -15,7 +15,7 @@ use crate::views::Position;
 use redo_core::{Fact, Roster};
 use std::alloc::{AllocError, Global};
 
-/// Whether two parts of one sound log have one meaning. It fails only if memory runs out.
+/// Whether two parts of one sound log have one meaning. The only error is an allocation failure.
 pub fn same(
     alloc: Global,
     facts: &[Fact],
@@ -31,7 +31,7 @@ pub fn same(
     covers(alloc, others, facts, roster)
 }
 
-/// Whether the facts' meaning covers that of the others. It fails only if memory runs out.
+/// Whether the facts' meaning covers that of the others. The only error is an allocation failure.
 pub fn covers(
     alloc: Global,
     facts: &[Fact],
@@ -57,7 +57,7 @@ fn covers_at(facts: &[Fact], above: &Position, others: &[Fact], below: &Position
     covers_all(facts, above, others, below)
 }
 
-// Whether there are as many points, each at most the one at its place.
+// Whether there are as many points, each at most the one at its index.
 fn are_at_most(below: &[u64], above: &[u64]) -> bool
     ensures { IsTrue result ↔ AllZip (λ p q. p ≤ q) below.now above.now }
 {
@@ -116,7 +116,7 @@ fn keeps(facts: &[Fact], at: &Position, fact: &Fact) -> bool
     }
 }
 
-// Whether such a fact tells the meaning of facts with this position nothing: a record that is dead or not above the anchor, an
+// Whether such a fact adds nothing to the meaning of facts with this position: a record that is dead or not above the anchor, an
 // advance up to its reader's point.
 fn settles(facts: &[Fact], at: &Position, fact: &Fact) -> bool
     ensures { IsTrue result ↔ Settles facts.now (position_of at.now) fact.now }

@@ -9,7 +9,7 @@ use crate::chains::Chain;
 use crate::standings::spares;
 use redo_core::{Cut, Fact, Record};
 
-// Whether a truncation is the first of its epoch, which is the one that counts.
+// Whether a truncation is the first of its epoch, which is the effective one.
 pub(crate) fn is_counted(log: &[Fact], cut: &Cut) -> bool
     ensures { IsTrue result ↔ Contains (counted log.now) cut.now }
 {
@@ -29,7 +29,7 @@ pub(crate) fn are_same(one: &Cut, other: &Cut) -> bool
     *one == *other
 }
 
-// Whether a record of this epoch and number is alive in a view, by the truncations that count.
+// Whether a record of this epoch and LSN is alive in a view, by the effective truncations.
 pub(crate) fn is_alive_by_counted(log: &[Fact], view: u16, epoch: u16, number: u64) -> bool
     ensures { IsTrue result ↔ IsAlive (counted log.now) view epoch number }
 {
@@ -46,7 +46,7 @@ pub(crate) fn is_alive_by_counted(log: &[Fact], view: u16, epoch: u16, number: u
     true
 }
 
-// The greatest number below a record's own, on one of its chains, that is alive in the view of its epoch, or 0.
+// The greatest LSN below a record's own, on one of its chains, that is alive in the view of its epoch, or 0.
 pub(crate) fn greatest_below(log: &[Fact], redo: &Record, chain: Chain) -> u64
     ensures { IsGreatest (IsAliveBelow log.now redo.now (Follows chain redo.now)) result }
 {

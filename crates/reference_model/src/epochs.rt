@@ -5,7 +5,7 @@ ghost use Rattle.redo_core.specs.CompleteEpoch.{IsCompleteEpoch, HasCut};
 
 use redo_core::Fact;
 
-/// The greatest epoch up to which all truncations are there.
+/// The greatest epoch up to which all truncations are known.
 pub fn complete_epoch(facts: &[Fact]) -> u16
     ensures { IsCompleteEpoch (cuts facts.now) result }
 {

@@ -16,7 +16,7 @@ use crate::epochs::complete_epoch;
 use crate::past::are_past;
 use redo_core::{Advance, Cut, Fact, Law, LawFault, Record, Roster};
 
-/// The least place of a log (from 1) that breaks a law, with the least law that it breaks. There is none exactly where the
+/// The least index of a log (from 1) that breaks a law, with the least law that it breaks. There is none exactly where the
 /// log is sound.
 pub fn first_fault(log: &[Fact], roster: Roster) -> Option<LawFault>
     ensures sound { IsNone result ↔ IsSound roster log.now }
@@ -34,7 +34,7 @@ pub fn first_fault(log: &[Fact], roster: Roster) -> Option<LawFault>
     None
 }
 
-// The least law that the fact at a place (from 0) breaks.
+// The least law that the fact at an index (from 0) breaks.
 fn broken_law(log: &[Fact], readers: u8, place: usize, fact: &Fact) -> Option<Law>
     requires { place ≤ length log.now }
     ensures { FindsFault readers log.now place fact.now result }
@@ -100,7 +100,7 @@ fn is_only_cut(earlier: &[Fact], cut: &Cut) -> bool
     true
 }
 
-// Whether a record's epoch has begun, and its number is above the epoch's `hi`.
+// Whether a record's epoch has begun, and its LSN is above the epoch's `hi`.
 fn has_begun(log: &[Fact], redo: &Record) -> bool
     ensures law { IsTrue result ↔ Law2 log.now (TheRecord redo.now) }
     ensures shape { record_fault redo.now ≡ None }

@@ -1,4 +1,4 @@
-//! What the contracts fix, so that no other body meets them. Each function states its law and is called by nobody.
+//! What the contracts determine, so that no other body meets them. Each function states a theorem and is called by nobody.
 
 ghost use Rattle.std.specs.Prelude.{◌≡◌};
 

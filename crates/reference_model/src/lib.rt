@@ -1,10 +1,10 @@
-//! The plain model: a slow program for what a list of facts means, without state, index or order of arrival.
+//! The reference model: a slow program for what a list of facts means, without state, index or order of arrival.
 //!
-//! Each call takes what its definition takes and computes it by looking through the facts: the complete epoch, standings,
-//! linked numbers, the complete point, the readers' points and the least of them, the anchor and pages, the first fault of a
+//! Each call takes what its definition takes and computes it by scans of the facts: the complete epoch, standings,
+//! linked LSNs, the complete point, the readers' points and the least of them, the anchor and pages, the first fault of a
 //! log, and meanings compared.
-//! It holds for every list of facts, sound or not; only a page asks that its linked records have each number once, and `same`
-//! that the two sets are parts of one sound log. Faster programs are compared with it.
+//! It is right for every list of facts, sound or not; only a page requires that its linked records have each LSN once, and `same`
+//! that the two sets are parts of one sound log. Tests compare faster programs with it.
 #![tactic(auto)]
 
 mod chains;

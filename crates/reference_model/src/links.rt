@@ -6,7 +6,7 @@ ghost use Rattle.reference_model.specs.Helpers.{IsLinkedWithin};
 use crate::standings::is_alive;
 use redo_core::Fact;
 
-/// Whether a number is linked in a view: 0, or the number of an alive record whose segment backlink is linked.
+/// Whether an LSN is linked in a view: 0, or the LSN of an alive record whose segment backlink is linked.
 pub fn is_linked(facts: &[Fact], view: u16, number: u64) -> bool
     ensures { IsTrue result ↔ IsLinked facts.now view number }
 {
@@ -25,14 +25,14 @@ pub fn is_linked(facts: &[Fact], view: u16, number: u64) -> bool
     false
 }
 
-/// The greatest number linked in a view.
+/// The greatest LSN linked in a view.
 pub fn complete_point(facts: &[Fact], view: u16) -> u64
     ensures { IsGreatest (IsLinked facts.now view) result }
 {
     greatest_linked(facts, view, None)
 }
 
-/// The greatest number linked in a view that is not above a minimum read point.
+/// The greatest LSN linked in a view that is not above a minimum read point.
 pub fn anchor(facts: &[Fact], view: u16, min: u64) -> u64
     ensures { IsGreatest (λ n. IsLinked facts.now view n × (n ≤ min)) result }
 {

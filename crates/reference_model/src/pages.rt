@@ -13,8 +13,8 @@ use std::alloc::{AllocError, Global};
 
 /// The page at a point in a view: zeros, then the linked records of the page up to the point, in rising order.
 ///
-/// It is told for facts whose linked records of the page have each number once, as those of a sound log have.
-/// It fails only if memory runs out.
+/// It is defined for facts whose linked records of the page have each LSN once, as those of a sound log have.
+/// The only error is an allocation failure.
 pub fn page_at(
     alloc: Global,
     facts: &[Fact],
@@ -35,7 +35,7 @@ pub fn page_at(
     Ok(image)
 }
 
-// The linked record of the page with the least number from `from` up to a point.
+// The linked record of the page with the least LSN from `from` up to a point.
 fn next_record(facts: &[Fact], view: u16, page: u16, from: u64, point: u64) -> Option<&Record>
     ensures { MatchOption result (HasNoNext facts.now view page from point) (λ r. IsNextPageRecord facts.now view page from point r.now) }
 {
@@ -53,7 +53,7 @@ fn next_record(facts: &[Fact], view: u16, page: u16, from: u64, point: u64) -> O
     next
 }
 
-// Whether the record has a lower number than one that was found before.
+// Whether the record has a lower LSN than one that was found before.
 fn is_before(redo: &Record, next: Option<&Record>) -> bool
     ensures { IsTrue result ↔ MatchOption next.entry (Unit {0}) (λ other. redo.now.number < other.now.number) }
 {

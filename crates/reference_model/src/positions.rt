@@ -9,7 +9,7 @@ use crate::views::Position;
 use redo_core::{Fact, Roster};
 use std::alloc::{AllocError, Global};
 
-/// Where the facts stand in the view of their complete epoch. It fails only if memory runs out.
+/// The position of the facts in the view of their complete epoch. The only error is an allocation failure.
 pub fn position(alloc: Global, facts: &[Fact], roster: Roster) -> Result<Position, AllocError>
     ensures { IfOk result (λ p. IsPosition roster facts.now (position_of p)) }
 {

@@ -24,7 +24,7 @@ pub fn point(facts: &[Fact], epoch: u16, reader: u8) -> u64
     greatest
 }
 
-/// Each reader's point, by reader. It fails only if memory runs out.
+/// Each reader's point, by reader. The only error is an allocation failure.
 pub fn points(
     alloc: Global,
     facts: &[Fact],

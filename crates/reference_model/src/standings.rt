@@ -6,7 +6,7 @@ ghost use Rattle.reference_model.specs.Stands.{StandsAs};
 use crate::views::Standing;
 use redo_core::{Cut, Fact};
 
-/// How a record of this epoch and number stands in a view.
+/// The standing of a record of this epoch and LSN in a view.
 pub fn standing(facts: &[Fact], view: u16, epoch: u16, number: u64) -> Standing
     ensures { StandsAs (cuts facts.now) view epoch number result }
 {
@@ -19,7 +19,7 @@ pub fn standing(facts: &[Fact], view: u16, epoch: u16, number: u64) -> Standing
     }
 }
 
-/// Whether a record of this epoch and number is alive in a view.
+/// Whether a record of this epoch and LSN is alive in a view.
 pub fn is_alive(facts: &[Fact], view: u16, epoch: u16, number: u64) -> bool
     ensures { IsTrue result ↔ IsAlive (cuts facts.now) view epoch number }
 {
