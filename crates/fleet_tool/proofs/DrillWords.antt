@@ -29,7 +29,7 @@ encoded_is_read E G text None n only value small h =
 pub none_is_some : {A : Type 0} (o : Option A) (x : A) → o ≡ None → o ≡ Some x → ⊥
 none_is_some o x none some = absurd cc
 
--- the text of an option, which was found by its entry and stands in its row
+-- the text of an option, which was found by its entry and is in its row
 pub given_text : (o : Option (Bor (List ℕ))) (s : Bor (List ℕ)) (text row : Option (List ℕ)) → option_map (λ b. b.now) o ≡ text → text ≡ row → o ≡ Some s
     → row ≡ Some s.now
 given_text o s text row given same is = sym same ∙ sym given ∙ ap (λ (x : Option (Bor (List ℕ))). option_map (λ b. b.now) x) is

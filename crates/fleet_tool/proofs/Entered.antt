@@ -1,4 +1,4 @@
--- The subcommand that a parse entered, and the words that name it.
+-- The subcommand that a parse entered, and the arguments that name it.
 use Rattle.std.proofs.Common.{◌≡◌, ◌∙◌, ◌↔◌, ℕ, List, [], ◌∷◌, Option, Some, None, Result, Ok, Bool, IsTrue, option_map, map, Box, codes, true, false, refl, sym, subst, ap, get_or, arith}
 use Rattle.std.specs.List.{list_any}
 use Rattle.std.specs.Str.{bytes_eq}
@@ -45,7 +45,7 @@ simple : is_simple fleet_app ≡ true
 unfolding clap_on_literals
 simple = refl
 
--- the subcommand that a parse entered is the one that the words name
+-- the subcommand that a parse entered is the one that the arguments name
 pub entered_is : (m : ArgMatches) (words : List (List ℕ)) (app : App) → app ≡ fleet_app → HasMatchesOf app words m → subcommand_rows_of m ≡ subcommand_in words
 unfolding subcommand_in
 entered_is m words app is has =
@@ -61,7 +61,7 @@ pub entered_first : (m : ArgMatches) (words : List (List ℕ)) (name : List ℕ)
 entered_first m words name entered is =
     let named = name_alone (subcommand_in words) name is in entered_name m name named.0 (entered ∙ named.1)
 
--- the words of a text's task enter it, with the option too
+-- the arguments of a text's task enter it, with the option too
 pub enters : (program : List ℕ) (task : TextTask) → option_map (λ p. p.0) (subcommand_in (program ∷ name_of task ∷ [])) ≡ Some (name_of task)
 unfolding clap_on_literals subcommand_in
 enters program Run = refl
@@ -83,7 +83,7 @@ no_drill Run e = first_differs 114 (ap (λ (t : List ℕ). get_or t 0 0) e) (ome
 no_drill Check e = first_differs 99 (ap (λ (t : List ℕ). get_or t 0 0) e) (omega arith)
 no_drill Inspect e = first_differs 105 (ap (λ (t : List ℕ). get_or t 0 0) e) (omega arith)
 
--- words that name a text's task enter no drill
+-- arguments that name a text's task enter no drill
 other_entered : (m : ArgMatches) (task : TextTask) → subcommand_name_of m ≡ Some (name_of task) → subcommand_name_of m ≡ Some (codes "drill") → ⊥
 other_entered m task name is = no_drill task cc
 
@@ -97,7 +97,7 @@ pub no_drill_explained : (m : ArgMatches) (words : List (List ℕ)) (task : Line
 no_drill_explained m words task entered names is =
     other_entered m (as_text_task task) (entered_first m words (name_of (as_text_task task)) entered (rw names.1 (enters_explained names.0 task))) is
 
--- words that ask for a drill enter it
+-- arguments that ask for a drill enter it
 pub drill_entered : (m : ArgMatches) (words : List (List ℕ)) (task : DrillTask) → subcommand_rows_of m ≡ subcommand_in words → AsksDrill words task
     → subcommand_name_of m ≡ Some (codes "drill")
 drill_entered m words task entered asks = entered_name m (codes "drill") asks.options (entered ∙ asks.names)
@@ -135,7 +135,7 @@ out_of_range found task b is tells out range =
     let same : task ≡ found = cc in
     true_is_false b (tells.1 (subst IsDrillTask same range)) out
 
--- whether a word is the mark, by the texts of words
+-- whether an argument is the mark, by the texts of arguments
 pub mark_is : {S : Type 0} (text : S → List ℕ) (ws : List S) (b : Bool) → b ≡ list_any (λ w. bytes_eq (text w) (codes "--")) ws
     → list_any (λ word. bytes_eq word (codes "--")) (map text ws) ≡ b
 mark_is text ws b is = sym (is ∙ list_any-map (λ word. bytes_eq word (codes "--")) text ws)

@@ -18,12 +18,12 @@ pub line_fails : {T : Type 0} (app : App) (words : List (List ℕ)) (r : Result 
 unfolding line_faults
 line_fails {T} app words r e h = subst (λ (a : App). is_simple_and_free a ≡ true → FailsBy (fault_of a words) r) e h simple
 
--- words that clap takes are bad where they are no task's
+-- arguments that clap accepts are bad where they are no task's
 pub bad_why : {T : Type 0} (kinds : Kinds) (r : Result T LineFault) → kinds ≡ [] → IfErr r (λ e. e ≡ Bad) → IfErr r (IsWhy kinds)
 bad_why kinds (Ok task) none is = tt
 bad_why kinds (Err fault) none is = subst (IsWhy kinds) (sym is) (inl none)
 
--- words without a fault fail only if memory runs out
+-- arguments without a fault fail only if memory runs out
 pub only_memory : (kinds : Kinds) (e : Error) → kinds ≡ [] → HasKind kinds e → kind_of e ≡ OutOfMemory
 only_memory kinds e none has = elim (subst (λ (k : Kinds). HasKind k e) none has) [
   | inl memory ↦ memory

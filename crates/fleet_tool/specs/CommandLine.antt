@@ -14,7 +14,7 @@ use Rattle.fleet_tool.specs.TaskName.{name_of, as_text_task}
 use Rattle.fleet_tool.specs.declared.job.LinesTask.{LinesTask}
 use Rattle.fleet_tool.specs.DrillLine.{drill_shape, EncodesDrill}
 
--- the command, with a version, and its subcommands, of which the drill alone has words of its own
+-- the command, with a version, and its subcommands, of which the drill alone has arguments of its own
 abbrev pub top : App
 top = record (new_app (codes "fleet")) {
   top = record (new_app (codes "fleet")).top {
@@ -24,7 +24,7 @@ top = record (new_app (codes "fleet")) {
   };
 }
 
--- the flag that has an answer explained
+-- the flag that asks for an explained answer
 abbrev pub explain_rule : Rule
 explain_rule = record (new_rule (codes "explain")) {
   long = Some (codes "explain");
@@ -41,23 +41,23 @@ texts_app = with_subcommand (with_subcommand (with_subcommand top (lines_shape (
 abbrev pub fleet_app : App
 fleet_app = with_subcommand texts_app drill_shape
 
--- the kinds of fault that the words have
+-- the kinds of fault that the arguments have
 unfoldable pub line_faults : List (List ℕ) → Kinds
 line_faults words = fault_of fleet_app words
 
--- the subcommand that the words name, and the values of its options
+-- the subcommand that the arguments name, and the values of its options
 unfoldable pub subcommand_in : List (List ℕ) → Option (List ℕ × List Row)
 subcommand_in words = subcommand_of fleet_app words
 
--- the words are the program's and the task's
+-- the arguments are the program's name and the task's
 abbrev pub NameTask : List (List ℕ) → TextTask → Type 0
 NameTask words task = (program : List ℕ) × (words ≡ program ∷ name_of task ∷ [])
 
--- the words are the program's, the task's and the option's
+-- the arguments are the program's name, the task's and the option's
 abbrev pub NameExplained : List (List ℕ) → LinesTask → Type 0
 NameExplained words task = (program : List ℕ) × (words ≡ program ∷ name_of (as_text_task task) ∷ codes "--explain" ∷ [])
 
--- The words name the drill and encode its numbers and its size, as clap takes them: they have no fault, and no word that it leaves out.
+-- The arguments name the drill and encode its numbers and its size, as clap parses them: they have no fault, and none that it leaves out.
 pub record AsksDrill (words : List (List ℕ)) (task : DrillTask) : Type 0 where
   pub options : List Row
   pub names : subcommand_in words ≡ Some (codes "drill", options)
@@ -69,8 +69,8 @@ pub record AsksDrill (words : List (List ℕ)) (task : DrillTask) : Type 0 where
 abbrev pub IsAsking : ErrorKind → Type 0
 IsAsking kind = (kind ≡ DisplayHelp) ⊎ (kind ≡ DisplayVersion)
 
--- Why words that may have the faults of these kinds name no task: help is given where they ask for it, and they are bad where they
--- have another fault, or none but words that no task has.
+-- Why arguments that may have the faults of these kinds name no task: help is given where they ask for it, and they are bad where they
+-- have another fault, or none but are those of no task.
 abbrev pub IsWhy : Kinds → LineFault → Type 0
 IsWhy kinds (Help text) = (kind : ErrorKind) × IsAmong kind kinds × IsAsking kind
 IsWhy kinds Bad = (kinds ≡ []) ⊎ ((kind : ErrorKind) × IsAmong kind kinds × (IsAsking kind → ⊥))

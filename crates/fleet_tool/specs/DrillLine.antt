@@ -1,4 +1,4 @@
--- The words of a drill: what its options encode, and within which ranges.
+-- The arguments of a drill: what its options encode, and within which ranges.
 use Rattle.std.specs.Prelude.{◌≡◌, ◌<◌, ◌≤◌, ℕ, List, [], ◌∷◌, Option, Some, codes}
 use Rattle.std.specs.Str.Parse.{IsNumeral, digits_value, without_leading_plus}
 use Rattle.clap.specs.Words.{Row, Rule, Shape, first_of, new_app, new_rule, one_of}
@@ -13,7 +13,7 @@ IsDrillTask task = (0 < task.nodes) × (task.nodes ≤ 6) × (0 < task.workers) 
 
 -- ---- the options
 
--- an option with a number from 1 on, and the number that stands where it is left out
+-- an option with a number from 1 on, and the number where it is left out
 abbrev pub number_rule : List ℕ → ℕ → List ℕ → Rule
 number_rule name most usual = record (new_rule name) {
   long = Some name;

@@ -5,7 +5,7 @@ use Rattle.fleet_tool.specs.declared.answer.Verdict.TheVariants.{Done, BadLine, 
 use Rattle.line_stream.specs.declared.fault.RunFault.{RunFault}
 use Rattle.line_stream.specs.declared.fault.RunFault.TheVariants.{Input, Output, Memory}
 
--- 0 done, 2 a bad line, 3 a log that is not sound, 4 a device that failed, 5 no memory
+-- 0 done, 2 a bad line, 3 a log that is not sound, 4 a device that failed, 5 out of memory
 abbrev pub status_of : Result Verdict RunFault → ℕ
 status_of (Ok Done) = 0
 status_of (Ok BadLine) = 2

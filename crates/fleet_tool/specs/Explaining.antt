@@ -27,13 +27,13 @@ abbrev pub is_script : LinesTask → Bool
 is_script Run = true
 is_script Check = false
 
--- there is nothing to tell of a text: its log is sound, or nothing is wrong with the line that is told as bad
+-- there is nothing to report for a text: its log is sound, or nothing is wrong with the line that is reported as bad
 abbrev pub HasNothingToTell : LinesTask → List ℕ → Type 0
 HasNothingToTell task text =
     ((log : Rostered (List Fact)) × (log_of task text ≡ Ok log) × IsSound log.roster log.said)
     ⊎ ((at : ℕ) × (log_of task text ≡ Err at) × IsGoodLine (is_script task) (parts_at 10 text) (at - 1))
 
--- the reason names the first fault of a log, and with what else it breaks its law
+-- the reason names the first fault of a log, and the evidence of how it breaks its law
 abbrev pub IsUnsoundReason : Rostered (List Fact) → Reason → Type 0
 IsUnsoundReason log (BadLine at reason) = ⊥
 IsUnsoundReason log (Unsound fault breach) = Reports log.roster log.said fault × ReportsBreach log.roster log.said fault breach

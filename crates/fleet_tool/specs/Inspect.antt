@@ -1,4 +1,4 @@
--- What is told of a capture: one line for each line of hexadecimal digits.
+-- The description of a capture: one line for each line of hexadecimal digits.
 use Rattle.std.specs.Prelude.{ℕ, List, [], ◌∷◌, ◌++◌, length, ◌==◌, if◌then◌else◌, Option, Some, None, Result, Ok, Err, codes}
 use Rattle.std.specs.Fmt.{decimal}
 use Rattle.hex.specs.Hex.{decode_of}
@@ -31,7 +31,7 @@ delta_text d = codes "delta cuts " ++ (decimal (length d.book.cuts)
     ++ (codes " min " ++ (decimal (book_min d.book) ++ (codes " waits " ++ (decimal (length d.book.waits)
     ++ (codes " base " ++ (decimal d.base ++ (codes " pages " ++ (decimal (length d.pages) ++ (codes " records " ++ decimal (length d.records)))))))))))
 
--- what a piece brings: the head, the number of its page, or how many records
+-- what a piece contains: the head, the number of its page, or how many records
 abbrev pub content_text : PieceContent → List ℕ
 content_text (Head book anchor) = codes "head"
 content_text (Page p) = codes "page " ++ decimal p.page
@@ -41,7 +41,7 @@ content_text (Records rs) = codes "records " ++ decimal (length rs)
 abbrev pub piece_text : PieceData → List ℕ
 piece_text p = codes "piece " ++ (decimal p.index ++ (codes " of " ++ (decimal p.total ++ (codes " " ++ content_text p.content))))
 
--- what is told of a value
+-- the description of a value
 abbrev pub told : WireValue → List ℕ
 told (Fact f) = fact_text f
 told (Summary s) = summary_text s
@@ -55,21 +55,21 @@ value_text (Err fault) = codes "wire " ++ decimal (fault_number fault)
 
 -- ---- lines
 
--- what is told of the bytes of a line, or of digits that stand for none
+-- the description of the bytes of a line, or of digits that encode none
 abbrev pub bytes_text : Option (List ℕ) → List ℕ
 bytes_text (Some bytes) = value_text (decoded_value bytes)
 bytes_text None = codes "bad hex"
 
--- what is told of a line of digits, with its LF
+-- the description of a line of digits, with its LF
 abbrev pub line_text : List ℕ → List ℕ
 line_text digits = bytes_text (decoded (decode_of digits)) ++ codes "\n"
 
--- the parts round the LFs, one line each; the last part is a line where it is not empty
+-- the parts between the LFs, one line each; the last part is a line where it is not empty
 abbrev pub parts_text : List (List ℕ) → List ℕ
 parts_text [] = []
 parts_text (last ∷ []) = if length last == 0 then [] else line_text last
 parts_text (line ∷ next ∷ rest) = line_text line ++ parts_text (next ∷ rest)
 
--- what is told of a text
+-- the description of a text
 abbrev pub inspected : List ℕ → List ℕ
 inspected text = parts_text (parts_at 10 text)

@@ -11,7 +11,7 @@ use Rattle.script_steps.specs.declared.steps.Step.TheVariants.{Read}
 use Rattle.fleet_core.specs.declared.replies.Reply.{Reply}
 use Rattle.fleet_core.specs.declared.replies.Reply.TheVariants as reply
 
--- the bytes of a page that a step shows: only a read shows some
+-- the bytes of a page that a step yields: only a read yields any
 abbrev pub shown_bytes : Step ℕ → List ℕ → List ℕ
 shown_bytes (Read node page point offset len) image = take len (drop offset image)
 shown_bytes step image = []
@@ -25,12 +25,12 @@ answer_text false = codes "no\n"
 abbrev pub front_text : Front → List ℕ
 front_text f = codes "front " ++ (decimal f.epoch ++ (codes " " ++ (decimal f.complete ++ (codes " " ++ (decimal f.min ++ codes "\n")))))
 
--- what an answer tells that a node does not answer for
+-- the part of a summary that a node does not cover
 abbrev pub uncovered_text : Shown → List ℕ
 uncovered_text (Anchor anchor) = codes "anchor " ++ decimal anchor
 uncovered_text (Key key) = codes "key " ++ (decimal key.epoch ++ (codes " " ++ decimal key.number))
 
--- The answer line of a reply to a step, with its LF. The refusals have none, since they do not come over a sound log.
+-- The answer line of a reply to a step, with its LF. The refusals have none: they do not occur with a sound log.
 abbrev pub line_of : Step ℕ → Reply → List ℕ
 line_of step reply.Changed = codes "changed\n"
 line_of step reply.Unchanged = codes "unchanged\n"

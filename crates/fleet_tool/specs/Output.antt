@@ -18,7 +18,7 @@ use Rattle.fleet_tool.specs.declared.job.TextTask.TheVariants.{Run, Check, Inspe
 abbrev pub SaysBadLine : ℕ → List ℕ → Verdict → Type 0
 SaysBadLine at text verdict = (text ≡ codes "bad line " ++ (decimal at ++ codes "\n")) × (verdict ≡ BadLine)
 
--- the text names the first fault of the log: its place, counted from 1, and its law
+-- the text names the first fault of the log: its index, counted from 1, and its law
 pub record SaysUnsound (roster : ℕ) (facts : List Fact) (text : List ℕ) (verdict : Verdict) : Type 0 where
   pub place : ℕ
   pub law : Law
@@ -32,7 +32,7 @@ pub record SaysReplies (roster : ℕ) (script : ScriptData) (text : List ℕ) (v
   pub says : IsAnswerText roster (empty_machine script.nodes) script.facts script.steps text
   pub ends : verdict ≡ Done
 
--- the text counts the facts
+-- the text gives the number of facts
 pub record SaysSound (roster : ℕ) (facts : List Fact) (text : List ℕ) (verdict : Verdict) : Type 0 where
   pub sound : IsSound roster facts
   pub says : text ≡ codes "sound " ++ (decimal (length facts) ++ codes "\n")
@@ -48,7 +48,7 @@ abbrev pub IsCheckOutput : Result (Rostered (List Fact)) ℕ → List ℕ → Ve
 IsCheckOutput (Err at) text verdict = SaysBadLine at text verdict
 IsCheckOutput (Ok log) text verdict = SaysUnsound log.roster log.said text verdict ⊎ SaysSound log.roster log.said text verdict
 
--- what is told of the input, whatever it says
+-- the description of the input, whatever it says
 abbrev pub IsInspectOutput : List ℕ → List ℕ → Verdict → Type 0
 IsInspectOutput input text verdict = (text ≡ inspected input) × (verdict ≡ Done)
 

@@ -4,7 +4,7 @@ use Rattle.std.specs.Str.{bytes_eq}
 use Rattle.fleet_drill.specs.declared.running.Size.TheVariants.{Small}
 use Rattle.fleet_tool.specs.CommandLine.{AsksDrill}
 
--- 3 nodes, 4 workers of each kind, and the small log; the program's own name is a word too, and no mark
+-- 3 nodes, 4 workers of each kind, and the small log; the program's own name is an argument too, and not `--`
 abbrev pub PlainDrill : Type 0
 PlainDrill =
     (program : List ℕ) → bytes_eq program (codes "--") ≡ false

@@ -12,7 +12,7 @@ use Rattle.fleet_core.specs.FleetState.{FleetState}
 use Rattle.fleet_core.specs.declared.replies.Reply.{Reply}
 use Rattle.fleet_tool.specs.Lines.{lines_of}
 
--- a take gives the node the fact at its place, counted from 1
+-- a take gives the node the fact at its index, counted from 1
 abbrev pub IsStepOf : List Fact → Step ℕ → Step Fact → Type 0
 IsStepOf facts asked step = SameBut (λ place fact. slice_get facts (place - 1) ≡ Some fact) asked step
 
@@ -30,7 +30,7 @@ pub record IsAnswerText (roster : ℕ) (m : Machine) (facts : List Fact) (asked 
 abbrev pub AnswersSteps : FleetState → List Fact → List (Step ℕ) → List ℕ → Type 0
 AnswersSteps fleet facts asked text = (roster : ℕ) (m : Machine) → IsSound roster facts → MeansMachine roster facts m fleet → IsAnswerText roster m facts asked text
 
--- the line is a fleet's answer to a step, and whatever it then answers to others stands behind
+-- the line is a fleet's answer to a step, and its answers to any later steps follow
 abbrev pub AnswersStep : FleetState → List Fact → Step ℕ → List ℕ → FleetState → Type 0
 AnswersStep old facts step line new = (others : List (Step ℕ)) (rest : List ℕ) → AnswersSteps new facts others rest
     → AnswersSteps old facts (step ∷ others) (line ++ rest)

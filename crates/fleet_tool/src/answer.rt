@@ -1,4 +1,4 @@
-//! The text that answers an input.
+//! The output text for an input.
 
 ghost use Rattle.std.specs.Prelude.{◌≡◌, ◌++◌, ℕ, List, IfOk, length, All, codes, string_bytes};
 ghost use Rattle.std.specs.Fmt.{decimal};
@@ -19,7 +19,7 @@ use redo_core::LawFault;
 use script_text::{Log, Script, ScriptError, read_facts, read_script, worded_line};
 use std::alloc::{AllocError, Global};
 
-/// How an answered input ended, beside its text.
+/// The outcome of an answered input, apart from its text.
 #[derive(Clone, Copy)]
 pub enum Verdict {
     Done,
@@ -29,7 +29,7 @@ pub enum Verdict {
     Unsound,
 }
 
-/// What is written, and how the call ends.
+/// The text to write, and the outcome.
 #[derive(Drop)]
 pub struct Answered {
     pub text: String,
@@ -57,7 +57,7 @@ fn unsound(alloc: Global, fault: LawFault) -> Result<Answered, AllocError>
     })
 }
 
-/// The answers of a fleet of the script's nodes.
+/// The replies of a fleet with the script's number of nodes.
 fn replies(alloc: Global, script: &Script) -> Result<Answered, AllocError>
     requires sound { IsSound script.now.roster script.now.facts.items }
     requires range { All (IsInRange (length script.now.facts.items)) script.now.steps.items }
@@ -70,7 +70,7 @@ fn replies(alloc: Global, script: &Script) -> Result<Answered, AllocError>
     })
 }
 
-// The script of a text, which is let go: a long one takes as much room as what it says.
+// The script that a text encodes. Drops the text: a long one takes as much memory as its script.
 fn script_in(alloc: Global, text: Vec<u8>) -> Result<Script, ScriptError>
     ensures script { Gives script_data result (script_of text.items) }
     ensures range { IfOk result (λ s. All (IsInRange (length s.facts.items)) s.steps.items) }
@@ -78,7 +78,7 @@ fn script_in(alloc: Global, text: Vec<u8>) -> Result<Script, ScriptError>
     read_script(alloc, &text)
 }
 
-// The log of a text, which is let go likewise.
+// The log that a text encodes. Drops the text too.
 fn log_in(alloc: Global, text: Vec<u8>) -> Result<Log, ScriptError>
     ensures { Gives log_data result (facts_of text.items) }
 {
@@ -132,7 +132,7 @@ fn answer_capture(alloc: Global, input: &[u8]) -> Result<Answered, AllocError>
     })
 }
 
-/// The text that answers an input to the task. It fails only if memory runs out.
+/// The task's output for an input. Fails only if memory runs out.
 pub fn answer(alloc: Global, task: TextTask, input: Vec<u8>) -> Result<Answered, AllocError>
     ensures { IfOk result (λ a. IsOutputOf task input.items (string_bytes a.text) a.verdict) }
 {

@@ -1,4 +1,4 @@
-//! The words of a drill.
+//! The arguments of a drill.
 
 ghost use Rattle.std.specs.Prelude.{◌≡◌, ◌<◌, ◌^◌, ◌↔◌, ℕ, IfOk, IfSome, IsTrue, Some, codes, false};
 ghost use Rattle.clap.specs.Words.{shape_of, rule_of, found_of, rows_of, first_of, one_of};
@@ -10,7 +10,7 @@ use clap::{Arg, ArgMatches, Command};
 use fleet_drill::{MAX_NODES, MAX_WORKERS, Size};
 use std::alloc::{AllocError, Global};
 
-/// A drill: how many nodes, how many workers of each kind, and the size of its log.
+/// A drill: the number of nodes, the number of workers of each kind, and the size of its log.
 #[derive(Clone, Copy)]
 pub struct DrillTask {
     pub nodes: usize,
@@ -19,7 +19,7 @@ pub struct DrillTask {
 }
 
 impl DrillTask {
-    /// Whether the numbers are within their ranges.
+    /// Whether the numbers are in range: 1 to 6 nodes, and 1 to 16 workers of each kind.
     pub fn is_in_range(self) -> bool
         ensures { IsTrue result ↔ IsDrillTask self }
     {
@@ -27,7 +27,7 @@ impl DrillTask {
     }
 }
 
-// An option that takes a number from 1 on.
+// An option that takes a number from 1 to `most`.
 fn number_arg<'a>(
     alloc: Global,
     name: &'a str,
@@ -83,7 +83,7 @@ fn size_of(name: &str) -> Option<Size>
     }
 }
 
-// The number that an option was given.
+// The number given for an option.
 fn number_in(options: &ArgMatches<'_>, id: &str) -> Option<usize>
     ensures encoded { IfSome result (EncodesNumber (one_of id.now (rows_of (found_of options.now)))) }
     ensures known { (n : ℕ) → n < 2 ^ 64 → EncodesNumber (one_of id.now (rows_of (found_of options.now))) n → result ≡ Some n }
@@ -99,7 +99,7 @@ fn size_in(options: &ArgMatches<'_>) -> Option<Size>
     size_of(options.get_str("size")?)
 }
 
-/// The drill that its options encode, which may be out of range.
+/// The drill that the options encode, which may be out of range; None where they encode none.
 pub fn drill_in(options: &ArgMatches<'_>) -> Option<DrillTask>
     ensures encoded { IfSome result (EncodesDrill (rows_of (found_of options.now))) }
     ensures known { (task : DrillTask) → IsDrillTask task → EncodesDrill (rows_of (found_of options.now)) task → result ≡ Some task }

@@ -11,11 +11,11 @@ use std::io::Write;
 use std::sync::Wait;
 use std::thread::Threads;
 
-/// Runs a drill, and writes what comes of it: the number of facts, the front of each node, the beginning of each page, and
-/// whether all nodes mean the same.
+/// Runs a drill and writes its results: the number of facts, the front of each node, the beginning of each page, and whether
+/// all nodes mean the same.
 ///
-/// Errors: `Output` only where the writer failed, which then has a beginning of the text; `Memory`, also where a worker could not
-/// be started, and then the writer is as it was.
+/// Errors: `Output` only where the writer failed, which then has a prefix of the text; `Memory`, also where a worker could not
+/// be started, and then the writer is unchanged.
 pub fn drill_text<R: Threads + Wait + Sync, W: Write>(
     rt: &R,
     alloc: Global,

@@ -6,8 +6,8 @@ ghost use Rattle.fleet_tool.specs.Ending.{status_of, words_of};
 use crate::answer::Verdict;
 use line_stream::RunFault;
 
-/// The status of what a text call returned: 0 done, 2 a bad line, 3 a log that is not sound, 4 a device that failed,
-/// 5 no memory.
+/// The exit status for the result of a text call: 0 done, 2 a bad line, 3 a log that is not sound, 4 a device that failed,
+/// 5 out of memory.
 pub fn status_of(ended: Result<Verdict, RunFault>) -> u8
     ensures { result ≡ status_of ended }
 {
@@ -21,7 +21,7 @@ pub fn status_of(ended: Result<Verdict, RunFault>) -> u8
     }
 }
 
-/// What is said of it on standard error; nothing where there is an answer, whatever it says.
+/// The message for standard error; empty where there is an answer, whatever it says.
 pub fn words_of(ended: Result<Verdict, RunFault>) -> &'static str
     ensures { result.now ≡ words_of ended }
 {

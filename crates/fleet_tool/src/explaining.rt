@@ -13,18 +13,18 @@ use script_text::{Log, Script, ScriptError, read_facts, read_script};
 use std::alloc::{AllocError, Global};
 use thiserror::Error;
 
-/// Why a text is not answered by what it asks for.
+/// Why the answer to a text names a bad line or a fault.
 #[derive(Clone, Copy, Debug, PartialEq, Eq, Error)]
 pub enum Reason {
     /// The number of the bad line, from 1, and why it is bad.
     #[error("line {at}: {reason}")]
     BadLine { at: usize, reason: TextReason },
-    /// The first fault of the log, its place from 1, and with what else the fact breaks its law.
+    /// The first fault of the log, its index counted from 1, and the evidence of how the fact breaks its law.
     #[error("fact {} breaks law {}: {breach}", fault.place, fault.law.number())]
     Unsound { fault: LawFault, breach: Breach },
 }
 
-// The log of a text of the task: of a script what stands before `go`.
+// The log that a text of the task encodes: of a script the lines before `go`.
 fn read_log(alloc: Global, task: LinesTask, text: &[u8]) -> Result<Log, ScriptError>
     ensures { Gives log_data result (log_of task text.now) }
 {
@@ -46,7 +46,7 @@ fn is_script(task: LinesTask) -> bool
     }
 }
 
-// Why the line is bad, which the reader of the task told as such.
+// Why the line is bad that the task's reader reported.
 fn bad_line(
     alloc: Global,
     task: LinesTask,
@@ -62,7 +62,7 @@ fn bad_line(
     }
 }
 
-// With what the first fault of the log breaks its law, where the log is not sound.
+// The evidence of how the log's first fault breaks its law, where the log is not sound.
 fn unsound(alloc: Global, log: &Log) -> Result<Option<Reason>, AllocError>
     ensures { let read = log_data log.now in IfOk result (λ found. MatchOption found (IsSound read.roster read.said) (IsUnsoundReason read)) }
 {
@@ -78,7 +78,7 @@ fn unsound(alloc: Global, log: &Log) -> Result<Option<Reason>, AllocError>
     }
 }
 
-/// Why the task's answer to the text names a bad line or a fault of its log; None where it does neither. It fails only if memory runs out.
+/// Why the task's answer to the text names a bad line or a fault of its log; None where it does neither. Fails only if memory runs out.
 pub fn reason_of(alloc: Global, task: LinesTask, text: &[u8]) -> Result<Option<Reason>, AllocError>
     ensures { IfOk result (λ found. MatchOption found (HasNothingToTell task text.now) (IsTrueReason task text.now)) }
 {

@@ -1,4 +1,4 @@
-//! What the program says of itself.
+//! The help texts of the program.
 
 pub const VERSION: &str = "1.0";
 
@@ -27,7 +27,7 @@ pub const RUN: &str = "Input, a line each; fields stand between single spaces:
 Statuses: 0 answered, 2 a bad line, 3 a log that is not sound, 4 a device that failed, 5 no memory.
 All forms and answers stand in docs/FORMATS.md.";
 
-/// What stands beside the option of `run` and `check`.
+/// The help of the option of `run` and `check`.
 pub const EXPLAIN: &str =
     "Also says on standard error why a line is bad, or with which fact a law is broken";
 
@@ -38,7 +38,7 @@ Output: sound and the number of facts, or the first fact that breaks a law, or t
 Statuses: 0 sound, 2 a bad line, 3 a log that is not sound, 4 a device that failed, 5 no memory.
 The laws stand in docs/RULES.md, the forms in docs/FORMATS.md.";
 
-/// What stands beside the drill in the list of tasks.
+/// The drill's line in the list of tasks.
 pub const DRILL_IN_A_LINE: &str =
     "Runs nodes of one log in threads: --nodes 1 to 6, --workers 1 to 16, --size small or large";
 

@@ -1,4 +1,4 @@
-//! What is told of a capture: one line for each line of hexadecimal digits.
+//! The description of a capture: one line for each line of hexadecimal digits.
 
 ghost use Rattle.std.specs.Prelude.{◌≡◌, ◌++◌, IfOk, OnOk, codes, string_bytes};
 ghost use Rattle.std.specs.Fmt.{decimal};
@@ -68,7 +68,7 @@ fn piece_text(alloc: Global, piece: &Piece) -> Result<String, AllocError>
     format!(in alloc; "piece {index} of {total} {content}")
 }
 
-/// What is told of a value.
+/// The description of a value.
 fn told(alloc: Global, value: &WireValue) -> Result<String, AllocError>
     ensures { IfOk result (λ s. string_bytes s ≡ told value.now) }
 {
@@ -80,7 +80,7 @@ fn told(alloc: Global, value: &WireValue) -> Result<String, AllocError>
     }
 }
 
-/// What is told of the bytes of a line.
+/// The description of the bytes of a line.
 fn value_text(alloc: Global, bytes: &[u8]) -> Result<String, AllocError>
     ensures { IfOk result (λ s. string_bytes s ≡ value_text (decoded_value bytes.now)) }
 {
@@ -91,7 +91,7 @@ fn value_text(alloc: Global, bytes: &[u8]) -> Result<String, AllocError>
     }
 }
 
-/// Appends what is told of a line of digits, and an LF.
+/// Appends the description of a line of digits, and an LF.
 fn put_line(alloc: Global, text: &mut String, digits: &[u8]) -> Result<(), AllocError>
     ensures { OnOk result (string_bytes text.new ≡ string_bytes text.old ++ line_text digits.now) }
 {
@@ -105,7 +105,7 @@ fn put_line(alloc: Global, text: &mut String, digits: &[u8]) -> Result<(), Alloc
     text.push_str("\n")
 }
 
-/// What is told of the text, a line for each of its lines. It fails only if memory runs out.
+/// The description of a capture, a line for each of its lines. Fails only if memory runs out.
 pub fn inspected(alloc: Global, input: &[u8]) -> Result<String, AllocError>
     ensures { IfOk result (λ s. string_bytes s ≡ inspected input.now) }
 {

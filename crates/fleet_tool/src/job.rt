@@ -17,7 +17,7 @@ use std::convert::AsStr;
 use std::fmt;
 use thiserror::Error as ErrorTraits;
 
-/// An answer to a script, to a log, or to a capture.
+/// A task over a text: a script, a log, or a capture.
 #[derive(Clone, Copy)]
 pub enum TextTask {
     Run,
@@ -25,7 +25,7 @@ pub enum TextTask {
     Inspect,
 }
 
-/// An answer to a script or to a log, whose lines may be bad and whose facts may break a law.
+/// A task over lines, a script or a log: a line may be bad, and a fact may break a law.
 #[derive(Clone, Copy)]
 pub enum LinesTask {
     Run,
@@ -44,7 +44,7 @@ impl LinesTask {
     }
 }
 
-/// What the command line asks for: an answer to what stands on standard input, one that standard error explains, or a drill.
+/// What the command line asks for: an answer to standard input, the same with a reason on standard error, or a drill.
 #[derive(Clone, Copy)]
 pub enum Task {
     Text(TextTask),
@@ -159,8 +159,7 @@ fn fault_of(alloc: Global, error: Error) -> LineFault
     }
 }
 
-/// What clap says of words that it does not take, and how the program is used. None where it takes them, or memory is wanting for the
-/// text.
+/// The message of clap for arguments that it rejects, with the usage. None where it accepts them, or the text cannot be allocated.
 pub(crate) fn complaint<S: AsStr>(alloc: Global, words: &[S]) -> Option<String> {
     match command(alloc).ok()?.try_get_matches_from(words) {
         Ok(_) => None,
@@ -168,7 +167,7 @@ pub(crate) fn complaint<S: AsStr>(alloc: Global, words: &[S]) -> Option<String> 
     }
 }
 
-/// The task of this name; `Bad` where none has it.
+/// The task with this name; `Bad` where there is none.
 fn task_of(name: &str) -> Result<TextTask, LineFault>
     ensures named { IfOk result (λ task. name.now ≡ name_of task) }
     ensures known { (task : TextTask) → name.now ≡ name_of task → result ≡ Ok task }
@@ -182,7 +181,7 @@ fn task_of(name: &str) -> Result<TextTask, LineFault>
     }
 }
 
-// The task of this name and this option; `Bad` where they are no such ones.
+// The task with this name and this option; `Bad` where no task has both.
 fn explained_of(name: &str, option: &str) -> Result<LinesTask, LineFault>
     ensures named { IfOk result (λ task. name.now ≡ name_of (as_text_task task)) }
     ensures option { IfOk result (λ _. option.now ≡ codes "--explain") }
@@ -196,7 +195,7 @@ fn explained_of(name: &str, option: &str) -> Result<LinesTask, LineFault>
     }
 }
 
-// The task over standard input that the words name, by themselves or with the option.
+// The task over standard input that the arguments name, alone or with the option.
 fn text_task_of<S: AsStr>(words: &[S]) -> Result<Task, LineFault>
     ensures text { (task : TextTask) → result ≡ Ok (Task.Text task) → (program word : S) × (words.now ≡ program ∷ word ∷ []) × (S.text word ≡ name_of task) }
     ensures explained { (task : LinesTask) → result ≡ Ok (Task.Explained task) → (program word option : S) × (words.now ≡ program ∷ word ∷ option ∷ [])
@@ -219,18 +218,18 @@ fn text_task_of<S: AsStr>(words: &[S]) -> Result<Task, LineFault>
     }
 }
 
-// Whether a word is `--`, behind which no word is an option: clap leaves it out.
+// Whether an argument is `--`, after which none is an option: clap leaves it out.
 fn has_mark<S: AsStr>(words: &[S]) -> bool
     ensures { result ≡ list_any (λ word. bytes_eq (S.text word) (codes "--")) words.now }
 {
     words.iter().any(|word| word.as_str() == "--")
 }
 
-/// The task that the words of the command line name; the first word is the program's. A drill is within its ranges.
+/// The task that the command-line arguments name; the first is the program's name. A drill is within its ranges.
 ///
-/// `--explain` stands behind `run` or `check` alone.
+/// `--explain` is accepted only after `run` or `check`.
 ///
-/// Errors: `Help` where the words ask for it or for the version, `Bad` for other words than the task's own, `Memory`.
+/// Errors: `Help` where the arguments ask for it or for the version, `Bad` where they are not those of a task, `Memory`.
 pub fn job_of<S: AsStr>(alloc: Global, words: &[S]) -> Result<Task, LineFault>
     ensures text { (task : TextTask) → result ≡ Ok (Task.Text task) → (program word : S) × (words.now ≡ program ∷ word ∷ []) × (S.text word ≡ name_of task) }
     ensures explained { (task : LinesTask) → result ≡ Ok (Task.Explained task) → (program word option : S) × (words.now ≡ program ∷ word ∷ option ∷ [])
@@ -259,6 +258,6 @@ pub fn job_of<S: AsStr>(alloc: Global, words: &[S]) -> Result<Task, LineFault>
         }
         return Ok(Task::Drill(task));
     }
-    // What else a task might be given, clap has refused, or it is `--`, which clap would leave out.
+    // Clap has rejected any other argument of a task, except `--`, which it would leave out.
     text_task_of(words)
 }

@@ -1,4 +1,4 @@
-//! The laws of outputs and of drills.
+//! The theorems about outputs and about drills.
 ghost use Rattle.fleet_tool.specs.OneOutput.{OneOutput};
 ghost use Rattle.fleet_tool.specs.PlainDrill.{PlainDrill};
 
@@ -7,7 +7,7 @@ pub fn one_output()
     ensures { OneOutput }
 {}
 
-/// The word `drill` alone asks for 3 nodes, 4 workers of each kind and the small log.
+/// The argument `drill` alone asks for 3 nodes, 4 workers of each kind and the small log.
 pub fn plain_drill()
     ensures { PlainDrill }
 {}

@@ -1,14 +1,14 @@
 //! Texts in, texts out, over any reader and writer; and the program `fleet` over any runtime.
 //!
-//! `run_text` answers a script with the replies of a fleet, `check_text` answers a log with its soundness, `inspect_text` tells
-//! what each line of a capture encodes. What they write is the output that the definitions in `specs/` give to the whole input, for
-//! every input whose bytes the reader tells; an input has just one (`laws`). The whole input is read before anything is written;
-//! an error says which device failed, or that memory ran out, and after `Input` and `Memory` nothing was written.
+//! `run_text` answers a script with the replies of a fleet, `check_text` answers a log with its soundness, `inspect_text` describes
+//! what each line of a capture encodes. They write the output that the definitions in `specs/` give for the whole input, for
+//! every input whose bytes the reader specifies; an input has just one (`laws`). They read the whole input before they write anything;
+//! an error names the device that failed, or says that memory ran out, and after `Input` and `Memory` nothing was written.
 //!
-//! `explain_text` answers as the first two do, and gives the reason of a bad line or of a fault, which is true of the text.
+//! `explain_text` answers as the first two do, and returns a true reason of a bad line or of a fault.
 //!
-//! `drill_text` reads nothing: it runs a drill in threads, and writes what comes of it once the whole text is there. `job_of` reads
-//! the command line, and asks for drills of 1 to 6 nodes and 1 to 16 workers of each kind alone.
+//! `drill_text` reads nothing: it runs a drill in threads, and writes the results once the whole text is complete. `job_of` parses
+//! the command line, and accepts only drills of 1 to 6 nodes and 1 to 16 workers of each kind.
 #![tactic(auto)]
 
 mod answer;

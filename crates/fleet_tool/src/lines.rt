@@ -15,7 +15,7 @@ use script_text::worded_line;
 use segment_core::Front;
 use std::alloc::{AllocError, Global};
 
-/// The bytes of a page that the step shows: only a read shows some.
+/// The bytes of a page that the step yields: only a read yields any.
 fn shown_bytes<'a>(step: Step<usize>, page: &'a Page) -> &'a [u8]
     requires { ShowsInside step }
     ensures { result.now ≡ shown_bytes step page.now }
@@ -29,7 +29,7 @@ fn shown_bytes<'a>(step: Step<usize>, page: &'a Page) -> &'a [u8]
     }
 }
 
-/// Appends the line that shows these bytes.
+/// Appends the line of these bytes, in hexadecimal.
 fn put_page(alloc: Global, bytes: &[u8], text: &mut String) -> Result<(), AllocError>
     ensures { OnOk result (string_bytes text.new ≡ string_bytes text.old ++ (codes "page " ++ (encode_lower bytes.now ++ codes "\n"))) }
 {
@@ -39,7 +39,7 @@ fn put_page(alloc: Global, bytes: &[u8], text: &mut String) -> Result<(), AllocE
     text.push_str("\n")
 }
 
-/// Appends the line of a word and numbers.
+/// Appends the line of a keyword and numbers.
 fn put_numbers(
     alloc: Global,
     word: &str,
@@ -51,7 +51,7 @@ fn put_numbers(
     text.push_str(&worded_line(alloc, word, numbers)?)
 }
 
-/// The same of one number.
+/// Appends the line of a keyword and one number.
 fn put_number(alloc: Global, word: &str, number: u64, text: &mut String) -> Result<(), AllocError>
     ensures { OnOk result (string_bytes text.new ≡ string_bytes text.old ++ worded_line word.now (number ∷ [])) }
 {
@@ -69,7 +69,7 @@ fn put_front(alloc: Global, front: &Front, text: &mut String) -> Result<(), Allo
     )
 }
 
-/// Appends the line of what of a summary a node does not answer for.
+/// Appends the line for the part of a summary that a node does not cover.
 fn put_uncovered(alloc: Global, shown: Shown, text: &mut String) -> Result<(), AllocError>
     ensures { OnOk result (string_bytes text.new ≡ string_bytes text.old ++ (codes "uncovered " ++ (uncovered_text shown ++ codes "\n"))) }
 {
@@ -86,7 +86,7 @@ fn put_uncovered(alloc: Global, shown: Shown, text: &mut String) -> Result<(), A
     }
 }
 
-/// Appends the answer line of a reply to a step. A step that lacked memory is an error too.
+/// Appends the answer line of a reply to a step. Fails where memory runs out, here or in the step.
 pub fn put_line(
     alloc: Global,
     step: Step<usize>,

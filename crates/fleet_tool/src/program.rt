@@ -16,24 +16,24 @@ use std::sync::Wait;
 use std::thread::Threads;
 use std::{env, io};
 
-/// What the program is called in its help, whatever path it was called by.
+/// The program's name in its help, whatever path it was started by.
 const NAME: &[u8] = b"fleet";
 
-/// A bad command line.
+/// The status for a bad command line.
 const BAD: u8 = 2;
 
-/// The output of the help failed.
+/// The status where the output of the help failed.
 const DEVICE: u8 = 4;
 
 const MEMORY: u8 = 5;
 
-/// Says why on standard error, and gives the status.
+/// Prints the reason on standard error, and returns the status.
 fn failed(rt: &impl Eprint, why: &str, status: u8) -> ExitCode {
     let _ = rt.eprintln(format_args!("fleet: {why}"));
     ExitCode::from(status)
 }
 
-/// Says on standard error that the command line is bad, and then what clap has to say of it.
+/// Prints on standard error that the command line is bad, and then clap's message.
 fn failed_line(rt: &(impl Eprint + AllocGlobal), words: &[String]) -> ExitCode {
     let status = failed(rt, "bad command line", BAD);
     if let Some(said) = complaint(rt.alloc(), words) {
@@ -42,7 +42,7 @@ fn failed_line(rt: &(impl Eprint + AllocGlobal), words: &[String]) -> ExitCode {
     status
 }
 
-/// The status of what a text call returned, after its words on standard error.
+/// The status for the result of a text call, after its message on standard error.
 fn status_after(rt: &impl Eprint, ended: Result<Verdict, RunFault>) -> ExitCode {
     let words = words_of(ended);
     if !words.is_empty() {
@@ -51,7 +51,7 @@ fn status_after(rt: &impl Eprint, ended: Result<Verdict, RunFault>) -> ExitCode 
     ExitCode::from(status_of(ended))
 }
 
-/// From standard input to standard output.
+/// Answers standard input on standard output.
 fn answer_input(rt: &(impl Input + Print + Eprint + AllocGlobal), task: TextTask) -> ExitCode {
     let mut reader = Watched::new(rt.reader());
     let mut writer = Watched::new(io::writer(rt));
@@ -65,7 +65,7 @@ fn answer_input(rt: &(impl Input + Print + Eprint + AllocGlobal), task: TextTask
     status_after(rt, ended)
 }
 
-/// The same, and the reason on standard error.
+/// Does the same, and prints the reason on standard error.
 fn explain_input(rt: &(impl Input + Print + Eprint + AllocGlobal), task: LinesTask) -> ExitCode {
     let mut reader = Watched::new(rt.reader());
     let mut writer = Watched::new(io::writer(rt));
@@ -78,7 +78,7 @@ fn explain_input(rt: &(impl Input + Print + Eprint + AllocGlobal), task: LinesTa
     status_after(rt, ended.map(|explained| explained.verdict))
 }
 
-/// A drill, to standard output.
+/// Runs a drill, with its results on standard output.
 fn run_drill<R: Print + Eprint + AllocGlobal + Threads + Wait + Sync>(
     rt: &R,
     task: DrillTask,
@@ -95,10 +95,10 @@ fn run_drill<R: Print + Eprint + AllocGlobal + Threads + Wait + Sync>(
     status_after(rt, ended.map(|()| Verdict::Done))
 }
 
-/// What the program `fleet` does, by its command line: an answer from standard input to standard output, perhaps with its reason on
-/// standard error, a drill, or the help.
+/// The program `fleet`. By its command line it answers standard input on standard output, perhaps with the reason on standard
+/// error, runs a drill, or prints the help.
 ///
-/// Statuses: 0 done, 2 a bad line or a bad command line, 3 a log that is not sound, 4 a device that failed, 5 no memory.
+/// Statuses: 0 done, 2 a bad line or a bad command line, 3 a log that is not sound, 4 a device that failed, 5 out of memory.
 pub fn run_program<R: Env + Input + Print + Eprint + AllocGlobal + Threads + Wait + Sync>(
     rt: &R,
 ) -> ExitCode {

@@ -15,7 +15,7 @@ use line_stream::{RunFault, Watched, read_all, write_all};
 use std::alloc::{AllocError, Global};
 use std::io::{Read, Write};
 
-/// Reads all there is, and writes the answer of the task to it and nothing else.
+/// Reads the whole input, and writes the task's answer to it and nothing else.
 fn answer_text<R: Read, W: Write>(
     alloc: Global,
     task: TextTask,
@@ -32,10 +32,10 @@ fn answer_text<R: Read, W: Write>(
     Ok(output.verdict)
 }
 
-/// Answers a script: its least bad line, or the first fault of its log, or the replies of a fleet to its steps.
+/// Answers a script: its first bad line, or the first fault of its log, or the replies of a fleet to its steps.
 ///
-/// Errors: `Input` and `Output` only where that device failed, `Memory`. After `Input` and `Memory` the writer is as it was;
-/// after `Output` it has a beginning of the answer.
+/// Errors: `Input` and `Output` only where that device failed, `Memory`. After `Input` and `Memory` the writer is unchanged;
+/// after `Output` it has a prefix of the answer.
 pub fn run_text<R: Read, W: Write>(
     alloc: Global,
     reader: &mut Watched<R>,
@@ -48,7 +48,7 @@ pub fn run_text<R: Read, W: Write>(
     answer_text(alloc, TextTask::Run, reader, writer)
 }
 
-/// Answers a log: its least bad line, or its first fault, or the number of its facts.
+/// Answers a log: its first bad line, or its first fault, or the number of its facts.
 ///
 /// Errors as for `run_text`.
 pub fn check_text<R: Read, W: Write>(
@@ -63,14 +63,14 @@ pub fn check_text<R: Read, W: Write>(
     answer_text(alloc, TextTask::Check, reader, writer)
 }
 
-/// How an answered script or log ended, and why where its text names a bad line or a fault.
+/// The outcome of an answered script or log, and the reason where its text names a bad line or a fault.
 #[derive(Clone, Copy)]
 pub struct Explained {
     pub verdict: Verdict,
     pub reason: Option<Reason>,
 }
 
-// The text that answers an input to the task, how it ends, and why.
+// The task's output for an input, the outcome, and the reason.
 fn answer_and_reason(
     alloc: Global,
     task: LinesTask,
@@ -83,8 +83,7 @@ fn answer_and_reason(
     Ok((text, Explained { verdict, reason }))
 }
 
-/// Answers a script or a log as `run_text` and `check_text` do, and gives a reason that is true where the text names a bad line or a
-/// fault.
+/// Answers a script or a log as `run_text` and `check_text` do, and returns a true reason where the text names a bad line or a fault.
 ///
 /// Errors as for `run_text`.
 pub fn explain_text<R: Read, W: Write>(
@@ -104,8 +103,8 @@ pub fn explain_text<R: Read, W: Write>(
     Ok(explained)
 }
 
-/// Tells what each line of hexadecimal digits encodes: a fact's line, what a summary, a delta or a piece of a snapshot holds,
-/// the number of the first wire fault, or `bad hex`.
+/// Describes what each line of hexadecimal digits encodes: a fact's line, the counts and points of a summary or a delta, the contents
+/// of a piece of a snapshot, the number of the first wire fault, or `bad hex`.
 ///
 /// Errors as for `run_text`.
 pub fn inspect_text<R: Read, W: Write>(

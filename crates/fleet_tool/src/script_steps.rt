@@ -19,7 +19,7 @@ fn step_of(facts: &[Fact], step: Step<usize>) -> Result<Step<Fact>, AllocError>
     step.naming(|place| facts[place - 1].copy())
 }
 
-/// Carries out a step; a take's fact is not copied once more.
+/// Carries out a step; a take's fact is not copied again.
 fn carry_out(fleet: &mut Fleet, step: Step<Fact>) -> Reply
     ensures { FollowsStep fleet.old step result fleet.new }
 {
@@ -29,7 +29,7 @@ fn carry_out(fleet: &mut Fleet, step: Step<Fact>) -> Reply
     }
 }
 
-/// Carries out a step, and appends its answer line. A step that lacked memory is an error too.
+/// Carries out a step, and appends its answer line. Fails where memory runs out, here or in the step.
 fn put_answer(
     alloc: Global,
     fleet: &mut Fleet,
@@ -45,8 +45,8 @@ fn put_answer(
     put_line(alloc, step, &reply, text)
 }
 
-/// The answer lines of a fleet to steps that take their facts from the list. No page is kept for an answer: each step's line is
-/// written before the next step. It fails only if memory runs out.
+/// The answer lines of a fleet to steps that take their facts from the list. Keeps no page for an answer: it writes each step's line
+/// before the next step. Fails only if memory runs out.
 pub fn answers(
     alloc: Global,
     fleet: &mut Fleet,

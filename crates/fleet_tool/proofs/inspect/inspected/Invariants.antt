@@ -3,7 +3,7 @@ use Rattle.script_text.specs.Parts.{parts_at}
 use Rattle.fleet_tool.specs.Inspect.{parts_text}
 use Rattle.fleet_tool.proofs.inspect.inspected.Given as goal
 
--- what was told, and what is to be told of the rest
+-- the description so far, and that of the rest
 abbrev pub invariant-loop-line : goal.invariant-loop-line
 invariant-loop-line l = string_bytes l.text ++ parts_text (parts_at 10 l.rest) ≡ parts_text (parts_at 10 l.input)
 

@@ -8,7 +8,7 @@ use Rattle.fleet_tool.proofs.Entered.{entered_is, no_drill_entered, no_drill_exp
 use Rattle.fleet_tool.proofs.job.job_of.Goals.{then-not-is_in_range-via-then-not-is_in_range, then-not-is_in_range-via-else-not-is_in_range+then-has_mark}
 use Rattle.fleet_tool.proofs.job.job_of.Goals as goal
 
--- ---- words that were not taken
+-- ---- arguments that were rejected
 
 pub returns-in-Err-try_get_matches_from-clause-taken : goal.returns-in-Err-try_get_matches_from-clause-taken
 returns-in-Err-try_get_matches_from-clause-taken g c = λ task names.
