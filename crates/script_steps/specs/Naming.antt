@@ -1,4 +1,4 @@
--- What takes name, and steps that differ in nothing else.
+-- The step's named fact, and steps that differ in nothing else.
 use Rattle.std.specs.Prelude.{◌≡◌}
 use Rattle.script_steps.specs.declared.steps.Step.{Step}
 use Rattle.script_steps.specs.declared.steps.Step.TheVariants.{Take, Fold, Discard, Front, Read, Join, Same, Covers, Wipe, Ask, Answer, Absorb}
@@ -18,7 +18,7 @@ NamedIs P (Ask node) = Unit {0}
 NamedIs P (Answer node message) = Unit {0}
 NamedIs P (Absorb node message) = Unit {0}
 
--- the same step, but that a take names another thing, to which R leads
+-- the same step, except that a take names another thing, to which R leads
 abbrev pub SameBut : {F G : Type 0} → (F → G → Type 0) → Step F → Step G → Type 0
 SameBut {G = G} R (Take node fact) other = (named : G) × R fact named × (other ≡ Take node named)
 SameBut R (Fold node page) other = other ≡ Fold node page

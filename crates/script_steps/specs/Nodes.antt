@@ -18,7 +18,7 @@ node_of (Ask node) = node
 node_of (Answer node message) = node
 node_of (Absorb node message) = node
 
--- the node that it looks at besides: the last that it names
+-- the other node that it reads: the last that it names
 abbrev pub other_of : {F : Type 0} → Step F → ℕ
 other_of (Take node fact) = node
 other_of (Fold node page) = node
@@ -48,7 +48,7 @@ nodes_of (Ask node) = node ∷ []
 nodes_of (Answer node message) = node ∷ []
 nodes_of (Absorb node message) = node ∷ []
 
--- the first of the numbers that is none of 1 to count
+-- the first node that is not among 1 to count
 abbrev pub first_missing : ℕ → List ℕ → Option ℕ
 first_missing count [] = None
 first_missing count (node ∷ nodes) = if node == 0 || nat_lt count node then Some node else first_missing count nodes

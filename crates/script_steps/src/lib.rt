@@ -1,6 +1,6 @@
-//! The forms of steps that a script asks of a fleet, whatever names the facts that nodes take.
+//! The forms of steps that a script asks of a fleet, for any type that names the facts that nodes take.
 //!
-//! A form stands here once: scripts, which name facts by their places, and fleets, which are given the facts, have the same steps.
+//! Each form is defined once: scripts, which name facts by their index, and fleets, which get the facts, have the same steps.
 #![tactic(auto)]
 
 mod steps;

@@ -4,8 +4,8 @@ ghost use Rattle.script_steps.specs.Naming.{NamedIs, SameBut};
 
 use std::alloc::AllocError;
 
-/// A step of a script. Nodes are counted from 1; a step may name one that its fleet has not.
-/// `F` is what a take names: a fact, or where a fact stands.
+/// A step of a script. Nodes are counted from 1; a step may name one that its fleet does not have.
+/// `F` is what a take names: a fact, or a fact's index.
 #[derive(Copy, Debug, Drop)]
 pub enum Step<F> {
     /// A fact reaches a node.
@@ -18,7 +18,7 @@ pub enum Step<F> {
         node: u16,
         page: u16,
     },
-    /// A node forgets the records that it has folded.
+    /// A node drops the records that it has folded.
     Discard {
         node: u16,
     },
@@ -26,7 +26,7 @@ pub enum Step<F> {
     Front {
         node: u16,
     },
-    /// A node is asked for a page at a read point; of its bytes, `len` from `offset` on are shown.
+    /// A node is asked for a page at a read point; the answer yields `len` of its bytes from `offset` on.
     Read {
         node: u16,
         page: u16,
@@ -49,7 +49,7 @@ pub enum Step<F> {
         node: u16,
         other: u16,
     },
-    /// A node forgets all that reached it.
+    /// A node drops all that reached it.
     Wipe {
         node: u16,
     },
@@ -57,19 +57,19 @@ pub enum Step<F> {
     Ask {
         node: u16,
     },
-    /// A node answers a message that was made by asking: that makes another one, which any node may absorb.
+    /// A node answers a message that was made by asking: that makes another message, which any node may absorb.
     Answer {
         node: u16,
         message: usize,
     },
-    /// A node takes in what an answer tells.
+    /// A node absorbs the message of an answer.
     Absorb {
         node: u16,
         message: usize,
     },
 }
 
-// Written out: derived, it has a case for each form, and is a quarter of what this crate takes to prove.
+// Written out: derived, it has a case for each form, and takes a quarter of this crate's proof time.
 impl<F: Copy> Clone for Step<F> {
     ghost is_clone = { λ step copied. copied ≡ step };
 
@@ -101,7 +101,7 @@ impl<F> Step<F> {
         }
     }
 
-    /// The node that the step looks at besides: the last that it names.
+    /// The other node that the step reads: the last that it names.
     pub fn other(&self) -> u16
         ensures { result ≡ other_of self.now }
     {
@@ -127,7 +127,7 @@ impl<F> Step<F> {
         None
     }
 
-    /// The same step, but that a take names what `name` gives for what it named. The error is that of `name`.
+    /// The same step, with the result of `name` in place of what a take names. The error is that of `name`.
     pub fn naming<G, E, N: FnOnce(F) -> Result<G, E>>(self, name: N) -> Result<Step<G>, E>
         requires { NamedIs (N.pre name) self }
         ensures ok { IfOk result (SameBut (λ f g. N.post name f (Ok g)) self) }
