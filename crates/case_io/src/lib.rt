@@ -1,6 +1,6 @@
-//! The rows of a program of rows: a line of its input, which names a call and its words and numbers, and what is printed behind it.
+//! Test cases of a program: a line of its input, which names a call and its words and numbers, and the answer printed after it.
 //!
-//! No reading fails: a number that is not there, is none, or is too great for its type, has a number in its place.
+//! No reading fails: a missing word, one that is no number, and a number too great for its type have a default.
 #![tactic(auto)]
 
 mod rows;
@@ -12,27 +12,27 @@ pub fn ends_section(line: &str) -> bool {
     line.starts_with("==")
 }
 
-/// A line's first word, and what stands behind the space that ends it.
+/// A line's first word, and what follows the space after it.
 pub fn first(line: &str) -> (&str, &str) {
     line.split_once(' ').unwrap_or((line, ""))
 }
 
-/// The word at a place of a list of words, counted from 0; an empty one where there is none.
+/// The word at an index of a list of words, counted from 0; an empty one where there is none.
 pub fn word(words: &str, place: usize) -> &str {
     words.split(' ').nth(place).unwrap_or("")
 }
 
-/// The number at a place of a list of words; the one that is given where that word is none, or is not there.
+/// The number at an index of a list of words, counted from 0; `otherwise` where that word is missing or no `u64`.
 pub fn number_or(words: &str, place: usize, otherwise: u64) -> u64 {
     word(words, place).parse::<u64>().unwrap_or(otherwise)
 }
 
-/// The number at a place of a list of words, 0 where there is none.
+/// The number at an index of a list of words, counted from 0; 0 where there is none.
 pub fn number(words: &str, place: usize) -> u64 {
     number_or(words, place, 0)
 }
 
-/// The first four numbers of a list of words, 0 where there is none.
+/// The first four numbers of a list of words, 0 in place of each that is missing.
 pub fn four(words: &str) -> [u64; 4] {
     [
         number(words, 0),
@@ -42,7 +42,7 @@ pub fn four(words: &str) -> [u64; 4] {
     ]
 }
 
-/// The first eight numbers of a list of words, the greatest one where there is none.
+/// The first eight numbers of a list of words, the greatest `u64` in place of each that is missing.
 pub fn eight(words: &str) -> [u64; 8] {
     [
         number_or(words, 0, u64::MAX),
@@ -56,12 +56,12 @@ pub fn eight(words: &str) -> [u64; 8] {
     ]
 }
 
-/// A reader or a byte; the greatest one for a number past it.
+/// A reader or a byte; 255 for a greater number.
 pub fn byte(number: u64) -> u8 {
     if number < 256 { number as u8 } else { u8::MAX }
 }
 
-/// A page, an epoch or a node; the greatest one for a number past it.
+/// A page, an epoch or a node; 65535 for a greater number.
 pub fn short(number: u64) -> u16 {
     if number < 65_536 {
         number as u16
@@ -70,7 +70,7 @@ pub fn short(number: u64) -> u16 {
     }
 }
 
-/// An index or a total of pieces; the greatest one for a number past it.
+/// An index or a total of pieces; the greatest `u32` for a greater number.
 pub fn long(number: u64) -> u32 {
     if number < 4_294_967_296 {
         number as u32
@@ -79,7 +79,7 @@ pub fn long(number: u64) -> u32 {
     }
 }
 
-/// The number of the first eight bytes.
+/// The number that the first eight bytes encode, the most significant first.
 pub fn first_number(bytes: &[u8]) -> u64 {
     let mut number = 0u64;
     for byte in bytes.iter().take(8) {
@@ -88,17 +88,17 @@ pub fn first_number(bytes: &[u8]) -> u64 {
     number
 }
 
-/// A place in a list, or a count.
+/// An index in a list, or a count.
 pub fn size(number: u64) -> usize {
     number as usize
 }
 
-/// What has a number, counted from 1.
+/// The item with a number, counted from 1; None where there is none.
 pub fn nth<T>(items: &[T], number: u64) -> Option<&T> {
     items.get(size(number).checked_sub(1)?)
 }
 
-/// What has a number, counted from 1, to be changed.
+/// The item with a number, counted from 1, to be changed; None where there is none.
 pub fn nth_mut<T>(items: &mut [T], number: u64) -> Option<&mut T> {
     items.get_mut(size(number).checked_sub(1)?)
 }

@@ -3,7 +3,7 @@ use std::alloc::Global;
 use std::fmt::Debug;
 use std::io;
 
-/// A line of the input: the name of a call and the words behind it, and where its answer is printed.
+/// A test case, one line of the input: the name of a call, the words after it, and where its answer is printed.
 #[derive(Clone, Copy)]
 pub struct Row<'a> {
     rt: &'a HostRuntime,
@@ -14,6 +14,7 @@ pub struct Row<'a> {
 }
 
 impl<'a> Row<'a> {
+    /// The test case of a line, whose answer is printed on `rt`.
     pub fn of(rt: &'a HostRuntime, line: &'a str) -> Row<'a> {
         let (name, words) = crate::first(line);
         Row {
@@ -25,42 +26,42 @@ impl<'a> Row<'a> {
         }
     }
 
-    /// The row that the words behind the name make.
+    /// The test case whose name and words are the words of this one.
     pub fn behind(&self) -> Row<'a> {
         Row::of(self.rt, self.words)
     }
 
-    /// A word of the call by its place, counted from 0; an empty one where there is none.
+    /// A word of the call by its index, counted from 0; an empty one where there is none.
     pub fn word(&self, place: usize) -> &'a str {
         word(self.words, place)
     }
 
-    /// A number of the call by its place; the one that is given where there is none.
+    /// A number of the call by its index, counted from 0; `otherwise` where there is none.
     pub fn number_or(&self, place: usize, otherwise: u64) -> u64 {
         number_or(self.words, place, otherwise)
     }
 
-    /// A number of the call by its place, 0 where there is none.
+    /// A number of the call by its index, counted from 0; 0 where there is none.
     pub fn number(&self, place: usize) -> u64 {
         number(self.words, place)
     }
 
-    /// A reader or a byte; the greatest one for a number past it.
+    /// A reader or a byte; 255 for a greater number.
     pub fn byte(&self, place: usize) -> u8 {
         byte(self.number(place))
     }
 
-    /// A page, an epoch or a node; the greatest one for a number past it.
+    /// A page, an epoch or a node; 65535 for a greater number.
     pub fn short(&self, place: usize) -> u16 {
         short(self.number(place))
     }
 
-    /// A place in a list, or a count.
+    /// An index in a list, or a count.
     pub fn index(&self, place: usize) -> usize {
         size(self.number(place))
     }
 
-    /// Prints an answer.
+    /// Prints an answer. The error is that of the output, as for all calls that print.
     pub fn told<T: Debug>(&self, answer: &T) -> io::Result<()> {
         println!(self.rt; "{}: {answer:?}", self.line)
     }
@@ -75,7 +76,7 @@ impl<'a> Row<'a> {
         self.said("Unknown")
     }
 
-    /// Prints that the call was made, where it answers nothing.
+    /// Prints that the call was made, where it returns nothing.
     pub fn done(&self) -> io::Result<()> {
         self.said("Done")
     }
@@ -85,7 +86,7 @@ impl<'a> Row<'a> {
         println!(self.rt; "{}: {kind}({part:?})", self.line)
     }
 
-    /// Prints an answer of several parts, which stand in a tuple.
+    /// Prints an answer of several parts, given as a tuple.
     pub fn parts<T: Debug>(&self, kind: &str, parts: &T) -> io::Result<()> {
         println!(self.rt; "{}: {kind}{parts:?}", self.line)
     }
@@ -95,7 +96,7 @@ impl<'a> Row<'a> {
         println!(self.rt; "{}: {number} {what}", self.line)
     }
 
-    /// Prints an answer of several lines, each of which has its end, below the call's.
+    /// Prints an answer of several lines, each with its LF, after the call's line.
     pub fn lines(&self, answer: &str) -> io::Result<()> {
         print!(self.rt; "{}:\n{answer}", self.line)
     }
