@@ -4,7 +4,7 @@ use std::alloc::{AllocError, Global};
 use std::fmt::Debug;
 use std::io;
 
-/// What a call answers. It is printed at one place: a function that gives a plain value takes half as long to prove as one that prints.
+/// What a call answers. It is printed in one function: one that returns a plain value takes half as long to prove as one that prints.
 #[derive(Drop)]
 pub enum Answer {
     /// For a name of no call, and for what is not there.
@@ -17,7 +17,7 @@ pub enum Answer {
     Found(Option<u64>),
     Key(Option<Key>),
     Page(Option<u16>),
-    /// Epoch, number, segment backlink and page of a record.
+    /// Epoch, LSN, segment backlink and page of a record.
     Record(Option<(u16, u64, u64, u16)>),
     Numbers(Vec<u64>),
     Keys(Vec<Key>),
@@ -36,7 +36,7 @@ impl Answer {
         format!(in alloc; "{kind}{parts:?}").map(Answer::Text)
     }
 
-    /// Why a call did nothing, where it was not for lack of memory.
+    /// Why a call did nothing. Where memory ran out, that is the error.
     pub fn refused<F: Debug + PartialEq>(
         alloc: Global,
         kind: &str,
@@ -50,7 +50,7 @@ impl Answer {
     }
 }
 
-/// Prints what the call of a row answers.
+/// Prints the answer of a test case's call.
 pub fn print(row: &Row, answer: &Answer) -> io::Result<()> {
     match answer {
         Answer::Unknown => row.said("?"),

@@ -21,6 +21,7 @@ pub fn both<T: Drop>(mut items: Vec<T>) -> (T, T)
     (one, other)
 }
 
+/// A value in a box. Where memory runs out the value is dropped.
 pub fn in_box<T: Drop>(alloc: Global, value: T) -> Result<Box<T>, AllocError>
     ensures { IfOk result (λ b. b.value ≡ value) }
 {

@@ -1,6 +1,6 @@
-//! Facts, logs, bytes and the plain model.
+//! Facts, logs, bytes and the reference model.
 //!
-//! A line that encodes a fact is kept, `clear` forgets those kept, and `kept` and `model` ask about them.
+//! A line that encodes a fact is stored, `clear` drops the stored facts, and `kept` and `model` query them.
 
 mod bench;
 mod bodies;

@@ -1,4 +1,4 @@
-//! What the words of rows encode: facts, bytes, and pages and images whose every byte is one.
+//! What the words of test cases encode: facts, bytes, and pages and images whose every byte is one.
 
 use crate::answer::Answer;
 use crate::keeping::add;
@@ -9,7 +9,7 @@ use redo_core::{Advance, Cut, Fact, Key, Page, Patch, Record, SharedPage, Write}
 use script_text::read_fact;
 use std::alloc::{AllocError, Global};
 
-/// Keeps the fact that a line encodes, and tells its number.
+/// Stores the fact that a line encodes, and returns its number.
 pub fn keep_fact(alloc: Global, facts: &mut Vec<Fact>, line: &str) -> Result<Answer, AllocError> {
     match read_fact(alloc, line.as_bytes())? {
         Some(fact) => add("Fact", facts, fact),
@@ -17,13 +17,13 @@ pub fn keep_fact(alloc: Global, facts: &mut Vec<Fact>, line: &str) -> Result<Ans
     }
 }
 
-/// A byte, so many times, from an offset on.
+/// A patch that writes a byte `times` times, from an offset on.
 pub fn patch(alloc: Global, offset: u16, byte: u8, times: u8) -> Result<Patch, AllocError> {
     let bytes = vec![in alloc; byte; usize::from(times)]?;
     Ok(Patch::Bytes(Write::new(offset, bytes)))
 }
 
-/// A record of one write: epoch, number, segment backlink, page, block backlink, offset, byte, and how many times the byte stands.
+/// A record of one write: epoch, LSN, segment backlink, page, block backlink, offset, byte, and how many times the byte is written.
 fn record(row: &Row, init: bool) -> Result<Option<Fact>, AllocError> {
     let patch = patch(row.alloc, row.short(5), row.byte(6), row.byte(7))?;
     let (epoch, number, back) = (row.short(0), row.number(1), row.number(2));
@@ -34,7 +34,7 @@ fn record(row: &Row, init: bool) -> Result<Option<Fact>, AllocError> {
     Ok(made.map(Fact::Record))
 }
 
-/// The key that the row names first.
+/// The key that the test case names first: epoch and LSN.
 pub fn key(row: &Row) -> Key {
     Key {
         epoch: row.short(0),
@@ -42,15 +42,17 @@ pub fn key(row: &Row) -> Key {
     }
 }
 
+/// The truncation of the first three numbers: epoch, `lo` and `hi`. None where it is malformed.
 pub fn cut(row: &Row) -> Option<Cut> {
     Cut::new(row.short(0), row.number(1), row.number(2)).ok()
 }
 
+/// The advance of the first three numbers: reader, epoch and point. None where it is malformed.
 pub fn advance(row: &Row) -> Option<Advance> {
     Advance::of_reader(row.byte(0), row.short(1), row.number(2)).ok()
 }
 
-/// The fact that a name and the row's numbers encode, or None where they encode none.
+/// The fact that a name and the test case's numbers encode, or None where they encode none.
 pub fn fact(row: &Row, name: &str) -> Result<Option<Fact>, AllocError> {
     match name {
         "record" => record(row, false),
@@ -61,6 +63,7 @@ pub fn fact(row: &Row, name: &str) -> Result<Option<Fact>, AllocError> {
     }
 }
 
+/// A page whose every byte is `byte`.
 pub fn page_of(alloc: Global, byte: u8) -> Result<Page, AllocError> {
     vec![in alloc; byte; 4096].map(Page::new)
 }
@@ -69,12 +72,13 @@ fn shared_page_of(alloc: Global, byte: u8) -> Result<SharedPage, AllocError> {
     Ok(SharedPage::new(alloc, page_of(alloc, byte)?)?)
 }
 
-/// Notes an image of a row: its page, its version and its byte.
+/// Notes an image of a test case: its page, its version and its byte.
 pub fn give(given: &mut Vec<(u16, u64, u8)>, row: &Row) -> Result<Answer, AllocError> {
     given.push((row.short(0), row.number(1), row.byte(2)))?;
     Ok(Answer::Word("Done"))
 }
 
+/// The pages of the noted images, without their versions.
 pub fn pages(
     alloc: Global,
     given: &[(u16, u64, u8)],
@@ -86,6 +90,7 @@ pub fn pages(
     Ok(pages)
 }
 
+/// The noted images.
 pub fn images(alloc: Global, given: &[(u16, u64, u8)]) -> Result<Vec<BaseImage>, AllocError> {
     let mut images = Vec::new(alloc);
     for image in given {
@@ -101,7 +106,7 @@ fn put_times(out: &mut BytesMut, bytes: &[u8], times: u16) -> Result<(), AllocEr
     Ok(())
 }
 
-/// Appends what a word encodes: hexadecimal digits, as many times as the number behind a star says. False where it encodes nothing.
+/// Appends what a word encodes: hexadecimal digits, as many times as the number after a star says. False where it encodes nothing.
 fn put_word(alloc: Global, out: &mut BytesMut, word: &str) -> Result<bool, AllocError> {
     let (digits, times) = word.split_once('*').unwrap_or((word, "1"));
     match hex::decode(alloc, digits) {
@@ -113,7 +118,7 @@ fn put_word(alloc: Global, out: &mut BytesMut, word: &str) -> Result<bool, Alloc
     }
 }
 
-/// The bytes that words encode, one behind the other, or None where one encodes nothing.
+/// The bytes that words encode, one after the other, or None where one encodes nothing.
 pub fn bytes(alloc: Global, words: &str) -> Result<Option<BytesMut>, AllocError> {
     let mut bytes = BytesMut::new(alloc);
     for word in words.split(' ') {

@@ -1,4 +1,4 @@
-//! Rows of the calls of intakes and of locks: a line names a call and its numbers, and is printed with what that answers.
+//! Test cases of the calls of intakes and of locks: a line names a call and its numbers, and is printed with its answer.
 
 pub mod diary;
 pub mod lane;
@@ -13,7 +13,7 @@ use std::io;
 use std::sync::Wait;
 use std::thread::Threads;
 
-/// Prints what a call answers, of an intake, a lock with two passes, or neither.
+/// Prints the answer of a call of an intake, of a lock with two passes, or of neither.
 pub fn answer<R: Threads + Wait + Sync>(
     rt: &R,
     lane: &mut Box<SharedFixture>,
@@ -44,7 +44,7 @@ fn of_lock<R: Threads + Wait + Sync>(
     }
 }
 
-// What a call answers that opens an intake or a lock of its own.
+// Prints the answer of a call that opens an intake or a lock of its own.
 fn of_neither<R: Threads + Wait + Sync>(rt: &R, row: &Row) -> io::Result<()> {
     match row.name {
         "relay" => print_relayed(rt, row),

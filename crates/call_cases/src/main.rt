@@ -1,7 +1,7 @@
-//! Rows of calls that no text reaches: a line of the input names a call, and is printed with what it answers.
+//! Test cases of calls that no text reaches: a line of the input names a call, and is printed with its answer.
 //!
 //! The input has a section for each kind of call, in the order of `Section`. A line that begins with "==" ends a section, and one that
-//! begins with '#' names a group of rows: both are printed as they are. A line that names no call answers '?'.
+//! begins with '#' names a group of test cases: both are printed as they are. A line that names no call answers '?'.
 #![tactic(auto)]
 
 mod answer;
@@ -29,10 +29,10 @@ use std::io;
 use std::sync::Wait;
 use std::thread::Threads;
 
-/// The log of a small drill, of which the rows of nodes and intakes speak.
+/// The log of a small drill, which the test cases of nodes and intakes use.
 pub type Log = Drill<64>;
 
-/// What the calls of each section are made on.
+/// The fixtures of all sections.
 #[derive(Drop)]
 struct Benches {
     facts: Box<fact_calls::Fixture>,
@@ -55,7 +55,7 @@ enum Section {
 }
 
 impl Section {
-    /// The section behind this one; the last one for the last.
+    /// The section after this one; the last one for the last.
     fn next(self) -> Section {
         match self {
             Section::Facts => Section::Stores,
@@ -79,7 +79,7 @@ fn new_benches(alloc: Global, roster: Roster) -> Result<Benches, AllocError> {
     })
 }
 
-// The calls of nodes and intakes print what they answer, those of the other sections give it.
+// The calls of nodes and intakes print their answers, those of the other sections return them.
 fn print_call<R: Threads + Wait + Sync>(
     rt: &R,
     benches: &mut Benches,

@@ -1,4 +1,4 @@
-//! What calls of a segment and of a log come to, as answers.
+//! The results of calls of a segment and of a log, as answers.
 
 use crate::answer::Answer;
 use crate::keeping::or_fault;
@@ -8,14 +8,17 @@ use segment_core::{CommitFault, Folded, ReadFault, Refusal, Segment, Taken};
 use segment_join::same;
 use std::alloc::{AllocError, Global};
 
+/// The answer of a refused change.
 pub fn refused(row: &Row, why: Refusal) -> Result<Answer, AllocError> {
     Answer::refused(row.alloc, "Refused", &why, &Refusal::Memory)
 }
 
+/// The answer of a refused read.
 pub fn unread(row: &Row, fault: ReadFault) -> Result<Answer, AllocError> {
     Answer::refused(row.alloc, "Unread", &fault, &ReadFault::Memory)
 }
 
+/// The answer of a take.
 pub fn taken(
     row: &Row,
     outcome: Result<Taken, Refused<Fact, Refusal>>,
@@ -35,6 +38,7 @@ pub fn page(row: &Row, read: Result<Page, ReadFault>) -> Result<Answer, AllocErr
     }
 }
 
+/// The answer of a tidy.
 pub fn tidied(row: &Row, outcome: Result<(), ReadFault>) -> Result<Answer, AllocError> {
     match outcome {
         Ok(()) => Ok(Answer::Word("Done")),
@@ -42,7 +46,7 @@ pub fn tidied(row: &Row, outcome: Result<(), ReadFault>) -> Result<Answer, Alloc
     }
 }
 
-/// The version of a fold that came back, and why.
+/// The answer of a commit; where it is refused, the version of the returned fold, and why.
 pub fn committed(
     row: &Row,
     outcome: Result<(), Refused<Folded, CommitFault>>,
@@ -60,6 +64,7 @@ fn uncommitted(row: &Row, refused: &Refused<Folded, CommitFault>) -> Result<Answ
     }
 }
 
+/// Folds a page of a segment.
 pub fn fold(segment: &mut Segment, row: &Row, page: u16) -> Result<Answer, AllocError> {
     match segment.plan_fold(page) {
         Ok(plan) => committed(row, segment.commit_fold(plan.fold())),
@@ -67,6 +72,7 @@ pub fn fold(segment: &mut Segment, row: &Row, page: u16) -> Result<Answer, Alloc
     }
 }
 
+/// Discards from a segment.
 pub fn discard(segment: &mut Segment) -> Answer {
     segment.discard();
     Answer::Word("Done")
@@ -88,7 +94,7 @@ fn numbers_of(alloc: Global, records: &[&Record]) -> Result<Vec<u64>, AllocError
     Ok(numbers)
 }
 
-/// The numbers of the records that were found.
+/// The LSNs of the records that were found.
 pub fn numbers(row: &Row, found: Result<Vec<&Record>, AllocError>) -> Result<Answer, AllocError> {
     numbers_of(row.alloc, &found?).map(Answer::Numbers)
 }

@@ -1,6 +1,6 @@
 //! Segments call by call: a line names a call of a segment, of two segments or of one with a cache, with its numbers.
 //!
-//! `fresh N` begins with a new segment of N readers; `swap` changes it for the other one.
+//! `fresh N` starts with a new segment of N readers; `swap` exchanges it for the other one.
 
 mod bench;
 mod cache_calls;

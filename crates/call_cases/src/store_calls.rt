@@ -1,6 +1,6 @@
 //! What a segment stores, call by call: a line names a call of a `HotLog`, an `EpochBook` or a `BaseStore` with its numbers.
 //!
-//! `fresh N` begins anew, with a book of N readers.
+//! `fresh N` starts again from scratch, with a book of N readers.
 
 mod bench;
 mod book_calls;

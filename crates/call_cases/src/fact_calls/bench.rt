@@ -6,13 +6,14 @@ use log_law::Writer;
 use redo_core::{Fact, Roster};
 use std::alloc::{AllocError, Global};
 
-/// What the lines so far have left: facts, and a writer.
+/// The state that the lines so far have made: facts, and a writer.
 #[derive(Drop)]
 pub struct Fixture {
     facts: Vec<Fact>,
     writer: Writer,
 }
 
+/// No facts, and a new writer of the roster.
 pub fn new_bench(alloc: Global, roster: Roster) -> Result<Fixture, AllocError> {
     Ok(Fixture {
         facts: Vec::new(alloc),
@@ -20,7 +21,7 @@ pub fn new_bench(alloc: Global, roster: Roster) -> Result<Fixture, AllocError> {
     })
 }
 
-/// What a line answers.
+/// The answer of a test case.
 pub fn answer(bench: &mut Fixture, row: &Row) -> Result<Answer, AllocError> {
     let call = &row.behind();
     match row.name {

@@ -1,4 +1,4 @@
-//! Calls over the facts that were kept: what their records do, and which of them are the same.
+//! Calls over the stored facts: what their records do, and which of them are equal.
 
 use crate::answer::Answer;
 use crate::given::page_of;
@@ -22,7 +22,7 @@ fn applied(facts: &[Fact], row: &Row) -> Result<Answer, AllocError> {
     Answer::one(row.alloc, "Bytes", &&page.copy()?.bytes()[..4])
 }
 
-// The places of the facts that are the same as a fact.
+// The indices of the facts that are equal to a fact.
 fn same_places(alloc: Global, facts: &[Fact], fact: &Fact) -> Result<Vec<u64>, AllocError> {
     let mut places = Vec::new(alloc);
     for (place, other) in facts.iter().enumerate() {
@@ -33,7 +33,7 @@ fn same_places(alloc: Global, facts: &[Fact], fact: &Fact) -> Result<Vec<u64>, A
     Ok(places)
 }
 
-// For each fact the places of those that are the same as it.
+// For each fact the indices of those that are equal to it.
 fn same(facts: &[Fact], row: &Row) -> Result<Answer, AllocError> {
     let mut same = Vec::new(row.alloc);
     for fact in facts {
@@ -81,7 +81,7 @@ fn made_of_patches(redo: &Record, patches: Vec<Patch>) -> Option<Fact> {
     made.ok().map(Fact::Record)
 }
 
-// A copy of a copy that was shared, and is gone.
+// A copy of a copy that was shared and then dropped.
 fn shared_copy(fact: &Fact) -> Result<Fact, AllocError> {
     let shared = fact.copy()?.share()?;
     shared.copy()
@@ -126,6 +126,7 @@ fn is_its_copies(fact: &Fact) -> Result<bool, AllocError> {
     are_one(&shared_copy(fact)?, fact)
 }
 
+/// The answer of a call over the stored facts.
 pub fn answer(facts: &[Fact], row: &Row) -> Result<Answer, AllocError> {
     let [.., last] = facts else {
         return Ok(Answer::Unknown);

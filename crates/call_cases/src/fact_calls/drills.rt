@@ -1,4 +1,4 @@
-//! The facts of drills, by their places.
+//! The facts of drills, by their index.
 
 use crate::answer::Answer;
 use case_io::Row;
@@ -18,6 +18,7 @@ fn placed(row: &Row, place: u64, fact: &Fact) -> Result<Answer, AllocError> {
     Answer::parts(row.alloc, "Fact", &(place, fact_text(row.alloc, fact)?))
 }
 
+/// The answer of a call over a drill.
 pub fn answer(row: &Row) -> Result<Answer, AllocError> {
     match row.number(0) {
         1 => told::<1>(row),

@@ -1,4 +1,4 @@
-//! The answers of the plain model over the facts that were kept, beside those of the checker.
+//! The answers of the reference model for the stored facts, beside those of the checker.
 
 use crate::answer::Answer;
 use case_io::{Row, eight, nth, size, word};
@@ -47,7 +47,7 @@ pub fn checked(
     }
 }
 
-// The place of a fault, and the number of its law.
+// The index of a fault, and the number of its law.
 fn placed(fault: Option<LawFault>) -> Option<(u64, u8)> {
     let LawFault { law, place } = fault?;
     Some((place, law.number()))
@@ -60,7 +60,7 @@ fn faults(facts: &[Fact], roster: Roster, row: &Row) -> Result<Answer, AllocErro
     Answer::parts(row.alloc, "Faults", &(found, checked))
 }
 
-/// The facts at places that a word lists, with commas between them.
+/// The facts at the indices that a word lists, with commas between them.
 fn facts_at(alloc: Global, facts: &[Fact], word: &str) -> Result<Vec<Fact>, AllocError> {
     let mut list = Vec::new(alloc);
     for place in word.split(',') {
@@ -90,7 +90,7 @@ fn relation(one: &[Fact], two: &[Fact], roster: Roster, row: &Row) -> Result<Ans
     Answer::parts(row.alloc, "Compared", &(there, back, is_same))
 }
 
-// What asks for a roster: the first word is its size.
+// The answer of a call that requires a roster, whose size is the first word.
 fn of_roster(facts: &[Fact], roster: Roster, row: &Row) -> Result<Answer, AllocError> {
     match row.name {
         "front" => front(facts, roster, row),
@@ -100,7 +100,7 @@ fn of_roster(facts: &[Fact], roster: Roster, row: &Row) -> Result<Answer, AllocE
     }
 }
 
-// A number, or whether a record stands in some way, in the view of the epoch that the first word names.
+// An LSN, or whether a record has a standing, in the view of the epoch that the first word names.
 fn told(facts: &[Fact], row: &Row) -> Answer {
     let view = row.short(0);
     let (epoch, number) = (row.short(1), row.number(2));
@@ -117,6 +117,7 @@ fn told(facts: &[Fact], row: &Row) -> Answer {
     }
 }
 
+/// The answer of a call of the reference model.
 pub fn answer(facts: &[Fact], row: &Row) -> Result<Answer, AllocError> {
     if row.name == "page" {
         return beginning(facts, row);

@@ -43,7 +43,7 @@ fn record_of_fills(row: &Row) -> Result<Answer, AllocError> {
     made(row.alloc, or_fault(outcome))
 }
 
-// Raises the points by three advances, where their readers are there.
+// Raises the points by three advances, where the roster has their readers.
 fn raise_all(points: &mut ReadPoints, row: &Row) {
     for place in 0..3 {
         let (reader, point) = (row.byte(2 * place + 1), row.number(2 * place + 2));
@@ -77,6 +77,7 @@ fn of_roster(row: &Row) -> Result<Answer, AllocError> {
     }
 }
 
+/// The answer of a call that makes a value.
 pub fn answer(row: &Row) -> Result<Answer, AllocError> {
     match row.name {
         "record" => record(row),

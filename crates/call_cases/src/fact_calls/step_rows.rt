@@ -1,4 +1,4 @@
-//! Step lines, as they are read: what the step is, which nodes it names, and which of them a fleet lacks.
+//! Parsed step lines: what the step is, which nodes it names, and which of them a fleet lacks.
 
 use crate::answer::Answer;
 use case_io::{Row, byte, number};
@@ -11,7 +11,7 @@ const OPENING: &str = "min 0 1\nmin 0 2\nmin 0 3\nmin 0 4\ngo\nnodes 64\n";
 
 const LETTERS: [&str; 3] = ["a", "b", "c"];
 
-// The letter of a place, from 0; the error is a place without one.
+// The letter at an index, from 0; the error is an index without one.
 fn letter(place: usize) -> Result<&'static str, usize> {
     match LETTERS.get(place) {
         Some(letter) => Ok(*letter),
@@ -34,7 +34,7 @@ fn of_steps(row: &Row, steps: &[Step<usize>]) -> Result<Answer, AllocError> {
     }
 }
 
-/// The name is how many nodes the fleet has, and the words are the step.
+/// The answer of a test case whose name is the fleet's number of nodes, and whose words are the step.
 pub fn answer(row: &Row) -> Result<Answer, AllocError> {
     let line = row.words;
     let text = format!(in row.alloc; "{OPENING}{line}\n")?;

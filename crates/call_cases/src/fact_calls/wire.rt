@@ -46,7 +46,7 @@ fn encoded(alloc: Global, value: &WireValue) -> Result<BytesMut, WireError> {
     Ok(out)
 }
 
-// Whether the value is encoded again as it was, and how long that is.
+// Whether the value's encoding is the same again, and how long that is.
 fn again(row: &Row, bytes: &[u8], value: &WireValue) -> Result<Answer, AllocError> {
     match encoded(row.alloc, value) {
         Ok(out) => Answer::parts(row.alloc, "Again", &(out.as_slice() == bytes, out.len())),
@@ -74,7 +74,7 @@ fn book_of(value: &WireValue) -> Option<(&Book, u64)> {
     }
 }
 
-// How many truncations, the complete epoch, the points, how many waiting advances, and the minimum; then the anchor or base.
+// The number of truncations, the complete epoch, the points, the number of waiting advances, and the minimum; then the anchor or base.
 fn told_book(row: &Row, book: &Book, anchor: u64) -> Result<Answer, AllocError> {
     let (cuts, complete, points) = (book.cuts().len(), book.complete(), book.points());
     let (waits, min) = (book.waits().len(), book.min());
@@ -85,7 +85,7 @@ fn told_book(row: &Row, book: &Book, anchor: u64) -> Result<Answer, AllocError> 
     )
 }
 
-// The value as it is encoded again, or else a fact's line, or the numbers of a value's book.
+// The value's encoding, or else a fact's line, or the numbers of a value's book.
 fn of_value(row: &Row, bytes: &[u8], value: &WireValue) -> Result<Answer, AllocError> {
     if row.name == "again" {
         return again(row, bytes, value);
@@ -106,7 +106,7 @@ fn read(row: &Row, bytes: &[u8]) -> Result<Answer, AllocError> {
     }
 }
 
-// How many proper beginnings of the bytes are found short.
+// How many proper prefixes of the bytes are rejected as too short.
 fn beginnings(alloc: Global, bytes: &[u8]) -> Result<u64, AllocError> {
     let mut count: u64 = 0;
     for len in 0..bytes.len() {
@@ -125,6 +125,7 @@ fn of_bytes(row: &Row, bytes: &[u8]) -> Result<Answer, AllocError> {
     }
 }
 
+/// The answer of a call of the decoders.
 pub fn answer(row: &Row) -> Result<Answer, AllocError> {
     match given::bytes(row.alloc, row.words)? {
         Some(bytes) => of_bytes(row, bytes.as_slice()),

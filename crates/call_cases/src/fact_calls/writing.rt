@@ -53,6 +53,7 @@ fn told(row: &Row, written: Result<Fact, WriterFault>) -> Result<Answer, AllocEr
     }
 }
 
+/// The answer of a call of the writer.
 pub fn answer(writer: &mut Writer, row: &Row) -> Result<Answer, AllocError> {
     match row.name {
         "new" | "log" => of_roster(writer, row),

@@ -11,7 +11,7 @@ use std::sync::Wait;
 use std::thread::Threads;
 use std::{io, mem, thread};
 
-/// A trail with its length, and how often it was looked at, which is no part of what it keeps.
+/// A trail with its length, and the number of reads, which is no part of the state that it keeps.
 #[derive(Drop)]
 pub struct Diary {
     trail: Vec<(u64, u64)>,
@@ -77,7 +77,7 @@ impl Diary {
     }
 }
 
-// Appends an entry. The state comes back on both paths.
+// Appends an entry. The state is returned on both paths.
 fn append<R: Wait>(
     rt: &R,
     lock: &Lock<Diary>,
@@ -101,7 +101,7 @@ fn append<R: Wait>(
     }
 }
 
-// Appends entries at the log places from `first` on.
+// Appends entries at the log indices from `first` on.
 fn append_all<R: Wait>(
     rt: &R,
     lock: &Lock<Diary>,
@@ -144,6 +144,7 @@ fn opened(alloc: Global) -> Result<Diaries, AllocError> {
     Ok(Diaries { lock, one, other })
 }
 
+/// Opens a lock with two passes and an empty trail.
 pub fn open_diaries(alloc: Global) -> Result<Box<Diaries>, AllocError> {
     in_box(alloc, opened(alloc)?)
 }
@@ -157,7 +158,7 @@ pub fn note<R: Wait>(rt: &R, diaries: &mut Diaries, row: &Row) -> io::Result<()>
     row.done()
 }
 
-/// Looks without a pass.
+/// Reads the state without a pass.
 pub fn look<R: Wait>(rt: &R, diaries: &Diaries, row: &Row) -> io::Result<()> {
     let mut visit = diaries.lock.visit(rt);
     let looks = visit.state.look();
@@ -165,7 +166,7 @@ pub fn look<R: Wait>(rt: &R, diaries: &Diaries, row: &Row) -> io::Result<()> {
     row.one("Looks", &looks)
 }
 
-/// Looks by the second pass.
+/// Reads the state by the second pass.
 pub fn look_by_pass<R: Wait>(rt: &R, diaries: &mut Diaries, row: &Row) -> io::Result<()> {
     let mut turn = diaries.lock.take(rt, &mut diaries.other);
     let looks = turn.state.look();
@@ -173,7 +174,7 @@ pub fn look_by_pass<R: Wait>(rt: &R, diaries: &mut Diaries, row: &Row) -> io::Re
     row.one("Looks", &looks)
 }
 
-/// Looks in a call, by the first pass.
+/// Reads the state in a closure, by the first pass.
 pub fn look_in_a_call<R: Wait>(rt: &R, diaries: &mut Diaries, row: &Row) -> io::Result<()> {
     let looks = diaries
         .lock
@@ -181,7 +182,7 @@ pub fn look_in_a_call<R: Wait>(rt: &R, diaries: &mut Diaries, row: &Row) -> io::
     row.one("Looks", &looks)
 }
 
-/// Closes the lock with the first pass alone, and opens one. The answer is the entries of the trail: the pass and the place in the log
+/// Closes the lock with the first pass alone, and opens one. The answer is the entries of the trail: the pass and the log index
 /// of each.
 pub fn close<R: Wait>(rt: &R, diaries: &mut Box<Diaries>, row: &Row) -> io::Result<()> {
     let closed = mem::replace(diaries, open_diaries(row.alloc)?);
@@ -203,7 +204,7 @@ fn closed_by_one<R: Wait>(rt: &R, diaries: Diaries, mut passes: Vec<Pass<Diary>>
     lock.close(rt, passes)
 }
 
-// What a pass comes back with from a thread.
+// What a pass's thread returns.
 type Back = Result<Pass<Diary>, AllocError>;
 
 // Two threads append 1000 entries each, by a pass of their own.

@@ -16,6 +16,7 @@ use std::alloc::{AllocError, Global};
 use std::sync::Wait;
 use std::{io, mem};
 
+/// An intake with its senders and its taker.
 #[derive(Drop)]
 pub struct SharedFixture {
     intake: Intake<Log>,
@@ -36,6 +37,7 @@ fn opened(alloc: Global, senders: usize, capacity: usize) -> Result<SharedFixtur
     })
 }
 
+/// Opens an intake with its senders and its taker.
 pub fn open_lane(
     alloc: Global,
     senders: usize,
@@ -71,7 +73,7 @@ pub fn reopen(lane: &mut Box<SharedFixture>, row: &Row) -> io::Result<()> {
     row.done()
 }
 
-// The sender's next parcel, with the fact at a place.
+// The sender's next parcel, with the fact at an index.
 fn parcel_at(
     alloc: Global,
     sender: &SenderPass<Log>,
@@ -87,7 +89,7 @@ fn parcel_at(
 
 type Offer = Result<(), Refused<Parcel<Log>, Full>>;
 
-// The sender offers the fact at a place; none where the log has no such place.
+// The sender offers the fact at an index; None where the log has no such index.
 fn offer_by<R: Wait>(
     rt: &R,
     alloc: Global,
@@ -104,7 +106,7 @@ fn offer_by<R: Wait>(
     Ok(Some(intake.offer(rt, sender, parcel)))
 }
 
-/// Offers the fact at a place by a sender, the first where the line gives none. The answer to a full intake is the parcel that came back.
+/// Offers the fact at an index by a sender, the first where the line gives none. A full intake answers with the returned parcel.
 pub fn offer<R: Wait>(rt: &R, lane: &mut SharedFixture, row: &Row) -> io::Result<()> {
     let number = size(row.number_or(1, 1));
     if number == 0 || number > lane.senders.len() {
@@ -118,7 +120,7 @@ pub fn offer<R: Wait>(rt: &R, lane: &mut SharedFixture, row: &Row) -> io::Result
     }
 }
 
-// Prints a parcel: its sender, its number, and the place of its fact.
+// Prints a parcel: its sender, its number, and the log index of its fact.
 fn print_parcel(row: &Row, name: &str, parcel: &Parcel<Log>) -> io::Result<()> {
     let place = parcel.fact().place();
     row.parts(name, &(parcel.sender(), parcel.number(), place))
@@ -132,6 +134,7 @@ fn print_parcels(row: &Row, parcels: &[Parcel<Log>]) -> io::Result<()> {
     Ok(())
 }
 
+/// Takes the next parcel, and prints it.
 pub fn take_next<R: Wait>(rt: &R, lane: &mut SharedFixture, row: &Row) -> io::Result<()> {
     match lane.intake.take_next(rt, &mut lane.taker) {
         Some(parcel) => print_parcel(row, "Parcel", &parcel),
@@ -139,7 +142,7 @@ pub fn take_next<R: Wait>(rt: &R, lane: &mut SharedFixture, row: &Row) -> io::Re
     }
 }
 
-/// Ends the intake, and opens one. The answer is what was left, in order.
+/// Closes the intake, and opens one. The answer is the remaining parcels, in order.
 pub fn end<R: Wait>(rt: &R, lane: &mut Box<SharedFixture>, row: &Row) -> io::Result<()> {
     let ended = mem::replace(lane, open_lane(row.alloc, 1, 1)?);
     let SharedFixture {
@@ -151,7 +154,7 @@ pub fn end<R: Wait>(rt: &R, lane: &mut Box<SharedFixture>, row: &Row) -> io::Res
     print_parcels(row, left.as_slice())
 }
 
-/// What is left in an intake that is ended.
+/// The parcels that remain in an intake that is closed.
 pub fn left_at_end<L: LogName, R: Wait>(
     rt: &R,
     alloc: Global,
@@ -167,7 +170,7 @@ pub fn left_at_end<L: LogName, R: Wait>(
     or_fault(intake.end(rt, alloc, senders, taker))
 }
 
-/// The facts at the first places, so many; after the last place of the log comes the first one again.
+/// The first `count` facts of the log; after its last fact it starts again at the first.
 pub fn first_facts(alloc: Global, count: u64) -> Result<Vec<LogFact<Log>>, AllocError> {
     let mut facts = Vec::new(alloc);
     for before in 0..count {
@@ -178,12 +181,12 @@ pub fn first_facts(alloc: Global, count: u64) -> Result<Vec<LogFact<Log>>, Alloc
     Ok(facts)
 }
 
-/// The place of the fact behind so many.
+/// The log index of the fact that follows `before` others.
 pub fn place_of(before: u64) -> u64 {
     before % PLACES + 1
 }
 
-// How many places the log has.
+// The length of the log.
 const PLACES: u64 = 130;
 
 /// Sends the first facts, so many, through an intake with so much room. The answer is the parcels, in the order in which they were taken.

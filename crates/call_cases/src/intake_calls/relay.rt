@@ -1,4 +1,4 @@
-//! A caller that knows the contracts alone: facts through an intake of one sender.
+//! A caller that relies on the contracts alone: facts through an intake of one sender.
 ghost use Rattle.std.specs.Prelude.{◌≡◌, ◌+◌, ◌<◌, ◌≤◌, ◌^◌, ◌∷◌, ◌++◌, [], length, vec_capacity, IfOk, IfSome, OnOk};
 ghost use Rattle.intake_queue.specs.Parcel.{parcel_facts, AreInTurn};
 
@@ -9,7 +9,7 @@ use named_log::{LogFact, LogName};
 use std::alloc::{AllocError, Global};
 use std::sync::Wait;
 
-/// An intake with its only sender, its taker, and all that was taken; how many parcels wait to be taken, and how many may.
+/// An intake with its only sender, its taker, and all that was taken; the number of parcels to be taken, and how many may be.
 #[derive(Drop)]
 struct Relay<L: LogName> {
     intake: Intake<L>,
@@ -43,7 +43,7 @@ impl<L: LogName> Relay<L> {
         })
     }
 
-    // Takes one: the taker has heard of a parcel that it did not take, so it finds one.
+    // Takes one: the taker was notified of a parcel that it has not taken, so it finds one.
     fn take<R: Wait>(&mut self, rt: &R) -> Result<(), AllocError>
         requires { 0 < self.old.waiting }
         ensures sender { self.new.sender ≡ self.old.sender }
@@ -60,7 +60,7 @@ impl<L: LogName> Relay<L> {
         Ok(())
     }
 
-    // Offers the fact: the sender has heard that there is room, so it is accepted.
+    // Offers the fact: the sender was notified that there is room, so it is accepted.
     fn put<R: Wait>(&mut self, rt: &R, fact: LogFact<L>)
         requires room { self.old.waiting < self.old.capacity }
         requires numbers { length self.old.sender.accepted + 1 < 2 ^ 64 }
@@ -116,7 +116,7 @@ impl<L: LogName> Relay<L> {
     }
 }
 
-/// Offers facts to an intake and takes them where it is full; what was taken and what is left at the end are the facts, in order.
+/// Offers facts to an intake and takes them where it is full; the taken parcels and the remaining ones are the facts, in order.
 pub fn pass_through<L: LogName, R: Wait>(
     rt: &R,
     alloc: Global,

@@ -48,7 +48,7 @@ fn offer_all<R: Wait>(
     sender
 }
 
-// What the taker found: how many parcels of each sender, and how many that did not follow the one before of their sender.
+// What the taker found: the number of parcels of each sender, and of those that did not follow the one before of their sender.
 #[derive(Clone, Copy)]
 struct Tally {
     first: u64,
@@ -56,7 +56,7 @@ struct Tally {
     astray: u64,
 }
 
-// Whether a parcel follows so many of its sender, and has the fact that was sent there. It is counted.
+// Whether a parcel follows `count` others of its sender, and has the fact that was sent at that index. Counts it.
 fn follows(count: &mut u64, parcel: &Parcel<Log>) -> bool {
     let place = place_of(*count);
     *count = count.wrapping_add(1);

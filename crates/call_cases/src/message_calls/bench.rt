@@ -12,7 +12,7 @@ use segment_core::Segment;
 use snapshot::Staging;
 use std::alloc::{AllocError, Global};
 
-/// What the lines so far have made.
+/// The state that the lines so far have made.
 #[derive(Drop)]
 pub struct Fixture {
     pub roster: Roster,
@@ -23,6 +23,7 @@ pub struct Fixture {
     pub fleet: Fleet,
 }
 
+/// A fixture with nothing made yet.
 pub fn new_bench(alloc: Global, roster: Roster) -> Result<Fixture, AllocError> {
     Ok(Fixture {
         roster,
@@ -34,7 +35,7 @@ pub fn new_bench(alloc: Global, roster: Roster) -> Result<Fixture, AllocError> {
     })
 }
 
-/// Begins anew, for so many readers.
+/// Starts again from scratch, for so many readers.
 fn begin(bench: &mut Fixture, row: &Row) -> Result<Answer, AllocError> {
     match Roster::new(row.byte(0)) {
         Ok(roster) => renew(bench, new_bench(row.alloc, roster)),

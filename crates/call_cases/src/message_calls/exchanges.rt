@@ -29,7 +29,7 @@ fn piece_of(alloc: Global, messages: &[BytesMut], number: u64) -> Option<Piece> 
     decode_piece(alloc, nth(messages, number)?.as_slice()).ok()
 }
 
-/// Keeps the message that words encode.
+/// Stores the message that words encode.
 fn take_in(messages: &mut Vec<BytesMut>, row: &Row) -> Result<Answer, AllocError> {
     match given::bytes(row.alloc, row.words)? {
         Some(bytes) => add("Message", messages, bytes),
@@ -45,7 +45,7 @@ fn encode(messages: &[BytesMut], row: &Row) -> Result<Answer, AllocError> {
     }
 }
 
-/// How many truncations, which minimum read point, how many waiting advances, which base, how many pages and records there are.
+/// The number of truncations, the minimum read point, the number of waiting advances, the base, the number of pages and of records.
 fn told_delta(row: &Row, delta: &Delta) -> Result<Answer, AllocError> {
     let book = delta.book();
     let (cuts, min, waits) = (book.cuts().len(), book.min(), book.waits().len());
@@ -57,7 +57,7 @@ fn told_delta(row: &Row, delta: &Delta) -> Result<Answer, AllocError> {
     )
 }
 
-/// What a delta or a piece tells.
+/// The description of a delta or a piece.
 fn tell(messages: &[BytesMut], row: &Row) -> Result<Answer, AllocError> {
     if let Some(delta) = delta_of(row.alloc, messages, row.number(0)) {
         return told_delta(row, &delta);
@@ -100,7 +100,7 @@ fn send(
     }
 }
 
-/// The bytes of what a segment answers to a summary.
+/// The bytes of a segment's answer to a summary.
 fn replied(alloc: Global, segment: &Segment, asked: &Summary) -> Result<BytesMut, ReadFault> {
     let mut bytes = BytesMut::new(alloc);
     match encode_delta(&mut bytes, &reply(segment, asked)?) {
@@ -109,7 +109,7 @@ fn replied(alloc: Global, segment: &Segment, asked: &Summary) -> Result<BytesMut
     }
 }
 
-/// What the segment of a number answers to the message of another number; None where there is no such segment or summary.
+/// The answer of the segment of a number to the message of another number; None where there is no such segment or summary.
 fn answer_of(
     segments: &[Segment],
     messages: &[BytesMut],
@@ -132,7 +132,7 @@ fn keep_answer(
     }
 }
 
-/// Brings the answer of a number, which was made for the question of another number, into a segment.
+/// Absorbs the answer of a number, which was made for the question of another number, in a segment.
 fn absorbed(
     segments: &mut [Segment],
     messages: &[BytesMut],
@@ -169,7 +169,7 @@ fn told_absorbed(
     }
 }
 
-/// Carries out a call on messages.
+/// The answer of a call on messages.
 pub fn answer(bench: &mut Fixture, row: &Row) -> Result<Answer, AllocError> {
     match row.name {
         "message" => take_in(&mut bench.messages, row),

@@ -31,7 +31,7 @@ fn plain_step(row: &Row) -> Option<Step<Fact>> {
     }
 }
 
-/// What a reply tells; of a page its first byte.
+/// The answer for a reply; of a page its first byte.
 fn told(row: &Row, reply: &Reply) -> Result<Answer, AllocError> {
     match reply {
         Reply::Changed => Ok(Answer::Word("Changed")),
@@ -71,7 +71,7 @@ fn take(fleet: &mut Fleet, facts: &[Fact], row: &Row) -> Result<Answer, AllocErr
     told(row, &fleet.step(&step))
 }
 
-/// Makes a step of a fleet.
+/// Carries out a step of a fleet.
 pub fn step(fleet: &mut Fleet, facts: &[Fact], row: &Row) -> Result<Answer, AllocError> {
     if row.name == "take" {
         return take(fleet, facts, row);

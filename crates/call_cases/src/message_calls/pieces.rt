@@ -43,7 +43,7 @@ fn keep_pieces(
     Ok(Answer::Numbered("Pieces", u64::from(snapshot.pieces())))
 }
 
-/// Freezes a segment under a name, keeps its pieces as messages, all or none, and tells how many there are.
+/// Freezes a segment under a name, stores its pieces as messages, all or none, and returns their number.
 pub fn freeze_all(
     segment: &Segment,
     messages: &mut Vec<BytesMut>,
@@ -55,7 +55,7 @@ pub fn freeze_all(
     }
 }
 
-/// The place of a piece, and what it brings: a head its anchor, a page its number, and records their count.
+/// The index of a piece, and what it contains: a head its anchor, a page its number, and records their count.
 pub fn format_piece(row: &Row, piece: &Piece) -> Result<Answer, AllocError> {
     let (kind, number) = match piece.content() {
         PieceContent::Head { book: _, anchor } => ("Head", *anchor),
@@ -69,6 +69,7 @@ pub fn format_piece(row: &Row, piece: &Piece) -> Result<Answer, AllocError> {
     )
 }
 
+/// Adds a piece to a staging.
 pub fn stage(staging: &mut Staging, piece: Piece, row: &Row) -> Result<Answer, AllocError> {
     match or_fault(staging.add(piece)) {
         Ok(()) => Ok(Answer::Word("Staged")),
@@ -76,7 +77,7 @@ pub fn stage(staging: &mut Staging, piece: Piece, row: &Row) -> Result<Answer, A
     }
 }
 
-/// Puts a segment together, or tells why there is none.
+/// Makes a segment of the staged pieces, or answers why there is none.
 pub fn finish(
     staging: &Staging,
     segments: &mut Vec<Segment>,

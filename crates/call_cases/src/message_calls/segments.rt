@@ -22,7 +22,7 @@ fn has_taken(segment: &mut Segment, record: Option<Record>) -> bool {
     }
 }
 
-/// Has a segment take the records 1 to a last one, each linked to the one before it and of a page of its own.
+/// Has a segment take the records 1 to `last`, each linked to the one before it and of a page of its own.
 fn take_chain(alloc: Global, segment: &mut Segment, last: u16) -> Result<(), AllocError> {
     for before in 0..last {
         if !has_taken(segment, link(alloc, before.saturating_add(1))?) {
@@ -32,6 +32,7 @@ fn take_chain(alloc: Global, segment: &mut Segment, last: u16) -> Result<(), All
     Ok(())
 }
 
+/// Adds a new segment of the roster.
 pub fn add_empty(
     segments: &mut Vec<Segment>,
     roster: Roster,
@@ -58,7 +59,7 @@ fn take(segment: &mut Segment, facts: &[Fact], row: &Row) -> Result<Answer, Allo
     }
 }
 
-/// What a call changes at the segment of a number.
+/// Changes the segment of a number by a call.
 pub fn change(segments: &mut [Segment], facts: &[Fact], row: &Row) -> Result<Answer, AllocError> {
     let Some(segment) = nth_mut(segments, row.number(0)) else {
         return Ok(Answer::Unknown);
@@ -70,7 +71,7 @@ pub fn change(segments: &mut [Segment], facts: &[Fact], row: &Row) -> Result<Ans
     }
 }
 
-/// What a call tells of the segment of a number.
+/// The answer of a query of the segment of a number.
 pub fn look(segments: &[Segment], row: &Row) -> Result<Answer, AllocError> {
     let Some(segment) = nth(segments, row.number(0)) else {
         return Ok(Answer::Unknown);

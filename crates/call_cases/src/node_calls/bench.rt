@@ -15,8 +15,8 @@ use std::io::ErrorKind;
 use std::sync::Wait;
 use std::thread::Threads;
 
-/// What the lines speak of: nodes, numbered from 0 in the order in which they were opened, the receipts of all deliveries, the node
-/// that was closed last, and a board of six nodes. What is large stands in boxes.
+/// The state of the test cases: nodes, numbered from 0 in the order in which they were opened, the receipts of all deliveries, the
+/// node that was closed last, and a board of six nodes. Large values are in boxes.
 #[derive(Drop)]
 pub struct Fixture {
     hosts: Vec<Host>,
@@ -35,6 +35,7 @@ fn made(alloc: Global) -> Result<Fixture, AllocError> {
     })
 }
 
+/// A fixture with no nodes.
 pub fn new_bench(alloc: Global) -> Result<Box<Fixture>, AllocError> {
     in_box(alloc, made(alloc)?)
 }
@@ -49,7 +50,7 @@ fn open(hosts: &mut Vec<Host>, row: &Row) -> io::Result<()> {
     row.done()
 }
 
-// Delivers the facts from one place to another, in order, and tells of the last. A fault ends it.
+// Delivers the facts from one index to another, in order, and prints the last delivery. A fault ends it.
 fn deliver_all<R: Wait>(
     rt: &R,
     host: &mut Host,
@@ -112,7 +113,7 @@ fn two_seats<R: Threads + Sync>(rt: &R, bench: &mut Fixture, row: &Row) -> io::R
     row.done()
 }
 
-/// Prints what a call answers. The calls here open and close nodes, and deliver to them.
+/// Prints the answer of a call. The calls here open and close nodes, and deliver to them.
 pub fn answer<R: Threads + Wait + Sync>(rt: &R, bench: &mut Fixture, row: &Row) -> io::Result<()> {
     match row.name {
         "clear" => begin_anew(bench, row),
@@ -125,7 +126,7 @@ pub fn answer<R: Threads + Wait + Sync>(rt: &R, bench: &mut Fixture, row: &Row) 
     }
 }
 
-// What a call answers that opens and closes no node. One that finds no memory is made once more.
+// Prints the answer of a call that opens and closes no node. One that runs out of memory is made once more.
 fn tell<R: Wait>(rt: &R, bench: &mut Fixture, row: &Row) -> io::Result<()> {
     match tell_once(rt, bench, row) {
         Err(fault) if fault.kind() == ErrorKind::OutOfMemory => tell_once(rt, bench, row),
@@ -144,7 +145,7 @@ fn tell_once<R: Wait>(rt: &R, bench: &mut Fixture, row: &Row) -> io::Result<()> 
     }
 }
 
-// What a closed node answers.
+// Prints the answer of a closed node.
 fn of_closed(bench: &Fixture, row: &Row) -> io::Result<()> {
     let Some(ended) = &bench.closed else {
         return row.unknown();
@@ -155,7 +156,7 @@ fn of_closed(bench: &Fixture, row: &Row) -> io::Result<()> {
     }
 }
 
-// What a node alone answers.
+// Prints the answer of a node alone.
 fn of_host<R: Wait>(rt: &R, hosts: &mut [Host], row: &Row) -> io::Result<()> {
     let Some(host) = hosts.get_mut(row.index(0)) else {
         return row.unknown();
@@ -176,7 +177,7 @@ fn read<R: Wait>(rt: &R, host: &mut Host, row: &Row) -> io::Result<()> {
     }
 }
 
-// Folds a page, and keeps the fold. The answer is the page and the version.
+// Folds a page, and stores the fold. The answer is the page and the version.
 fn fold_page<R: Wait>(rt: &R, host: &mut Host, row: &Row) -> io::Result<()> {
     let folded = host::folded(rt, row.alloc, &host.node, row.short(1))?;
     let told = (folded.page(), folded.version());
@@ -189,7 +190,7 @@ fn discard<R: Wait>(rt: &R, host: &Host, row: &Row) -> io::Result<()> {
     row.done()
 }
 
-// What a node shows to who has a receipt: page 1 at point 1.
+// Reads page 1 at point 1 of a node with a receipt.
 fn after<R: Wait>(rt: &R, bench: &Fixture, row: &Row) -> io::Result<()> {
     let Some(host) = bench.hosts.get(row.index(0)) else {
         return row.unknown();
@@ -204,7 +205,7 @@ fn after<R: Wait>(rt: &R, bench: &Fixture, row: &Row) -> io::Result<()> {
     }
 }
 
-// A node absorbs what another answers to the summary of a third.
+// A node absorbs the answer of another to the summary of a third.
 fn absorb<R: Wait>(rt: &R, hosts: &[Host], row: &Row) -> io::Result<()> {
     let (Some(host), Some(asker), Some(answerer)) = (
         hosts.get(row.index(0)),

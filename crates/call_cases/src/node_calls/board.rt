@@ -20,7 +20,7 @@ fn early(number: u64) -> LogFront<Small>
     LogFront::new(0, number)
 }
 
-// A front of epoch 1, of a number that the truncation left alive.
+// A front of epoch 1, of an LSN that the truncation left alive.
 fn late(number: u64) -> LogFront<Small>
     requires { number ≤ 1 }
 {
@@ -32,7 +32,7 @@ fn last() -> LogFront<Small> {
     LogFront::new(1, 11)
 }
 
-// The front of an epoch and a number, where it is one of those that the rows speak of.
+// The front of an epoch and an LSN, where it is one of those that the test cases use.
 fn front_of(epoch: u64, number: u64) -> Option<LogFront<Small>> {
     match epoch {
         0 if number <= 2 => Some(early(number)),
@@ -68,6 +68,7 @@ fn opened(alloc: Global) -> Result<Six, AllocError> {
     Ok(Six { board, one, other })
 }
 
+/// Opens the board, in a box.
 pub fn open_six(alloc: Global) -> Result<Box<Six>, AllocError> {
     in_box(alloc, opened(alloc)?)
 }
@@ -85,7 +86,7 @@ fn publish(six: &mut Six, node: usize, row: &Row) -> io::Result<()>
     }
 }
 
-/// Prints what a call of the board answers. A look and a quorum are made by the second seat; there is no node, and no number of nodes,
+/// Prints the answer of a call of the board. The second seat makes a look and a quorum; there is no node, and no number of nodes,
 /// above six.
 pub fn answer(six: &mut Six, row: &Row) -> io::Result<()> {
     if row.name == "order" {

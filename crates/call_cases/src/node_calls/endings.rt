@@ -1,10 +1,10 @@
-//! What a closed node answers.
+//! The answers of a closed node.
 use crate::Log;
 use case_io::Row;
 use node_cell::{Closed, Receipt, settle};
 use std::io;
 
-/// Prints how many entries the trail has, the complete point, the base point, and how many keys are held.
+/// Prints the number of entries of the trail, the complete point, the base point, and the number of stored keys.
 pub fn print_closed(row: &Row, ended: &Closed<Log>) -> io::Result<()> {
     let segment = ended.segment();
     let (entries, held) = (ended.trail().len(), segment.stored()?.len());
@@ -12,7 +12,7 @@ pub fn print_closed(row: &Row, ended: &Closed<Log>) -> io::Result<()> {
     row.parts("Closed", &(entries, complete, segment.base_point(), held))
 }
 
-/// Prints an entry of the trail: the pass that brought it, and its place in the log.
+/// Prints an entry of the trail: the pass that delivered it, and its log index.
 pub fn print_entry(row: &Row, ended: &Closed<Log>) -> io::Result<()> {
     match ended.trail().get(row.index(0)) {
         Some(entry) => row.parts("Entry", entry),

@@ -14,8 +14,8 @@ use segment_core::{CommitFault, ReadFault};
 use std::alloc::{AllocError, Global};
 use std::sync::Wait;
 
-/// A node with the first of its two passes, the first seat of a board of its own, and the fold that it made last. What is large stands
-/// in boxes: a function that has it by value proves all that it is made of.
+/// A node with the first of its two passes, the first seat of a board of its own, and the fold that it made last. Large values are
+/// in boxes: a function that has one by value proves all that it is made of.
 #[derive(Drop)]
 pub struct Host {
     pub node: Box<Node<Log>>,
@@ -55,6 +55,7 @@ pub fn open_board(alloc: Global) -> Result<Seated, AllocError>
     Ok((board, one, other))
 }
 
+/// A node with one pass in use, and its own board.
 pub fn open_host(alloc: Global, capacity: u64) -> Result<Host, AllocError> {
     let (node, pass, _) = open_node(alloc, capacity)?;
     let (board, seat, _) = open_board(alloc)?;
@@ -67,7 +68,7 @@ pub fn open_host(alloc: Global, capacity: u64) -> Result<Host, AllocError> {
     })
 }
 
-/// Delivers the fact at a place of the log. Where there is no fact, or no memory for it, memory is wanting.
+/// Delivers the fact at a log index. Where there is no fact, or no memory for it, the fault is `Memory`.
 pub fn deliver_at<R: Wait>(
     rt: &R,
     alloc: Global,
@@ -104,6 +105,7 @@ fn deliver_once<R: Wait>(
     )
 }
 
+/// Delivers the fact at a log index. Tries again once where memory runs out.
 pub fn deliver<R: Wait>(
     rt: &R,
     alloc: Global,
@@ -121,6 +123,7 @@ pub fn reached(host: &mut Host) -> LogFront<Log> {
     host.board.front(&mut host.seat, 1)
 }
 
+/// Reads a page at a point.
 pub fn read<R: Wait>(
     rt: &R,
     host: &mut Host,
@@ -130,7 +133,7 @@ pub fn read<R: Wait>(
     host.node.read(rt, &mut host.pass, page, point)
 }
 
-// A copy of what one node answers to a summary of another.
+// A copy of the reply of one node to a summary of another.
 fn mail_for<R: Wait>(
     rt: &R,
     asker: &Node<Log>,
@@ -140,7 +143,7 @@ fn mail_for<R: Wait>(
     sent.copy()
 }
 
-/// Absorbs what one node answers to a summary of another.
+/// Absorbs the reply of one node to a summary of another.
 pub fn absorb<R: Wait>(
     rt: &R,
     node: &Node<Log>,
@@ -188,6 +191,7 @@ pub fn close_host<R: Wait>(
     closed_with(rt, alloc, node, passes)
 }
 
+/// Closes a node with passes that are idle.
 pub fn closed_with<R: Wait>(
     rt: &R,
     alloc: Global,

@@ -13,13 +13,13 @@ use std::sync::Wait;
 use std::thread;
 use std::thread::Threads;
 
-// Who delivers.
+// A pass and a seat of a thread that delivers.
 type Hand = (Box<Pass<Log>>, Box<Seat<Log>>);
 
 // A pass that has delivered, and the receipts of its deliveries, in order.
 type Done = Result<(Box<Pass<Log>>, Vec<Receipt<Log>>), AllocError>;
 
-// Delivers the facts at 32 places, every other one from `first` on.
+// Delivers the facts at 32 indices, every other one from `first` on.
 fn deliver_half<R: Wait>(
     rt: &R,
     alloc: Global,
@@ -53,7 +53,7 @@ fn deliver_half<R: Wait>(
     Ok((pass, receipts))
 }
 
-// Each delivers its half in a thread of its own.
+// Each thread delivers its half.
 fn deliver_halves<R: Threads + Wait + Sync>(
     rt: &R,
     alloc: Global,
@@ -81,7 +81,7 @@ fn deliver_halves<R: Threads + Wait + Sync>(
     )
 }
 
-// The passes that come back. The receipts of both join the others.
+// The returned passes. Appends the receipts of both to the others.
 fn passes_back(
     alloc: Global,
     node: &Node<Log>,
@@ -100,8 +100,8 @@ fn passes_back(
     Ok(Vec::from_array(alloc, [Box::into_inner(one), Box::into_inner(other)])?)
 }
 
-/// The node closed after two threads have delivered the facts of epoch 0. The receipts of both join the others, those of the first
-/// thread first.
+/// The node closed after two threads have delivered the facts of epoch 0. Appends the receipts of both to the others, those of the
+/// first thread first.
 pub fn closed_after_two<R: Threads + Wait + Sync>(
     rt: &R,
     alloc: Global,

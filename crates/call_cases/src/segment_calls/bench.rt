@@ -8,7 +8,7 @@ use segment_core::Segment;
 use std::alloc::{AllocError, Global};
 use std::mem;
 
-/// What the calls are made on. The segments stand in boxes: made by value, each beside the `?` of the next, they take minutes to prove.
+/// What the calls are made on. The segments are in boxes: made by value, each beside the `?` of the next, they take minutes to prove.
 #[derive(Drop)]
 pub struct Fixture {
     pub segment: Box<Segment>,
@@ -23,11 +23,12 @@ pub struct Fixture {
     pub noted: Vec<Fact>,
 }
 
-/// A copy of a segment behind a cache of so many pages.
+/// A copy of a segment with a cache of so many pages.
 fn cached(copied: &Segment, pages: usize) -> Result<CachedSegment, AllocError> {
     or_fault(CachedSegment::new(copied.copy()?, pages))
 }
 
+/// New segments of the roster, and nothing noted.
 pub fn new_bench(alloc: Global, roster: Roster) -> Result<Fixture, AllocError> {
     let segment = boxed(alloc, Segment::new(alloc, roster))?;
     let cached = boxed(alloc, cached(&segment, 0))?;
@@ -62,7 +63,7 @@ fn swap(bench: &mut Fixture) -> Answer {
     Answer::Word("Done")
 }
 
-/// What a call answers. The calls here change which segment is which.
+/// The answer of a call. The calls here change which segment is which.
 pub fn answer(bench: &mut Fixture, row: &Row) -> Result<Answer, AllocError> {
     match row.name {
         "fresh" => begin_anew(bench, row),

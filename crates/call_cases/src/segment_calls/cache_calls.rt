@@ -24,7 +24,7 @@ fn take(cached: &mut CachedSegment, row: &Row, name: &str) -> Result<Answer, All
     }
 }
 
-/// Discards from the segment, which its cache lends.
+/// Discards from the segment, borrowed from its cache.
 pub fn discard_lent(cached: &mut CachedSegment) -> Answer {
     discard(cached.segment_mut())
 }
@@ -34,7 +34,7 @@ pub fn read_past(cached: &CachedSegment, row: &Row) -> Result<Answer, AllocError
     page(row, cached.segment().read(row.short(0), row.number(1)))
 }
 
-/// What a call of the segment with a cache answers, by its name behind `cached_`.
+/// The answer of a call of the segment with a cache, by its name after `cached_`.
 pub fn answer(cached: &mut CachedSegment, row: &Row, name: &str) -> Result<Answer, AllocError> {
     match name {
         "read" => page(row, cached.read(row.short(0), row.number(1))),

@@ -38,7 +38,7 @@ fn unite(segment: &mut Segment, row: &Row, given: &[(u16, u64, u8)]) -> Result<A
     done(segment.unite(base, row.number(1), images))
 }
 
-/// Takes three facts in a union, and what the segment then shows. The union is dropped, which rolls the segment back.
+/// Takes three facts in a merge transaction, and describes the segment then. Drops the transaction, which rolls the segment back.
 fn shown_in_union(
     segment: &mut Segment,
     first: Fact,
@@ -53,7 +53,7 @@ fn shown_in_union(
     show(union.segment())
 }
 
-/// Takes three facts in a union, and drops it: what shows before that, and after it.
+/// Takes three facts in a merge transaction, and drops it: describes the segment before and after the drop.
 fn rolled_back(
     segment: &mut Segment,
     row: &Row,
@@ -77,7 +77,7 @@ fn roll_back(
     }
 }
 
-/// Takes the fact that the row encodes, where it encodes one.
+/// Takes the fact that the test case encodes, where it encodes one.
 fn take(bench: &mut Fixture, row: &Row) -> Result<Answer, AllocError> {
     match fact(row, row.name)? {
         Some(fact) => taken(row, bench.segment.take(fact)),
@@ -95,7 +95,7 @@ fn note(noted: &mut Vec<Fact>, row: &Row, name: &str) -> Result<Answer, AllocErr
     }
 }
 
-/// What a change of the segment answers, or another call.
+/// The answer of a change of the segment, or of another call.
 pub fn answer(bench: &mut Fixture, row: &Row) -> Result<Answer, AllocError> {
     match row.name {
         "fold" => fold(&mut bench.segment, row, row.short(0)),

@@ -41,7 +41,7 @@ fn compare_page(one: &Segment, other: &Segment, row: &Row) -> Result<Answer, All
     same.map(Answer::Flag)
 }
 
-/// What a call over the segment and the other one answers, or a question to the segment alone.
+/// The answer of a call over the segment and the other one, or of a query of the segment alone.
 pub fn answer(bench: &mut Fixture, row: &Row) -> Result<Answer, AllocError> {
     match row.name {
         "join" => joined(&mut bench.segment, &bench.other, row),

@@ -6,10 +6,11 @@ use redo_core::Key;
 use segment_core::{Front, Segment};
 use std::alloc::AllocError;
 
-/// What a segment has: its front and base point, how many records it holds, the least key of a held record, how many images it stores,
-/// and the versions of the pages 7 and 8.
+/// What a segment has: its front and base point, how many records it stores, the least key of a stored record, how many images it
+/// stores, and the versions of the pages 7 and 8.
 pub type Shown = (Front, u64, usize, Option<Key>, usize, (u64, u64));
 
+/// What the segment has.
 pub fn show(segment: &Segment) -> Result<Shown, AllocError> {
     let held = segment.stored()?.len();
     let (least, images) = (segment.key_after(None), segment.pages().len());
@@ -42,7 +43,7 @@ fn told(segment: &Segment, row: &Row) -> Result<Answer, AllocError> {
     Answer::parts(row.alloc, "Shown", &show(segment)?)
 }
 
-/// What the segment tells, or a number of it.
+/// The answer of a query of the segment.
 pub fn answer(segment: &Segment, row: &Row) -> Result<Answer, AllocError> {
     match row.name {
         "read" => page(row, segment.read(row.short(0), row.number(1))),

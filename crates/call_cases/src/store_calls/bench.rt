@@ -23,6 +23,7 @@ pub struct Fixture {
 }
 
 impl Fixture {
+    /// The view of `log` by `book`.
     pub fn view(&self) -> View<'_> {
         View {
             book: &self.book,
@@ -31,6 +32,7 @@ impl Fixture {
     }
 }
 
+/// A new book of the roster, and empty logs and stores.
 pub fn new_bench(alloc: Global, roster: Roster) -> Result<Fixture, AllocError> {
     Ok(Fixture {
         book: EpochBook::new(alloc, roster)?,
@@ -49,7 +51,7 @@ fn begin_anew(bench: &mut Fixture, row: &Row) -> Result<Answer, AllocError> {
     }
 }
 
-/// What a call answers.
+/// The answer of a test case.
 pub fn answer(bench: &mut Fixture, row: &Row) -> Result<Answer, AllocError> {
     match row.name {
         "fresh" => begin_anew(bench, row),

@@ -35,7 +35,7 @@ fn copy_book(book: &mut EpochBook) -> Result<Answer, AllocError> {
     renew(book, copied)
 }
 
-/// What a change of the book answers, or another call.
+/// The answer of a change of the book, or of another call.
 pub fn answer(bench: &mut Fixture, row: &Row) -> Result<Answer, AllocError> {
     match row.name {
         "cut" | "has_cut" => with_cut(&mut bench.book, row),
@@ -45,7 +45,7 @@ pub fn answer(bench: &mut Fixture, row: &Row) -> Result<Answer, AllocError> {
     }
 }
 
-// The complete epoch, the minimum read point, and how many advances wait.
+// The complete epoch, the minimum read point, and the number of waiting advances.
 fn told(book: &EpochBook, row: &Row) -> Result<Answer, AllocError> {
     Answer::parts(
         row.alloc,
@@ -54,7 +54,7 @@ fn told(book: &EpochBook, row: &Row) -> Result<Answer, AllocError> {
     )
 }
 
-/// What the book tells as a text.
+/// The answer of a query of the book.
 pub fn shown(book: &EpochBook, row: &Row) -> Result<Answer, AllocError> {
     match row.name {
         "points" => Answer::one(row.alloc, "Numbers", &book.points()),
@@ -68,7 +68,7 @@ pub fn shown(book: &EpochBook, row: &Row) -> Result<Answer, AllocError> {
     }
 }
 
-// A number that the book tells.
+// A number that the book returns.
 fn number(book: &EpochBook, row: &Row) -> Answer {
     match row.name {
         "cuts" => Answer::Number(book.cuts().len() as u64),

@@ -13,14 +13,14 @@ fn raise(store: &mut BaseStore, row: &Row) -> Result<Answer, AllocError> {
     done(store.raise(row.short(0), row.number(1), image))
 }
 
-// Adopts what was given, at one version.
+// Adopts the given images, at one version.
 fn adopt(bench: &mut Fixture, row: &Row) -> Result<Answer, AllocError> {
     let pages = pages(row.alloc, &bench.given)?;
     bench.given.clear();
     done(bench.store.adopt(row.number(0), pages))
 }
 
-// Merges what was given, over a floor.
+// Merges the given images, with a default version.
 fn merge(bench: &mut Fixture, row: &Row) -> Result<Answer, AllocError> {
     let images = images(row.alloc, &bench.given)?;
     bench.given.clear();
@@ -32,7 +32,7 @@ fn swap_stores(bench: &mut Fixture) -> Answer {
     Answer::Word("Done")
 }
 
-/// What a change of a store answers, or another call.
+/// The answer of a change of a store, or of another call.
 pub fn answer(bench: &mut Fixture, row: &Row) -> Result<Answer, AllocError> {
     match row.name {
         "raise" => raise(&mut bench.store, row),
@@ -72,7 +72,7 @@ fn stored_version(store: &BaseStore, page: u16) -> Answer {
     }
 }
 
-// What the store tells, or another answer.
+// The answer of a query of the store, or another answer.
 fn shown(bench: &Fixture, row: &Row) -> Result<Answer, AllocError> {
     let store = &bench.store;
     match row.name {

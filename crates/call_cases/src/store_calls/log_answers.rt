@@ -18,7 +18,7 @@ fn record(found: Option<&Record>) -> Answer {
     }
 }
 
-// The greatest linked number, and how many records the search for it looks at.
+// The greatest linked LSN, and how many records the search for it visits.
 fn linked(view: View, row: &Row) -> Result<Answer, AllocError> {
     let (from, limit) = (row.number(0), row.number(1));
     let mut steps = Steps::new();
@@ -26,7 +26,7 @@ fn linked(view: View, row: &Row) -> Result<Answer, AllocError> {
     Answer::parts(row.alloc, "Linked", &(linked, steps.count))
 }
 
-/// A list that a log gives, or what another call answers.
+/// A list that a log returns, or the answer of another call.
 pub fn answer(bench: &Fixture, row: &Row) -> Result<Answer, AllocError> {
     let (view, alloc) = (bench.view(), row.alloc);
     let (page, from, to) = (row.short(0), row.number(1), row.number(2));
@@ -40,7 +40,7 @@ pub fn answer(bench: &Fixture, row: &Row) -> Result<Answer, AllocError> {
     }
 }
 
-// What is held, or is linked, or what the book tells.
+// The answer of a query of stored records, of the chain, or of the book.
 fn plain(bench: &Fixture, row: &Row) -> Result<Answer, AllocError> {
     match held(bench, row) {
         Answer::Unknown => book_calls::shown(&bench.book, row),
@@ -48,7 +48,7 @@ fn plain(bench: &Fixture, row: &Row) -> Result<Answer, AllocError> {
     }
 }
 
-// What is held, whatever stands, or what another call answers.
+// The answer of a query of stored records, whatever their standing, or of another call.
 fn held(bench: &Fixture, row: &Row) -> Answer {
     let log = &bench.log;
     match row.name {
@@ -64,7 +64,7 @@ fn held(bench: &Fixture, row: &Row) -> Answer {
     }
 }
 
-// What is linked from a number on, or another answer.
+// The answer of a query of the chain from an LSN on, or of another call.
 fn chain(view: View, row: &Row) -> Answer {
     let (first, second) = (row.number(0), row.number(1));
     match row.name {

@@ -9,7 +9,7 @@ use hot_log::{HotLog, PutFault};
 use redo_core::{Record, Refused};
 use std::alloc::AllocError;
 
-// Puts a record that writes nothing: epoch, number, segment backlink and page.
+// Puts a record that writes nothing: epoch, LSN, segment backlink and page.
 fn put(log: &mut HotLog, row: &Row, init: bool) -> Result<Answer, AllocError> {
     let (epoch, number, back, page) = (row.short(0), row.number(1), row.number(2), row.short(3));
     match Record::with(epoch, number, back, page, 0, init, Vec::new(row.alloc)) {
@@ -25,7 +25,7 @@ fn put_record(log: &mut HotLog, row: &Row, redo: Record) -> Result<Answer, Alloc
     }
 }
 
-// The backlink of the record that came back, and why.
+// The backlink of the returned record, and why it was refused.
 fn unput(row: &Row, refused: &Refused<Record, PutFault>) -> Result<Answer, AllocError> {
     match refused.fault {
         PutFault::OtherRecord => Answer::parts(
@@ -57,7 +57,7 @@ fn copy_log(log: &mut HotLog) -> Result<Answer, AllocError> {
     renew(log, copied)
 }
 
-/// What a change of a log answers, or another call.
+/// The answer of a change of a log, or of another call.
 pub fn answer(bench: &mut Fixture, row: &Row) -> Result<Answer, AllocError> {
     match row.name {
         "put" => put(&mut bench.log, row, false),
