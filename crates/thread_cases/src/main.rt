@@ -1,5 +1,5 @@
-//! Rows of threads at a node or its lock, or at a mutex in place of either, and of workers in threads: a line of the input names a task,
-//! and what comes of it is printed.
+//! Test cases of threads at a node or its lock, or at a mutex in place of either, and of workers in threads: a line of the input names
+//! a task, and its results are printed.
 //!
 //! The input has a section for each, in the order of `print_row`. A line that begins with "==" ends a section, and is printed.
 #![tactic(auto)]

@@ -1,5 +1,5 @@
-//! Rows of threads that deliver the facts of a log to a node or take turns at its lock, or at a mutex in place of either: a line names
-//! a task and its words, and is printed with what comes of it. With large numbers they are what `deliveries.py` and `waiting.py` measure.
+//! Test cases of threads that deliver the facts of a log to a node or take turns at its lock, or at a mutex in place of either: a line
+//! names a task and its words, and is printed with the result. With large numbers `deliveries.py` and `waiting.py` measure them.
 //!
 //! A line's words are deliver or turns, who takes, all or holder, the threads, the facts or turns of each, and the rounds of work in a turn.
 ghost use Rattle.std.specs.Prelude.{◌<◌, ◌≤◌, length};
@@ -19,12 +19,12 @@ use std::io;
 use std::sync::Wait;
 use std::thread::Threads;
 
-// The log whose facts are delivered, the largest drill that there is.
+// The log whose facts are delivered, the largest drill.
 type Log = Drill<1048576>;
 
 const LOG_LEN: usize = 2097154;
 
-// The facts are made and dealt whatever takes them, so a run with no taker tells what that costs.
+// The facts are made and dealt for any taker, so a run with no taker measures what that costs.
 fn accepted<R: Threads + Wait + Sync>(
     rt: &R,
     alloc: Global,
@@ -58,7 +58,7 @@ fn accepted_of_each<R: Threads + Wait + Sync>(
     }
 }
 
-// Prints how many facts were accepted. No node has passes for more threads than a lock has passes.
+// Prints how many facts were accepted. A node has passes for at most as many threads as a lock has passes.
 fn deliver<R: Threads + Wait + Sync>(rt: &R, row: &Row) -> io::Result<()> {
     let threads = row.number_or(2, 1);
     if threads == 0 || threads > MAX_PASSES {
@@ -81,6 +81,7 @@ fn turn<R: Threads + Wait + Sync>(rt: &R, row: &Row) -> io::Result<()> {
     row.count(ended as u64, "threads")
 }
 
+/// Prints the result of a task of threads.
 pub fn answer<R: Threads + Wait + Sync>(rt: &R, row: &Row) -> io::Result<()> {
     match row.name {
         "turns" => turn(rt, row),

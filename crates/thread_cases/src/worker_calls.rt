@@ -1,4 +1,4 @@
-//! Rows of workers in threads: a line names a run and its numbers, and what comes of it is printed in several lines.
+//! Test cases of workers in threads: a line names a run and its numbers, and its results are printed in several lines.
 ghost use Rattle.std.specs.Prelude.{◌<◌, ◌≤◌};
 
 mod diaries;
@@ -19,10 +19,10 @@ use std::io;
 use std::sync::Wait;
 use std::thread::Threads;
 
-/// How many facts the log has.
+/// The number of facts of the log.
 pub const FACTS: u64 = 130;
 
-/// Prints what comes of a run. The runs here have so many nodes and workers as they say themselves.
+/// Prints the results of a run. The runs here fix their own numbers of nodes and workers.
 pub fn answer<R: Threads + Wait + Sync>(rt: &R, row: &Row) -> io::Result<()> {
     match row.name {
         "exchange_and_fold" => exchange_and_fold(rt, row),
@@ -36,7 +36,7 @@ pub fn answer<R: Threads + Wait + Sync>(rt: &R, row: &Row) -> io::Result<()> {
     }
 }
 
-// What comes of a run with the nodes and the workers that the line gives.
+// Prints the results of a run with the numbers of nodes and workers that the line gives.
 fn of_floors<R: Threads + Wait + Sync>(rt: &R, row: &Row) -> io::Result<()> {
     let (nodes, workers) = (row.index(0), row.index(1));
     if nodes == 0 || nodes > MAX_NODES || workers == 0 || workers > MAX_WORKERS {
@@ -52,7 +52,7 @@ fn of_floors<R: Threads + Wait + Sync>(rt: &R, row: &Row) -> io::Result<()> {
     }
 }
 
-// The ends of a drill whose workers go in an order, and how many were let through unmet.
+// Prints the results of a drill whose workers go in an order, and how many were let through unmet.
 fn in_order<R: Threads + Wait + Sync>(
     rt: &R,
     row: &Row,

@@ -3,7 +3,7 @@ ghost use Rattle.std.specs.Prelude.{◌≡◌, ◌<◌, length, IfOk};
 use named_log::{LogFact, LogName};
 use std::alloc::{AllocError, Global};
 
-/// The facts at the first `facts` places of the log, dealt to so many threads in turn.
+/// The first `facts` facts of the log, dealt to so many threads in turn.
 pub fn deal<L: LogName>(
     alloc: Global,
     threads: usize,

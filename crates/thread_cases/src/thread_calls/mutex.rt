@@ -5,7 +5,7 @@ use std::sync::{Mutex, Wait};
 use std::thread;
 use std::thread::Threads;
 
-/// Threads take the facts that were dealt to them into one segment under a mutex. The answer is how many of each were accepted.
+/// Threads take the facts that were dealt to them into one segment under a mutex. Returns how many of each were accepted.
 pub fn deliver<L: LogName + Send, R: Threads + Wait + Sync>(
     rt: &R,
     alloc: Global,

@@ -24,7 +24,7 @@ struct Hand<'a, L: LogName> {
     ghost seat_fits: { (seat.board ≡ board.now) × IsNode board.now.words node.now.number },
 }
 
-/// Threads deliver the facts that were dealt to them to one node, whose trail has room for `capacity`. The answer is how many of each
+/// Threads deliver the facts that were dealt to them to one node, whose trail has room for `capacity`. Returns how many of each
 /// were accepted.
 pub fn deliver<L: LogName + Send + Sync, R: Threads + Wait + Sync>(
     rt: &R,

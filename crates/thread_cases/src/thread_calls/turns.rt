@@ -72,7 +72,7 @@ impl Shared {
         }
     }
 
-    // Empty turns, as long as the holder that works is not done.
+    // Takes empty turns until the working holder is done.
     fn turns_until<R: Wait>(&self, rt: &R, done: &AtomicU64) {
         for _ in rt.forever() {
             if done.load(Ordering::SeqCst) != 0 {
@@ -83,7 +83,7 @@ impl Shared {
     }
 }
 
-/// What the threads do: each `turns` turns of `rounds`, or, with one holder that works, the first one alone, and the others wait.
+/// What the threads do: each takes `turns` turns of `rounds`, or, with one working holder, only the first does, and the others wait.
 #[derive(Drop)]
 pub struct Task {
     pub threads: usize,
@@ -127,7 +127,7 @@ fn opened(alloc: Global, name: &str) -> Result<Shared, AllocError> {
     Ok(Shared::Node(lock))
 }
 
-/// Threads take turns at a node's lock, or at a mutex where that is its name, as the task says. The answer is how many threads ended.
+/// Threads take turns at a node's lock, or at a mutex where that is its name, as the task says. Returns how many threads ended.
 pub fn take_turns<R: Threads + Wait + Sync>(
     rt: &R,
     alloc: Global,

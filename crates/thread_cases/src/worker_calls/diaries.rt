@@ -1,4 +1,4 @@
-//! A gate that writes down how it is called.
+//! A gate that records its calls.
 use crate::Log;
 use case_io::Row;
 use node_cell::Node;
@@ -15,7 +15,7 @@ enum Moment {
     After,
 }
 
-/// A call of a gate, and how many keys the watched node then told, where there is one.
+/// A call of a gate, and how many keys the summary of the watched node had then, where there is one.
 #[derive(Clone, Copy)]
 pub struct Call {
     moment: Moment,
@@ -26,7 +26,7 @@ pub struct Call {
 /// How many calls a diary has room for.
 const ROOM: usize = 256;
 
-/// A gate that lets everything through, and writes each call down. It may watch a node.
+/// A gate that lets everything through, and records each call. It may watch a node.
 #[derive(Drop)]
 pub struct Diary<'r, R: Wait> {
     rt: &'r R,
@@ -35,6 +35,7 @@ pub struct Diary<'r, R: Wait> {
 }
 
 impl<'r, R: Wait> Diary<'r, R> {
+    /// A diary with no calls, which watches `node` where there is one.
     pub fn open(
         rt: &'r R,
         alloc: Global,
@@ -55,13 +56,13 @@ impl<'r, R: Wait> Diary<'r, R> {
         let _ = calls.push(Call { moment, job, keys });
     }
 
-    // How many keys the summary of the watched node has; none where there is no node, or no memory.
+    // How many keys the summary of the watched node has; None where there is no node, or memory runs out.
     fn keys(&self) -> Option<usize> {
         let summary = self.node?.summary(self.rt).ok()?;
         Some(summary.keys().len())
     }
 
-    /// The calls, in the order in which they came.
+    /// The calls, in order.
     pub fn into_calls(self) -> Vec<Call> {
         let Diary {
             rt: _,
@@ -86,7 +87,7 @@ impl<'r, R: Wait> Gate for Diary<'r, R> {
     }
 }
 
-// The calls of a worker, in the order in which they came.
+// The calls of a worker, in order.
 fn calls_of(
     alloc: Global,
     calls: &[Call],
@@ -101,7 +102,7 @@ fn calls_of(
     Ok(own)
 }
 
-/// Prints each call, in the order in which they came: the worker and its turn, and how many keys the watched node told.
+/// Prints each call, in order: the worker and its turn, and how many keys the watched node had.
 pub fn print_seen(row: &Row, calls: &[Call]) -> io::Result<()> {
     for call in calls {
         let job = call.job;

@@ -13,7 +13,7 @@ use std::io;
 use std::sync::Wait;
 use std::thread::Threads;
 
-// A floor of so many nodes, and the plan of a drill of so many workers.
+// The setup of a drill of so many nodes, and the plan of so many workers.
 fn planned(
     alloc: Global,
     nodes: usize,
@@ -39,8 +39,8 @@ pub fn print_plan(row: &Row, nodes: usize, workers: usize) -> io::Result<()>
     row.one("Gossip", &plan.gossip)
 }
 
-/// Prints what comes of a drill under a gate, with trails of at most so many entries: what was refused, what the first node's own
-/// segment makes of the log beside all of them joined, and what all tell.
+/// Prints the results of a drill under a gate, with trails of at most so many entries: how much was refused, and the drill's text
+/// for all nodes joined.
 pub fn print_ends<G: Gate + Sync, R: Threads + Wait + Sync>(
     rt: &R,
     row: &Row,
@@ -78,7 +78,7 @@ fn refused_of(answers: &[Answer<Log>]) -> usize {
     refused
 }
 
-// Prints what all nodes tell.
+// Prints the drill's text for all nodes joined.
 fn print_told(row: &Row, closed: &[Closed<Log>]) -> io::Result<()> {
     let joined = join_all(row.alloc, closed)?;
     let text = tell(row.alloc, FACTS as usize, joined.as_slice())?;

@@ -22,7 +22,7 @@ fn plans_of<R: Wait>(
     Ok(plans)
 }
 
-/// The pages of a node with the early places, folded by many threads.
+/// Prints the folds of the pages of a node with the early facts, made by many threads.
 pub fn print_folds<R: Threads + Wait + Sync>(rt: &R, row: &Row) -> io::Result<()> {
     let worked = early_at_the_first(rt, row.alloc, 1)?;
     match worked.nodes.first() {
@@ -39,7 +39,7 @@ fn print_folds_of<R: Threads + Wait + Sync>(rt: &R, row: &Row, node: &Node<Log>)
     }
 }
 
-// Prints of each page its number, its version, and the number with which it begins.
+// Prints of each page its number, its version, and the number that it begins with.
 fn print_each(row: &Row, folds: &[Folded<Log>]) -> io::Result<()> {
     for folded in folds {
         let begins = first_number(folded.image().bytes());

@@ -3,31 +3,34 @@ use node_threads::{Gate, Job, Kind};
 use std::sync::atomic::{AtomicU64, Ordering};
 use std::thread;
 
-/// How often a gate looks before it lets a worker through all the same.
+/// How often a gate polls before it lets a worker through all the same.
 const LOOKS: u64 = 100_000_000;
 
-/// How many times something came.
+/// A counter of events, which threads share.
 #[derive(Drop)]
 pub struct Tally {
     count: AtomicU64,
 }
 
 impl Tally {
+    /// A counter at 0.
     pub fn new() -> Tally {
         Tally {
             count: AtomicU64::new(0),
         }
     }
 
+    /// Counts one event.
     pub fn add(&self) {
         self.count.fetch_add(1, Ordering::SeqCst);
     }
 
+    /// The number of events so far.
     pub fn read(&self) -> u64 {
         self.count.load(Ordering::SeqCst)
     }
 
-    // Whether it came so many times before the looks were used up.
+    // Whether the counter reaches `count` before the polls are used up.
     fn reaches(&self, count: u64) -> bool {
         for _ in 0..LOOKS {
             if self.read() >= count {
@@ -60,11 +63,12 @@ pub struct Turnstile {
     folding: Tally,
     gossiping: Tally,
     mails: Tally,
-    /// How many workers were let through unmet.
+    /// How many workers were let through without their condition.
     pub unmet: Tally,
 }
 
 impl Turnstile {
+    /// A gate that no worker has reached.
     pub fn new(order: Order, parcels: u64, rounds: u64) -> Turnstile {
         Turnstile {
             order,

@@ -1,4 +1,4 @@
-//! Runs under a gate that writes down how it is called.
+//! Runs under a gate that records its calls.
 ghost use Rattle.std.specs.Prelude.{◌<◌, ◌≤◌};
 
 use crate::Log;
@@ -24,21 +24,21 @@ fn lists(alloc: Global, workers: &[&[Round]]) -> Result<Vec<Vec<Round>>, AllocEr
     Ok(lists)
 }
 
-// A floor of so many nodes to which three facts each are dealt.
+// The setup of a drill of so many nodes to which three facts each are dealt.
 fn small_floor(alloc: Global, nodes: usize) -> Result<DrillSetup<Log>, AllocError>
     requires { (0 < nodes) × (nodes ≤ MAX_NODES) }
 {
     open_floor(alloc, nodes, nodes, 3 * nodes, 3)
 }
 
-// How many nodes and inlets of a floor stay.
+// How many nodes and inlets of a setup remain.
 #[derive(Clone, Copy)]
 struct Kept {
     nodes: usize,
     inlets: usize,
 }
 
-// Runs a plan on what stays of a floor, under a diary that watches the first node where it is to: the calls, and what was refused.
+// Runs a plan on what remains of a setup, under a diary that watches the first node if `is_watched`: the calls, and the refusals.
 fn run_floor<R: Threads + Wait + Sync>(
     rt: &R,
     alloc: Global,
@@ -64,8 +64,8 @@ fn run_floor<R: Threads + Wait + Sync>(
     }
 }
 
-/// Prints the calls of the gate of a run, by workers, and what was refused. Of four nodes, each with a feed and an inlet, the last two
-/// nodes and the last inlet are left out: so one drainer has no node, and one feeder no inlet.
+/// Prints the calls of the gate of a run, by workers, and the refusals. Of four nodes, each with a feed and an inlet, the last two nodes
+/// and the last inlet are left out: so one drainer has no node, and one feeder no inlet.
 pub fn print_jobs<R: Threads + Wait + Sync>(rt: &R, row: &Row) -> io::Result<()> {
     let floor = small_floor(row.alloc, 4)?;
     let kept = Kept {
@@ -95,7 +95,7 @@ fn jobs_plan(alloc: Global) -> Result<Plan, AllocError> {
     })
 }
 
-/// Prints each call of the gate of a run in which one drainer delivers three facts, and what its node told then.
+/// Prints each call of the gate of a run in which one drainer delivers three facts, and how many keys its node had then.
 pub fn print_deliveries<R: Threads + Wait + Sync>(rt: &R, row: &Row) -> io::Result<()> {
     let floor = small_floor(row.alloc, 1)?;
     let kept = Kept {
@@ -112,8 +112,8 @@ pub fn print_deliveries<R: Threads + Wait + Sync>(rt: &R, row: &Row) -> io::Resu
     row.one("Refused", &refusals)
 }
 
-/// Prints each call of the gate of two runs, what a node told then, and what was refused: the second node asks the first, which has the
-/// early places, and then the first folds all its pages. It prints what the nodes have in the end.
+/// Prints each call of the gate of two runs, how many keys a node had then, and the refusals: the second node asks the first, which
+/// has the early facts, and then the first folds all its pages. Prints what the nodes have in the end.
 pub fn print_rounds<R: Threads + Wait + Sync>(rt: &R, row: &Row) -> io::Result<()> {
     let folds = [
         (1, 0),
@@ -132,7 +132,7 @@ pub fn print_rounds<R: Threads + Wait + Sync>(rt: &R, row: &Row) -> io::Result<(
     print_nodes(rt, row, worked, asked.saturating_add(folded))
 }
 
-// One folder and one gossiper run these rounds, and a node is watched. The answer is how many rounds were refused.
+// One folder and one gossiper run these rounds, and a node is watched. Returns how many rounds were refused.
 fn print_run<R: Threads + Wait + Sync>(
     rt: &R,
     row: &Row,

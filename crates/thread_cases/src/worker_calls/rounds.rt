@@ -11,7 +11,7 @@ use std::io;
 use std::sync::Wait;
 use std::thread::Threads;
 
-// The places of the first epoch's records and of the advance.
+// The number of the early facts: the first epoch's records and the advance.
 const EARLY: usize = 65;
 
 type Round = (u16, u16);
@@ -40,7 +40,7 @@ fn plan_of(
     })
 }
 
-/// One folder and one gossiper run these rounds under a gate, at nodes that have worked: what was refused.
+/// One folder and one gossiper run these rounds under a gate, at nodes that have worked. Returns the refusals.
 pub fn work_again<G: Gate + Sync, R: Threads + Wait + Sync>(
     rt: &R,
     alloc: Global,
@@ -58,7 +58,7 @@ pub fn work_again<G: Gate + Sync, R: Threads + Wait + Sync>(
     }
 }
 
-// One node or two that have taken so many parcels each; the early places are dealt to so many nodes in turn.
+// One node or two that have taken so many parcels each; the early facts are dealt to so many nodes in turn.
 fn early<R: Threads + Wait + Sync>(
     rt: &R,
     alloc: Global,
@@ -74,7 +74,7 @@ fn early<R: Threads + Wait + Sync>(
     work(rt, alloc, floor, plan, &Open)
 }
 
-/// One node or two, of which the first has the early places.
+/// One node or two, of which the first has the early facts.
 pub fn early_at_the_first<R: Threads + Wait + Sync>(
     rt: &R,
     alloc: Global,
@@ -85,7 +85,7 @@ pub fn early_at_the_first<R: Threads + Wait + Sync>(
     early(rt, alloc, nodes, 1, &[EARLY as u64])
 }
 
-/// The second asks the first, and then the first folds its first page.
+/// The second node asks the first, and then the first folds its first page.
 pub fn exchange_and_fold<R: Threads + Wait + Sync>(rt: &R, row: &Row) -> io::Result<()> {
     let worked = early_at_the_first(rt, row.alloc, 2)?;
     let refused = ask_and_fold(rt, row.alloc, &worked)?;
@@ -103,14 +103,14 @@ fn ask_and_fold<R: Threads + Wait + Sync>(
     Ok(asked.len() + folded.len())
 }
 
-/// Rounds that name no node: each is refused by name, and the others go on.
+/// Rounds that name no node: each is refused by name, and the others are run.
 pub fn strangers<R: Threads + Wait + Sync>(rt: &R, row: &Row) -> io::Result<()> {
     let worked = early_at_the_first(rt, row.alloc, 2)?;
     let refused = name_strangers(rt, row, &worked)?;
     print_nodes(rt, row, worked, refused)
 }
 
-// Prints each refusal. The answer is how many there are.
+// Prints each refusal, and returns how many there are.
 fn name_strangers<R: Threads + Wait + Sync>(
     rt: &R,
     row: &Row,
@@ -153,7 +153,7 @@ fn print_stored(row: &Row, segment: &Segment) -> io::Result<()> {
     row.parts("Stored", &(segment.base_point(), keys))
 }
 
-/// Two nodes that share two thirds of the early places and never meet: what they tell, each by itself, the second one first.
+/// Prints what two nodes have that share two thirds of the early facts and never exchange a message, each by itself, the second first.
 pub fn apart<R: Threads + Wait + Sync>(rt: &R, row: &Row) -> io::Result<()> {
     let worked = early(rt, row.alloc, 2, 3, &[22, 22])?;
     let closed = close_all(rt, row.alloc, worked)?;
