@@ -1,4 +1,4 @@
--- Lists of one, and what stands in them.
+-- Lists of one, and their item.
 use Rattle.std.proofs.Common.{◌≡◌, ℕ, zero, suc, List, [], ◌∷◌, length, subst, sym, ap, ◌∙◌, arith, Some}
 use Rattle.std.specs.Prelude.{slice_get}
 use Rattle.atomic_table.specs.Seated.{TableId}
@@ -8,12 +8,12 @@ use Rattle.node_lock.specs.Passes.{PassData, AreIdle, IsIdlePass}
 use Rattle.node_threads.specs.declared.refusal.Refusal.{Refusal}
 use Rattle.node_threads.specs.Refusals.{AllStarted}
 
--- what stands in a list of one is that one
+-- an item of a list of one is its item
 pub the_one : {X : Type 0} (xs : List X) (x y : X) (k : ℕ) → xs ≡ x ∷ [] → slice_get xs k ≡ Some y → y ≡ x
 the_one xs x y zero is e = let at : Some x ≡ Some y = ap (λ zs. slice_get zs 0) (sym is) ∙ e in cc
 the_one xs x y (suc k) is e = let at = ap (λ zs. slice_get zs (suc k)) (sym is) ∙ e in absurd cc
 
--- it stands at the first place
+-- it is at the first index
 pub at_first : {X : Type 0} (xs : List X) (x : X) → xs ≡ x ∷ [] → slice_get xs 0 ≡ Some x
 at_first xs x is = ap (λ zs. slice_get zs 0) is
 

@@ -1,4 +1,4 @@
-//! How `serve` is embedded: a node of a log is opened, fed and folded by threads, closed, and its receipts are settled.
+//! How to embed `serve`: open a node of a log, feed it and fold its pages in threads, close it, and settle (verify) its receipts.
 #![tactic(auto)]
 
 ghost use Rattle.std.specs.Prelude.{◌≡◌, ◌∷◌, [], length, IfOk};
@@ -21,7 +21,7 @@ type Log = Drill<64>;
 /// How many facts are delivered: those of the log's first epoch.
 const FACTS: u64 = 65;
 
-/// A gate that holds nobody back.
+/// A gate that blocks no worker.
 struct Through;
 
 impl Gate for Through {
@@ -32,7 +32,7 @@ impl Gate for Through {
     fn after(&self, _job: Job) {}
 }
 
-/// A node with all that its workers need. The ghost fields are what `serve` requires.
+/// A node with all that its workers require. The ghost fields are what `serve` requires.
 #[derive(Drop)]
 struct Site {
     board: Board<Log>,
@@ -89,7 +89,7 @@ fn only<T: Drop>(mut items: Vec<T>) -> T
     items.pop().unwrap()
 }
 
-/// The drainer takes every fact, and a folder folds two pages beside it.
+/// The drainer takes every fact, while a folder folds two pages.
 fn plan(alloc: Global) -> Result<Plan, AllocError> {
     let rounds = [(1, 0), (1, 1)].to_vec(alloc)?;
     Ok(Plan {
@@ -99,8 +99,8 @@ fn plan(alloc: Global) -> Result<Plan, AllocError> {
     })
 }
 
-/// Runs the workers, and closes the node: its trail, and the receipts that the drainer was answered. Where a worker could not be
-/// started, or memory ran out, there is neither.
+/// Runs the workers, and closes the node: its trail, and the answers that the drainer got, receipts or refusals. Fails where a worker
+/// could not be started, or memory ran out.
 fn work<R: Threads + Wait + Sync>(
     rt: &R,
     alloc: Global,
