@@ -1,0 +1,156 @@
+"""That the documents and the docstrings of public items are plain: the words that they avoid, and limits of length.
+
+Names in backquotes and blocks of code are left out, so formats, commands and signatures keep their words.
+"""
+
+import re
+
+import pytest
+
+from harness import ROOT
+
+PAGES = [ROOT / "README.md", *sorted((ROOT / "docs").glob("*.md")), *sorted(ROOT.glob("*/README.md")), *sorted(ROOT.glob("crates/*/README.md"))]
+CRATES = sorted(path.name for path in (ROOT / "crates").iterdir() if (path / "src").is_dir())
+
+# What to write in place of a word; the words are those that mean several things, or that the field has another term for.
+PLAIN = {
+    r"tell|tells|told|telling": "report, return, describe, send, export",
+    r"(?<!what )stands?|stood": "is, are, is listed in, depends on",
+    r"(?:is|are) due|due (?:to|at|in|for) (?:be|the)|pages? due": "pending, scheduled",
+    r"spell(?:s|ed|ing|ings)?|spelt": "encode, encoding",
+    r"wants?|wanted|wanting|lacks? of memory is wanting": "require, need; memory runs out",
+    r"behind(?! (?:an? |one\b|standard\b))": "after, following",
+    r"lend|lends|lent|lending": "borrow",
+    r"floors": "layers, default versions",
+    r"hydrat\w+": "snapshot, restore",
+    r"wrong bod(?:y|ies)|must-fail edits?": "mutant",
+    r"held records?|records? (?:that (?:is|are) |is |are )?held|held under": "stored",
+    r"plain (?:slow )?(?:model|program)": "reference model",
+    r"settled": "stable, verified",
+    r"hangs?(?: on)?|hung": "is blocked by",
+    r"strays?": "orphan record",
+    r"is shown|are shown": "is reported, appears",
+    r"over any facts": "for any facts",
+    r"anew": "again, from scratch",
+    r"throws? away|threw away|thrown away|let go|lets go": "drop, discard",
+    r"goes? over|goes through|going over|comes? to|looks? at": "scan, visit, reach",
+    r"laws? (?=`)|laws of (?:facts|merging|those|its changes)": "theorem",
+    r"by rows|rows alone": "by test cases",
+    r"processor (?:time|seconds?)|in a hundred|times as long": "CPU time, percent",
+    r"no longer|any ?more": "say what is, not what was",
+}
+AVOIDED = {re.compile(rf"\b(?:{words})\b", re.I): instead for words, instead in PLAIN.items()}
+
+BLOCK = r"^```[\s\S]*?^```$|^    .*$"
+CODE = re.compile(BLOCK + r"|`[^`\n]*`", re.M)
+WORD = re.compile(r"\S*\w\S*")
+LONGEST_MEAN = 20  # words of a sentence, on each page
+# Words of a page, without its blocks of code.
+MOST_WORDS = {
+    "README.md": 1350,
+    "docs/CONCEPTS.md": 2800,
+    "docs/CONTRIBUTING.md": 1500,
+    "docs/DECISIONS.md": 5600,
+    "docs/EMBEDDING.md": 2600,
+    "docs/FORMATS.md": 5000,
+    "docs/GATE.md": 890,
+    "docs/GLOSSARY.md": 1500,
+    "docs/HOW_IT_IS_PROVED.md": 1250,
+    "docs/LIMITS.md": 1300,
+    "docs/MAP.md": 2100,
+    "docs/PROMISES.md": 8000,
+    "docs/RULES.md": 2900,
+    "docs/RUNNING_THREADS.md": 1300,
+    "bench/README.md": 600,
+    "embedding/README.md": 600,
+    "examples/README.md": 2600,
+    "tests/README.md": 600,
+    "tools/README.md": 600,
+}
+MOST_WORDS_OF_A_CRATE = 300
+MOST_WORDS_TOGETHER = 40000  # of README.md and docs, with their blocks of code
+
+# Crates whose docstrings are being rewritten.
+NOT_YET = ()
+
+
+def name_of(path):
+    return str(path.relative_to(ROOT))
+
+
+def avoided(text):
+    """The avoided words of a text, each with what to write in its place."""
+    text = CODE.sub(lambda found: re.sub(r"[^\n]", " ", found[0]), text)
+    for number, line in enumerate(text.splitlines(), 1):
+        for words, instead in AVOIDED.items():
+            for found in words.finditer(line):
+                yield f"line {number}: {found[0]} (write: {instead})"
+
+
+def meanings(text):
+    """A glossary without its first column, which has the words themselves."""
+    return re.sub(r"(?m)^\| [^|]* \|", "|", text)
+
+
+def docstrings(text):
+    """The lines of the docstrings of public items, and of those of the whole file."""
+    kept = []
+    for line in map(str.strip, text.splitlines()):
+        if line.startswith("//!"):
+            yield line[3:]
+        elif line.startswith("///"):
+            kept.append(line[3:])
+        elif not line.startswith("#["):
+            if line.startswith("pub "):
+                yield from kept
+            kept = []
+
+
+def without_code(text):
+    return re.sub(BLOCK, "", text, flags=re.M)
+
+
+def sentences(text):
+    """The sentences of a page's paragraphs and lists, in words. Tables, headings and pictures are left out."""
+    lines = [line for line in without_code(text).splitlines() if not line.startswith(("|", "#", "!"))]
+    for paragraph in re.split(r"\n\s*\n|\n(?=\s*(?:-|\d+\.) )", "\n".join(lines)):
+        for sentence in re.split(r"(?<=[.!?])\s+", paragraph.strip()):
+            if WORD.search(sentence):
+                yield len(WORD.findall(sentence))
+
+
+@pytest.mark.parametrize("page", PAGES, ids=name_of)
+def test_pages_avoid_words(page):
+    text = page.read_text()
+    assert list(avoided(meanings(text) if page.name == "GLOSSARY.md" else text)) == []
+
+
+@pytest.mark.parametrize("crate", CRATES)
+def test_docstrings_avoid_words(crate):
+    found = [f"{name_of(path)}: {word}" for path in sorted((ROOT / "crates" / crate / "src").glob("**/*.rt"))
+             for line in docstrings(path.read_text()) for word in avoided(line.strip())]
+    assert (found == []) is (crate not in NOT_YET), found
+
+
+@pytest.mark.parametrize("page", PAGES, ids=name_of)
+def test_pages_are_short(page):
+    words = len(WORD.findall(without_code(page.read_text())))
+    assert words <= MOST_WORDS.get(name_of(page), MOST_WORDS_OF_A_CRATE)
+
+
+@pytest.mark.parametrize("page", PAGES, ids=name_of)
+def test_sentences_are_short(page):
+    lengths = list(sentences(page.read_text()))
+    assert not lengths or sum(lengths) / len(lengths) <= LONGEST_MEAN
+
+
+def test_documents_are_short():
+    pages = [page for page in PAGES if page.parent in (ROOT, ROOT / "docs")]
+    assert sum(len(WORD.findall(page.read_text())) for page in pages) <= MOST_WORDS_TOGETHER
+
+
+def test_avoided_words_are_found():
+    assert [word.split(" (")[0] for word in avoided("It is told\nbehind the last, anew.")] == ["line 1: told", "line 2: behind", "line 2: anew"]
+    assert list(avoided("A node behind a lock; `told`, and\n\n    told\n\n```\nanew\n```\n")) == []
+    assert list(docstrings("/// Kept.\n#[derive(Drop)]\npub struct A;\n/// Not.\nstruct B;\n")) == [" Kept."]
+    assert list(sentences("# No\n\nOne two. Three.\n\n- Four five six\n\n    no\n")) == [2, 1, 3]
