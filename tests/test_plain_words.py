@@ -37,7 +37,6 @@ PLAIN = {
     r"laws? (?=`)|laws of (?:facts|merging|those|its changes)": "theorem",
     r"by rows|rows alone": "by test cases",
     r"processor (?:time|seconds?)|in a hundred|times as long": "CPU time, percent",
-    r"no longer|any ?more": "say what is, not what was",
 }
 AVOIDED = {re.compile(rf"\b(?:{words})\b", re.I): instead for words, instead in PLAIN.items()}
 
