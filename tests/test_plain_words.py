@@ -110,8 +110,8 @@ def without_code(text):
 
 
 def sentences(text):
-    """The sentences of a page's paragraphs and lists, in words. Tables, headings and pictures are left out."""
-    lines = [line for line in without_code(text).splitlines() if not line.startswith(("|", "#", "!"))]
+    """The sentences of a page's paragraphs and lists, in words. Tables, headings, pictures and the users of a crate are left out."""
+    lines = [line for line in without_code(text).splitlines() if not line.startswith(("|", "#", "!", "**Used by**"))]
     for paragraph in re.split(r"\n\s*\n|\n(?=\s*(?:-|\d+\.) )", "\n".join(lines)):
         for sentence in re.split(r"(?<=[.!?])\s+", paragraph.strip()):
             if WORD.search(sentence):
