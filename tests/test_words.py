@@ -1,6 +1,6 @@
-"""Each word of the definitions means one thing, and each lemma is stated once.
+"""Each name of the definitions means one thing, and each lemma is stated once.
 
-A word that the definitions (`specs`) have more than once, is listed by the table in docs/DECISIONS.md for exactly the crates that have
+A name that the definitions (`specs`) have more than once, is listed by the table in docs/DECISIONS.md for exactly the crates that have
 it. A statement of two arguments or more that `proofs` have more than once, under whatever names, is named by the section of that table.
 How bound variables are named makes no difference, and the parameters of a module are arguments of its lemmas.
 """
@@ -11,7 +11,7 @@ from typing import NamedTuple
 from harness import ROOT
 
 PAGE = "docs/DECISIONS.md"
-SECTION = "\n## Words and lemmas that stand twice\n"
+SECTION = "\n## Definitions and lemmas in several crates\n"
 LEAST_ARGUMENTS = 2  # of a lemma that is to stand once
 
 HEAD = re.compile(r"((?:(?:pub|abbrev|unfoldable|record|data) )*)(\S+) (: )?(.*)")
