@@ -17,7 +17,7 @@ MAP_ROW = re.compile(r"^\| `([a-z_]+)` \| [^|]* \|([^|]*)\|$", re.M)
 
 
 def crates():
-    """The crates of crates.txt in their order, each with what it stands on."""
+    """The crates of crates.txt in their order, each with what it depends on."""
     rows = re.findall(r"(?m)^([a-z_0-9]+)[^#\n]*:(.*)", (ROOT / "crates.txt").read_text())
     return {name: deps.split() for name, deps in rows}
 
@@ -27,10 +27,10 @@ def below(name, rows):
 
 
 def test_map_has_the_crates():
-    """Each row names what the crate stands on, a library of the kit in backquotes, in the order of crates.txt."""
+    """Each row names what the crate depends on, a library of the kit in backquotes, in the order of crates.txt."""
     rows = crates()
-    told = [(name, deps.strip()) for name, deps in MAP_ROW.findall((ROOT / "docs/MAP.md").read_text()) if name in rows]
-    assert told == [(name, ", ".join(dep if dep in rows else f"`{dep}`" for dep in deps)) for name, deps in rows.items()]
+    named = [(name, deps.strip()) for name, deps in MAP_ROW.findall((ROOT / "docs/MAP.md").read_text()) if name in rows]
+    assert named == [(name, ", ".join(dep if dep in rows else f"`{dep}`" for dep in deps)) for name, deps in rows.items()]
 
 
 @EACH_PAGE
@@ -43,6 +43,13 @@ def test_named_files_are_there(page):
         if (is_path or is_page) and "NAME" not in name and not any([*place.glob(name)] for place in (ROOT, ROOT / "docs", page.parent)):
             absent.append(name)
     assert absent == []
+
+
+@EACH_PAGE
+def test_named_sources_are_there(page):
+    """A file of a crate is named from `crates/` or from the crate on, with its ending or without."""
+    names = re.findall(r"`(?:crates/)?([a-z_]+/(?:src|specs|proofs)/[A-Za-z_/]+(?:\.rt|\.antt)?)`", page.read_text())
+    assert [name for name in names if not any(ROOT.glob(f"crates/{name}")) and not any(ROOT.glob(f"crates/{name}.*"))] == []
 
 
 @EACH_PAGE
