@@ -71,12 +71,9 @@ MOST_WORDS_TOGETHER = 40000  # of README.md and docs, with their blocks of code
 
 # Crates whose docstrings use such words. The list only gets shorter.
 NOT_YET = (
-    "call_cases",
-    "case_io",
     "cluster_theorems",
     "fleet_core",
     "fleet_drill",
-    "fleet_tool",
     "frame_stream",
     "front_board",
     "hot_log",
@@ -88,11 +85,8 @@ NOT_YET = (
     "node_lock",
     "node_stream",
     "node_threads",
-    "script_steps",
     "script_text",
-    "serve_example",
     "snapshot",
-    "thread_cases",
 )
 
 
