@@ -18,7 +18,7 @@ QUOTED = re.compile(r"`([^`]+)`")
 FUNCTION = re.compile(r"(?:pub(?:\([a-z]+\))? )?(?:extern \"C\" )?fn (\w+)")
 TYPE = re.compile(r"(?:pub(?:\([a-z]+\))? )?(?:struct|enum|trait) (\w+)")
 OWNER = re.compile(r"impl(?:<(?:[^<>]|<[^<>]*>)*>)? (?:.* for )?(\w+)")
-CLAUSE = re.compile(r"(ensures|requires)(?: (\w+))? \{")
+CLAUSE = re.compile(r"(ensures|requires)\*?(?: (\w+))? \{")
 GHOST = re.compile(r"ghost (\w+)(?::| =)")
 DEFINITION = re.compile(r"(?:(?:pub|abbrev|unfoldable|record|data|constructor) )*([^\s(){}]+) ")
 
