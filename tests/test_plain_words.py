@@ -15,10 +15,10 @@ CRATES = sorted(path.name for path in (ROOT / "crates").iterdir() if (path / "sr
 # What to write in place of a word; the words are those that mean several things, or that the field has another term for.
 PLAIN = {
     r"tell|tells|told|telling": "report, return, describe, send, export",
-    r"(?<!what )stands?|stood": "is, are, is listed in, depends on",
+    r"stands?|stood": "is, are, is listed in, depends on",
     r"(?:is|are) due|due (?:to|at|in|for) (?:be|the)|pages? due": "pending, scheduled",
     r"spell(?:s|ed|ing|ings)?|spelt": "encode, encoding",
-    r"wants?|wanted|wanting|lacks? of memory is wanting": "require, need; memory runs out",
+    r"wants?|wanted|wanting": "require, need; memory runs out",
     r"behind(?! (?:an? |one\b|standard\b))": "after, following",
     r"lend|lends|lent|lending": "borrow",
     r"floors": "layers, default versions",
@@ -34,7 +34,7 @@ PLAIN = {
     r"anew": "again, from scratch",
     r"throws? away|threw away|thrown away|let go|lets go": "drop, discard",
     r"goes? over|goes through|going over|comes? to|looks? at": "scan, visit, reach",
-    r"laws? (?=`)|laws of (?:facts|merging|those|its changes)": "theorem",
+    r"laws?(?= `)|laws of (?:facts|merging|those|its changes)": "theorem",
     r"by rows|rows alone": "by test cases",
     r"processor (?:time|seconds?)|in a hundred|times as long": "CPU time, percent",
 }
@@ -96,7 +96,7 @@ def name_of(path):
 
 def avoided(text):
     """The avoided words of a text, each with what to write in its place."""
-    text = CODE.sub(lambda found: re.sub(r"[^\n]", " ", found[0]), text)
+    text = CODE.sub(lambda found: re.sub(r"[^\n`]", " ", found[0]), text)
     for number, line in enumerate(text.splitlines(), 1):
         for words, instead in AVOIDED.items():
             for found in words.finditer(line):
