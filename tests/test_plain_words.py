@@ -68,6 +68,7 @@ MOST_WORDS = {
     "tools/README.md": 600,
 }
 MOST_WORDS_OF_A_CRATE = 300
+MOST_WORDS_OF_ANOTHER_PAGE = 1500
 MOST_WORDS_TOGETHER = 40000  # of README.md and docs, with their blocks of code
 
 # Crates whose docstrings use such words. The list only gets shorter.
@@ -152,7 +153,8 @@ def test_docstrings_avoid_words(crate):
 @pytest.mark.parametrize("page", PAGES, ids=name_of)
 def test_pages_are_short(page):
     words = len(WORD.findall(without_code(page.read_text())))
-    assert words <= MOST_WORDS.get(name_of(page), MOST_WORDS_OF_A_CRATE)
+    most = MOST_WORDS_OF_A_CRATE if name_of(page).startswith("crates/") else MOST_WORDS_OF_ANOTHER_PAGE
+    assert words <= MOST_WORDS.get(name_of(page), most)
 
 
 @pytest.mark.parametrize("page", PAGES, ids=name_of)
