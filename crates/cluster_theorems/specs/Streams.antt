@@ -4,8 +4,8 @@ use Rattle.redo_core.specs.Sound.{IsSound}
 use Rattle.redo_core.specs.declared.facts.Fact.{Fact}
 use Rattle.replica.specs.Parts.{ReplicaData, empty_replica}
 use Rattle.replica.specs.Meaning.{Turn}
-use Rattle.line_stream.specs.Lines.{AnswersLines}
-use Rattle.frame_stream.specs.Frames.{AnswersFrames}
+use Rattle.framing.specs.Lines.{AnswersLines}
+use Rattle.framing.specs.Frames.{AnswersFrames}
 use Rattle.node_stream.specs.Answering.{Spoken, by_lines, by_frames, IsAnswer, IsFrameAnswer}
 use Rattle.node_stream.specs.Running.{MakeTurns}
 use Rattle.cluster_theorems.specs.Turns.{Interleaves}

@@ -2,8 +2,8 @@
 use Rattle.std.specs.Prelude.{ℕ, List, Result, Ok, Err, codes}
 use Rattle.fleet_tool.specs.declared.answer.Verdict.{Verdict}
 use Rattle.fleet_tool.specs.declared.answer.Verdict.TheVariants.{Done, BadLine, Unsound}
-use Rattle.line_stream.specs.declared.fault.RunFault.{RunFault}
-use Rattle.line_stream.specs.declared.fault.RunFault.TheVariants.{Input, Output, Memory}
+use Rattle.framing.specs.declared.devices.fault.RunFault.{RunFault}
+use Rattle.framing.specs.declared.devices.fault.RunFault.TheVariants.{Input, Output, Memory}
 
 -- 0 done, 2 a bad line, 3 a log that is not sound, 4 a device that failed, 5 out of memory
 abbrev pub status_of : Result Verdict RunFault → ℕ

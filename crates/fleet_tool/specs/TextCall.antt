@@ -1,10 +1,10 @@
 -- What the text calls do: they read the whole input, and write the answer to it and nothing else.
 use Rattle.std.specs.Prelude.{◌≡◌, ℕ, List, true, take, Option, Result, IsErrOf, IfOk, IfSome, OnOk}
 use Rattle.std.specs.Io.KnownBytes.{Appends, IsAtEnd}
-use Rattle.line_stream.specs.Watching.{device_of, has_failed}
-use Rattle.line_stream.specs.declared.fault.RunFault.{RunFault}
-use Rattle.line_stream.specs.declared.fault.RunFault.TheVariants.{Input, Output, Memory}
-use Rattle.line_stream.specs.declared.watched.Watched.{Watched}
+use Rattle.framing.specs.Watching.{device_of, has_failed}
+use Rattle.framing.specs.declared.devices.fault.RunFault.{RunFault}
+use Rattle.framing.specs.declared.devices.fault.RunFault.TheVariants.{Input, Output, Memory}
+use Rattle.framing.specs.declared.devices.watched.Watched.{Watched}
 
 -- A call that reads from a reader and answers to a writer. `remaining` and `contents` are what the devices specify of their bytes, if
 -- they do, and IsAnswer says which text and which result answer an input.

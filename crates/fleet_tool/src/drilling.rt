@@ -2,10 +2,10 @@
 
 ghost use Rattle.std.specs.Prelude.{◌≡◌, ◌<◌, ◌≤◌, ℕ, List, true, false, take, IsErrOf, OnOk};
 ghost use Rattle.std.specs.Io.KnownBytes.{Appends};
-ghost use Rattle.line_stream.specs.Watching.{device_of, has_failed};
+ghost use Rattle.framing.specs.Watching.{device_of, has_failed};
 
 use fleet_drill::{MAX_NODES, MAX_WORKERS, Size, drill};
-use line_stream::{RunFault, Watched, write_all};
+use framing::devices::{RunFault, Watched, write_all};
 use std::alloc::Global;
 use std::io::Write;
 use std::sync::Wait;

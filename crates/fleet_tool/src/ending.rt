@@ -4,7 +4,7 @@ ghost use Rattle.std.specs.Prelude.{◌≡◌};
 ghost use Rattle.fleet_tool.specs.Ending.{status_of, words_of};
 
 use crate::answer::Verdict;
-use line_stream::RunFault;
+use framing::devices::RunFault;
 
 /// The exit status for the result of a text call: 0 done, 2 a bad line, 3 a log that is not sound, 4 a device that failed,
 /// 5 out of memory.

@@ -30,7 +30,7 @@ pub use drill_line::DrillTask;
 pub use drilling::drill_text;
 pub use explaining::{Reason, reason_of};
 pub use fleet_drill::Size;
+pub use framing::devices::{RunFault, Watched};
 pub use job::{LineFault, LinesTask, Task, TextTask, job_of};
-pub use line_stream::{RunFault, Watched};
 pub use program::run_program;
 pub use run::{Explained, check_text, explain_text, inspect_text, run_text};

@@ -6,12 +6,12 @@ ghost use Rattle.fleet_tool.specs.Inspect.{inspected};
 ghost use Rattle.fleet_tool.specs.Output.{IsOutputOf};
 ghost use Rattle.fleet_tool.specs.TaskName.{as_text_task};
 ghost use Rattle.fleet_tool.specs.TextCall.{IsTextCall};
-ghost use Rattle.line_stream.specs.Watching.{has_failed};
+ghost use Rattle.framing.specs.Watching.{has_failed};
 
 use crate::answer::{Answered, Verdict, answer};
 use crate::explaining::{Reason, reason_of};
 use crate::job::{LinesTask, TextTask};
-use line_stream::{RunFault, Watched, read_all, write_all};
+use framing::devices::{RunFault, Watched, read_all, write_all};
 use std::alloc::{AllocError, Global};
 use std::io::{Read, Write};
 

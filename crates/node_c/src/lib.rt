@@ -9,7 +9,7 @@ mod descriptor;
 ghost use Rattle.node_c.specs.Ending.{IsStatus};
 
 use descriptor::Descriptor;
-use line_stream::Watched;
+use framing::devices::Watched;
 use node_stream::{Node, serve_frames, status_of};
 use redo_core::Roster;
 use std::alloc::Global;

@@ -7,8 +7,8 @@ use Rattle.std.proofs.lemmas.List.{length-take}
 use Rattle.redo_wire.specs.Faults.{fault_number}
 use Rattle.redo_wire.specs.declared.faults.WireFault.{WireFault}
 use Rattle.redo_wire.specs.declared.faults.WireFault.TheVariants.{Short, UnknownTag, Shape, Order, Rest, TooLong}
-use Rattle.frame_stream.specs.AnswerBytes.{bytes_of}
-use Rattle.frame_stream.specs.declared.answer.FrameAnswer.{FrameAnswer}
+use Rattle.framing.specs.AnswerBytes.{bytes_of}
+use Rattle.framing.specs.declared.frames.answer.FrameAnswer.{FrameAnswer}
 use Rattle.node_stream.specs.FrameTelling.{unended, fitted, bytes_frame, value_frame}
 use Rattle.node_stream.specs.Telling.{one_number, fault_line}
 use Rattle.node_stream.specs.declared.faults.LineFault.TheVariants as line

@@ -3,12 +3,12 @@ use Rattle.std.proofs.Common.{◌≡◌, ℕ, ◌+◌, ◌*◌, ◌<◌, ◌≤�
 use Rattle.std.specs.Prelude.{codes}
 use Rattle.std.specs.List.{All, concat}
 use Rattle.std.proofs.lemmas.List.Elements.{All-nil, All-push}
-use Rattle.frame_stream.specs.Frames.{header, framed, IsShort, IsBegun}
-use Rattle.frame_stream.specs.Inside.{AreInside, FitsFrame, HasRoomFor, PutsAnswer, bytes_put}
-use Rattle.frame_stream.specs.declared.answer_frames.AnswerFrames.{AnswerFrames}
-use Rattle.frame_stream.proofs.Answered.{joined}
-use Rattle.frame_stream.proofs.Headers.{length-header}
-use Rattle.frame_stream.proofs.Nested.{first_inside, none_inside}
+use Rattle.framing.specs.Frames.{header, framed, IsShort, IsBegun}
+use Rattle.framing.specs.Inside.{AreInside, FitsFrame, HasRoomFor, PutsAnswer, bytes_put}
+use Rattle.framing.specs.declared.frames.answer_frames.AnswerFrames.{AnswerFrames}
+use Rattle.framing.proofs.FramesAnswered.{joined}
+use Rattle.framing.proofs.Headers.{length-header}
+use Rattle.framing.proofs.Nested.{first_inside, none_inside}
 use Rattle.replica.specs.Parts.{ReplicaData}
 use Rattle.node_stream.specs.Answering.{Spoken, by_frames, LacksMemory, AnswersAsked, AnswersRequest, OnlyReads, ReadsAsked, AnswersOneOf, AnswersInTurn, AnswersAll}
 use Rattle.node_stream.specs.declared.asked.Asked.{Asked}

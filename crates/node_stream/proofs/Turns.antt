@@ -1,8 +1,8 @@
 -- A stream makes turns of the replica.
 use Rattle.std.proofs.Common.{◌≡◌, ℕ, ◌+◌, ◌⊎◌, List, [], ◌∷◌, ◌++◌, length, Option, Some, None, Result, Ok, Err, inl, inr, refl, subst}
 use Rattle.redo_core.specs.declared.facts.Fact.{Fact}
-use Rattle.line_stream.specs.Lines as lines
-use Rattle.line_stream.specs.Lines.{AnswersEach}
+use Rattle.framing.specs.Lines as lines
+use Rattle.framing.specs.Lines.{AnswersEach}
 use Rattle.replica.specs.Machine.{IsReply}
 use Rattle.replica.specs.Meaning.{Turn, Runs}
 use Rattle.replica.specs.Parts.{ReplicaData}

@@ -1,6 +1,6 @@
 -- How a replica answers a line, and how a frame.
 use Rattle.std.specs.Prelude.{◌≡◌, ℕ, ◌+◌, ◌*◌, ◌<◌, ◌≤◌, ◌^◌, ◌⊎◌, List, [], ◌∷◌, length, Option, Some, None, Result, Ok, Err, codes}
-use Rattle.frame_stream.specs.Inside.{AreInside, FitsFrame, Exceeds}
+use Rattle.framing.specs.Inside.{AreInside, FitsFrame, Exceeds}
 use Rattle.replica.specs.Machine.{IsReply}
 use Rattle.replica.specs.Parts.{ReplicaData, IsUnchanged}
 use Rattle.replica.specs.Refused.{IsRefusal, IsAfterRefusal}

@@ -1,7 +1,7 @@
 -- How the program ends: its exit status, and what it says on standard error.
 use Rattle.std.specs.Prelude.{ℕ, List, Result, Ok, Err, codes}
-use Rattle.line_stream.specs.declared.fault.RunFault.{RunFault}
-use Rattle.line_stream.specs.declared.fault.RunFault.TheVariants.{Input, Output, Memory}
+use Rattle.framing.specs.declared.devices.fault.RunFault.{RunFault}
+use Rattle.framing.specs.declared.devices.fault.RunFault.TheVariants.{Input, Output, Memory}
 
 -- 0 the end of the input, 4 a device that failed, 5 no memory
 abbrev pub status_of : Result (Unit {0}) RunFault → ℕ

@@ -1,9 +1,9 @@
 -- The turns of a replica that a stream makes.
 use Rattle.std.specs.Prelude.{◌≡◌, ℕ, ◌<◌, ◌⊎◌, List, [], ◌∷◌, ◌++◌, length, Option, Some, None, Ok, Err}
 use Rattle.redo_core.specs.declared.facts.Fact.{Fact}
-use Rattle.frame_stream.specs.Frames.{AnswersFrames}
-use Rattle.frame_stream.specs.Inside.{AreInside}
-use Rattle.line_stream.specs.Lines.{AnswersLines}
+use Rattle.framing.specs.Frames.{AnswersFrames}
+use Rattle.framing.specs.Inside.{AreInside}
+use Rattle.framing.specs.Lines.{AnswersLines}
 use Rattle.replica.specs.Machine.{IsReply}
 use Rattle.replica.specs.Meaning.{Turn, Runs}
 use Rattle.replica.specs.Parts.{ReplicaData}

@@ -1,7 +1,7 @@
 //! From a reply to an answer.
 
 ghost use Rattle.std.specs.Prelude.{◌≡◌, IfOk, OnErr};
-ghost use Rattle.line_stream.specs.AnswerText.{text_of};
+ghost use Rattle.framing.specs.AnswerText.{text_of};
 ghost use Rattle.node_stream.specs.Asking.{IsInside};
 ghost use Rattle.node_stream.specs.Room.{HasRoom};
 ghost use Rattle.node_stream.specs.Telling.{line_of, TakesMemory};
@@ -10,7 +10,7 @@ use crate::asked::Window;
 use crate::frozen::frozen;
 use crate::telling::{delta, page, piece, record, summary};
 use crate::wording::{front, gap, numbers, one, refusal, state, uncovered};
-use line_stream::Answer;
+use framing::lines::Answer;
 use replica::Reply;
 use std::alloc::{AllocError, Global};
 

@@ -3,7 +3,7 @@
 ghost use Rattle.std.specs.Prelude.{◌≡◌};
 ghost use Rattle.node_stream.specs.Ending.{status_of, words_of};
 
-use line_stream::RunFault;
+use framing::devices::RunFault;
 
 /// The status of a stream that has ended: 0 at the end of its input, 4 a device that failed, 5 no memory.
 pub fn status_of(ended: Result<(), RunFault>) -> u8

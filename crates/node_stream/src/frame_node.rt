@@ -1,8 +1,8 @@
 //! A replica that answers the frame of one request.
 
 ghost use Rattle.std.specs.Prelude.{◌≡◌, ◌<◌, ◌≤◌, ◌⊎◌, codes, length};
-ghost use Rattle.frame_stream.specs.AnswerBytes.{bytes_of};
-ghost use Rattle.frame_stream.specs.Frames.{IsShort};
+ghost use Rattle.framing.specs.AnswerBytes.{bytes_of};
+ghost use Rattle.framing.specs.Frames.{IsShort};
 ghost use Rattle.node_stream.specs.Answering.{AnswersAsked, AnswersRequest, ReadsAsked, by_frames};
 ghost use Rattle.node_stream.specs.Asking.{IsInside};
 ghost use Rattle.node_stream.specs.Room.{HasRoom};
@@ -15,7 +15,7 @@ use crate::faults::{LineError, LineFault};
 use crate::frame_requests::read_frame;
 use crate::frame_telling::{fault as fault_answer, told};
 use crate::frozen::room;
-use frame_stream::FrameAnswer;
+use framing::frames::FrameAnswer;
 use replica::{Replica, Reply};
 use std::alloc::Global;
 

@@ -6,9 +6,9 @@ ghost use Rattle.redo_wire.specs.Facts.{fact_bytes};
 ghost use Rattle.redo_wire.specs.Summaries.{summary_bytes, is_long_summary};
 ghost use Rattle.redo_wire.specs.Deltas.{delta_bytes, is_long_delta};
 ghost use Rattle.redo_wire.specs.Pieces.{piece_bytes, is_long_piece};
-ghost use Rattle.line_stream.specs.AnswerText.{text_of};
-ghost use Rattle.frame_stream.specs.AnswerBytes.{bytes_of};
-ghost use Rattle.frame_stream.specs.Frames.{IsShort};
+ghost use Rattle.framing.specs.AnswerText.{text_of};
+ghost use Rattle.framing.specs.AnswerBytes.{bytes_of};
+ghost use Rattle.framing.specs.Frames.{IsShort};
 ghost use Rattle.node_stream.specs.Asking.{IsInside};
 ghost use Rattle.node_stream.specs.Room.{HasRoom};
 ghost use Rattle.node_stream.specs.Telling.{TakesMemory, one_number, window_of};
@@ -20,8 +20,8 @@ use crate::faults::LineFault;
 use crate::frozen::frozen;
 use crate::wording::fault as fault_line;
 use bytes::BytesMut;
-use frame_stream::FrameAnswer;
-use line_stream::Answer;
+use framing::frames::FrameAnswer;
+use framing::lines::Answer;
 use redo_core::{Fact, Page, Record};
 use redo_wire::{
     Delta, Piece, Summary, WireError, encode_delta, encode_fact, encode_piece, encode_summary,

@@ -1,12 +1,12 @@
 //! The one answer that tells a number of what has changed: its room is taken before the change.
 
 ghost use Rattle.std.specs.Prelude.{◌≡◌, IfOk, codes};
-ghost use Rattle.line_stream.specs.AnswerText.{text_of};
+ghost use Rattle.framing.specs.AnswerText.{text_of};
 ghost use Rattle.node_stream.specs.Room.{HasRoom};
 ghost use Rattle.node_stream.specs.Telling.{one_number};
 
+use framing::lines::Answer;
 use itoa::Buffer;
-use line_stream::Answer;
 use std::alloc::{AllocError, Global};
 
 /// The room for that answer.

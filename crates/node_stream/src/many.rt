@@ -1,15 +1,15 @@
 //! A replica that answers the frames that one frame holds.
 
 ghost use Rattle.std.specs.Prelude.{◌≡◌, ◌++◌, ◌+◌, ◌≤◌, ◌^◌, ℕ, List, [], length, option_map};
-ghost use Rattle.frame_stream.specs.AnswerBytes.{bytes_of};
-ghost use Rattle.frame_stream.specs.Frames.{IsShort, framed};
-ghost use Rattle.frame_stream.specs.Inside.{AreInside, HasRoomFor, bytes_put};
+ghost use Rattle.framing.specs.AnswerBytes.{bytes_of};
+ghost use Rattle.framing.specs.Frames.{IsShort, framed};
+ghost use Rattle.framing.specs.Inside.{AreInside, HasRoomFor, bytes_put};
 ghost use Rattle.node_stream.specs.Answering.{AnswersAll, AnswersMany, AnswersOneOf, IsFrameAnswer, by_frames};
 ghost use Rattle.node_stream.specs.FrameReading.{many_in};
 
 use crate::frame_node::{answer_one, memory};
 use crate::frame_requests::halves;
-use frame_stream::{AnswerFrames, FrameAnswer, count_frames, split_frame};
+use framing::frames::{AnswerFrames, FrameAnswer, count_frames, split_frame};
 use replica::Replica;
 use script_text::is_word;
 use std::alloc::Global;

@@ -2,7 +2,7 @@
 
 ghost use Rattle.std.specs.Prelude.{◌≡◌, ◌⊎◌, IfOk, codes};
 ghost use Rattle.replica.specs.Parts.{empty_replica};
-ghost use Rattle.line_stream.specs.AnswerText.{text_of};
+ghost use Rattle.framing.specs.AnswerText.{text_of};
 ghost use Rattle.node_stream.specs.Answering.{AnswersAsked, IsAnswer, by_lines};
 ghost use Rattle.node_stream.specs.Asking.{IsInside};
 ghost use Rattle.node_stream.specs.Room.{HasRoom};
@@ -15,8 +15,8 @@ use crate::frozen::room;
 use crate::many::answer_frame;
 use crate::requests::read_line;
 use crate::wording::fault as fault_answer;
-use frame_stream::{FrameAnswer, FrameMachine};
-use line_stream::{Answer, LineMachine};
+use framing::frames::{FrameAnswer, FrameMachine};
+use framing::lines::{Answer, LineMachine};
 use redo_core::Roster;
 use replica::{Replica, Reply};
 use std::alloc::{AllocError, Global};

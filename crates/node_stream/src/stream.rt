@@ -1,11 +1,11 @@
 //! A replica behind a stream.
 
-ghost use Rattle.frame_stream.specs.Served.{ServesFrames};
-ghost use Rattle.line_stream.specs.Served.{Serves};
+ghost use Rattle.framing.specs.FramesServed.{ServesFrames};
+ghost use Rattle.framing.specs.LinesServed.{Serves};
 ghost use Rattle.node_stream.specs.Answering.{IsAnswer, IsFrameAnswer};
 
 use crate::node::Node;
-use line_stream::{RunFault, Watched};
+use framing::devices::{RunFault, Watched};
 use std::io::{Read, Write};
 
 /// Answers the request lines of the reader until its input ends: each whole line by one line, which is written and flushed before the next
@@ -21,7 +21,7 @@ pub fn serve<R: Read, W: Write>(
 ) -> Result<(), RunFault>
     ensures { Serves IsAnswer limit R.remaining W.contents node.old node.new reader.old reader.new writer.old writer.new result }
 {
-    line_stream::serve(node.allocator(), limit, node, reader, writer)
+    framing::lines::serve(node.allocator(), limit, node, reader, writer)
 }
 
 /// Answers the request frames of the reader until its input ends: each whole frame by one frame, which is written and flushed before the
@@ -37,5 +37,5 @@ pub fn serve_frames<R: Read, W: Write>(
 ) -> Result<(), RunFault>
     ensures { ServesFrames IsFrameAnswer limit R.remaining W.contents node.old node.new reader.old reader.new writer.old writer.new result }
 {
-    frame_stream::serve(node.allocator(), limit, node, reader, writer)
+    framing::frames::serve(node.allocator(), limit, node, reader, writer)
 }

@@ -6,13 +6,13 @@ ghost use Rattle.redo_wire.specs.Facts.{fact_bytes};
 ghost use Rattle.redo_wire.specs.Summaries.{summary_bytes, is_long_summary};
 ghost use Rattle.redo_wire.specs.Deltas.{delta_bytes, is_long_delta};
 ghost use Rattle.redo_wire.specs.Pieces.{piece_bytes, is_long_piece};
-ghost use Rattle.line_stream.specs.AnswerText.{text_of};
+ghost use Rattle.framing.specs.AnswerText.{text_of};
 ghost use Rattle.node_stream.specs.Asking.{IsInside};
 ghost use Rattle.node_stream.specs.Telling.{bytes_line, value_line, window_of};
 
 use crate::asked::Window;
 use bytes::BytesMut;
-use line_stream::Answer;
+use framing::lines::Answer;
 use redo_core::{Fact, Page, Record};
 use redo_wire::{
     Delta, Piece, Summary, WireError, encode_delta, encode_fact, encode_piece, encode_summary,

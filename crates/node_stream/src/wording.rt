@@ -1,15 +1,15 @@
 //! Answer lines of words and numbers.
 
 ghost use Rattle.std.specs.Prelude.{◌≡◌, ◌++◌, [], ◌∷◌, IfOk, codes};
-ghost use Rattle.line_stream.specs.AnswerText.{text_of};
+ghost use Rattle.framing.specs.AnswerText.{text_of};
 ghost use Rattle.script_text.specs.Encoded.{worded_line};
 ghost use Rattle.node_stream.specs.Telling.{three_numbers, held_line, refusal_line, shown_line};
 ghost use Rattle.node_stream.specs.Telling.{gap_line, status_start, status_end, fault_line};
 
 use crate::faults::LineFault;
 use epoch_book::Held;
+use framing::lines::Answer;
 use gossip_core::Shown;
-use line_stream::Answer;
 use redo_core::Cut;
 use replica::Status;
 use script_text::{labelled, worded_line};

@@ -1,5 +1,5 @@
 use Rattle.std.proofs.Common.{ap, ◌∙◌}
-use Rattle.line_stream.specs.AnswerText.{text_of}
+use Rattle.framing.specs.AnswerText.{text_of}
 use Rattle.node_stream.specs.Telling.{fault_line}
 use Rattle.node_stream.proofs.Framed.{fault_is_short}
 use Rattle.node_stream.proofs.frame_telling.fault.Goals as goal

@@ -1,5 +1,5 @@
 use Rattle.node_stream.proofs.Framed.{few_digits, few_bytes}
-use Rattle.line_stream.specs.AnswerText.{text_of}
+use Rattle.framing.specs.AnswerText.{text_of}
 use Rattle.node_stream.proofs.frame_telling.frozen_frame.Goals as goal
 
 pub returns-clause-ok : goal.returns-clause-ok

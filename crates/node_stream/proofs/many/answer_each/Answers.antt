@@ -1,6 +1,6 @@
 use Rattle.std.proofs.Common.{◌≡◌, ◌+◌, ◌-◌, arith, subst}
-use Rattle.frame_stream.specs.Inside.{HasRoomFor, bytes_put}
-use Rattle.frame_stream.proofs.Nested.{shorter}
+use Rattle.framing.specs.Inside.{HasRoomFor, bytes_put}
+use Rattle.framing.proofs.Nested.{shorter}
 use Rattle.node_stream.proofs.Together.{answered_none, some_left, answered_more, answered_all}
 use Rattle.node_stream.proofs.many.answer_each.Goals as goal
 

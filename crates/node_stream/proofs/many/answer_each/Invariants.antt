@@ -1,5 +1,5 @@
 use Rattle.std.proofs.Common.{length}
-use Rattle.frame_stream.specs.Inside.{HasRoomFor, bytes_put}
+use Rattle.framing.specs.Inside.{HasRoomFor, bytes_put}
 use Rattle.node_stream.proofs.Together.{Answered}
 use Rattle.node_stream.proofs.many.answer_each.Given as goal
 

@@ -1,6 +1,6 @@
 use Rattle.std.proofs.Common.{ℕ, List, subst}
-use Rattle.frame_stream.specs.AnswerBytes.{bytes_of}
-use Rattle.frame_stream.specs.Inside.{PutsAnswer}
+use Rattle.framing.specs.AnswerBytes.{bytes_of}
+use Rattle.framing.specs.Inside.{PutsAnswer}
 use Rattle.node_stream.proofs.Together.{said}
 use Rattle.node_stream.proofs.many.put_answer.Goals as goal
 

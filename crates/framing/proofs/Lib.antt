@@ -1,0 +1,10 @@
+pub mod DeviceBytes
+pub mod LinesAnswered
+pub mod Gluing
+pub mod Going
+pub mod Buffers
+pub mod Headers
+pub mod Nested
+pub mod Pieces
+pub mod FramesAnswered
+pub mod Written

@@ -1,0 +1,12 @@
+pub mod Watching
+pub mod AnswerText
+pub mod Lines
+pub mod LineKeeping
+pub mod LinesServed
+pub mod AnswerBytes
+pub mod Frames
+pub mod Inside
+pub mod FrameKeeping
+pub mod Coming
+pub mod FramesServed
+pub mod FrameLaws

@@ -1,0 +1,23 @@
+//! The line that answers a line.
+
+ghost use Rattle.std.specs.Prelude.{◌≡◌};
+ghost use Rattle.framing.specs.AnswerText.{text_of};
+
+/// An answer line with its LF: a fixed one, which needs no memory, or one that was made.
+#[derive(Drop)]
+pub enum Answer {
+    Fixed(&'static str),
+    Made(String),
+}
+
+impl Answer {
+    /// The bytes of the line.
+    pub fn as_bytes(&self) -> &[u8]
+        ensures { result.now ≡ text_of self.now }
+    {
+        match self {
+            Answer::Fixed(text) => text.as_bytes(),
+            Answer::Made(text) => text.as_bytes(),
+        }
+    }
+}

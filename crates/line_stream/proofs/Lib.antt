@@ -1,4 +1,0 @@
-pub mod Devices
-pub mod Answered
-pub mod Gluing
-pub mod Going

@@ -1,5 +1,0 @@
-use Rattle.std.specs.Io.KnownBytes.{Consumes}
-use Rattle.line_stream.proofs.device.read_all.Given as goal
-
-abbrev pub invariant-loop : goal.invariant-loop
-invariant-loop g l = Consumes (g.R.Read.remaining l.fn.reader.device) (g.R.Read.remaining l.reader.device) l.text.items

@@ -1,8 +1,0 @@
--- The bytes of an answer.
-use Rattle.std.specs.Prelude.{ℕ, List, string_bytes}
-use Rattle.line_stream.specs.declared.answer.Answer.{Answer}
-use Rattle.line_stream.specs.declared.answer.Answer.TheVariants.{Fixed, Made}
-
-abbrev pub text_of : Answer → List ℕ
-text_of (Fixed text) = text.now
-text_of (Made text) = string_bytes text
