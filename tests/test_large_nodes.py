@@ -186,4 +186,4 @@ def test_refused_unions(nodes, peer):
     fresh = nodes()
     assert fresh.ask("unite") == "no staging"
     assert fresh.ask("stage", 9, 0) == "staged"
-    assert fresh.ask("unite") == "malformed 0"
+    assert fresh.ask("unite") == "missing 0"

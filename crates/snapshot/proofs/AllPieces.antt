@@ -1,5 +1,5 @@
 -- A staging that has all pieces of one snapshot: what they contain.
-use Rattle.std.proofs.Common.{◌≡◌, ℕ, ◌<◌, ◌≤◌, ◌+◌, ◌-◌, ◌*◌, ◌⊎◌, ◌↔◌, ⊎_elim, List, length, take, drop, get_or, Option, Some, None, zero, suc, refl, sym, ap, ◌∙◌, subst, arith, rules}
+use Rattle.std.proofs.Common.{◌≡◌, ℕ, ◌<◌, ◌≤◌, ◌+◌, ◌-◌, ◌*◌, ◌⊎◌, ◌↔◌, inl, ⊎_elim, List, length, take, drop, get_or, Option, Some, None, zero, suc, refl, sym, ap, ◌∙◌, subst, arith, rules}
 use Rattle.std.specs.List.{slice_get, Contains}
 use Rattle.std.proofs.lemmas.List.{length-take, length-drop, get_or-take, get_or-drop}
 use Rattle.std.proofs.lemmas.Option.{slice_get_within, slice_get_read}
@@ -30,7 +30,7 @@ has_all s d st of form whole = record {
 }
   where
     there_at : (index : ℕ) → index < d.total → (o : Option PieceData) → piece_at st index ≡ o → (p : PieceData) × (piece_at st index ≡ Some p)
-    there_at index lt None e = absurd (whole index (omega (arith, lt, of.total), e))
+    there_at index lt None e = absurd (whole index (inl (omega (arith, lt, of.total)), e))
     there_at index lt (Some p) e = (p, e)
 
 -- what is at the index of the head, of a page and of a batch

@@ -1,5 +1,5 @@
 -- Pieces that are in order contain records by rising keys.
-use Rattle.std.proofs.Common.{◌≡◌, ℕ, zero, suc, ◌<◌, ◌⊎◌, inl, inr, ⊎_elim, List, [], ◌∷◌, length, Option, Some, refl, sym, ap, ◌∙◌, subst, arith, rules}
+use Rattle.std.proofs.Common.{◌≡◌, ℕ, zero, suc, ◌<◌, ◌⊎◌, inl, inr, ⊎_elim, List, [], ◌∷◌, length, Option, Some, None, refl, sym, ap, ◌∙◌, subst, arith, rules}
 use Rattle.std.specs.List.{Contains}
 use Rattle.std.proofs.lemmas.Bool.{cases_eq}
 use Rattle.redo_core.specs.Book.{BookData}
@@ -21,7 +21,7 @@ within st i p form is =
     ⊎_elim (λ (e : p.total ≡ st.total). omega (arith, own.0, own.2.index, e)) (λ ne. absurd (own.1 (inr ne))) (cases_eq p.total st.total)
 
 pub stands : (st : StagingData) (i : ℕ) → IsInOrder st → i < st.total → (CanStand st i → ⊥) → ⊥
-stands st i order lt apart = order.1 i (inl lt, apart)
+stands st i order lt apart = order.1 i (lt, apart)
 
 -- an order of keys is known where its contrary is absurd
 known_before : (q r : RecordData) → ((RecordBefore q r → ⊥) → ⊥) → RecordBefore q r
@@ -48,7 +48,8 @@ records_follow st i p rs is e can = search rules
 
 -- each piece below the total is there
 there_at : (st : StagingData) (i : ℕ) (o : Option PieceData) → IsInOrder st → i < st.total → piece_at st i ≡ o → (p : PieceData) × (piece_at st i ≡ Some p)
-there_at st i o order lt e = search rules
+there_at st i None order lt e = absurd (order.0 i (inl lt, e))
+there_at st i (Some p) order lt e = (p, e)
 
 pub there : (st : StagingData) (i : ℕ) → IsInOrder st → i < st.total → (p : PieceData) × (piece_at st i ≡ Some p)
 there st i order lt = there_at st i (piece_at st i) order lt refl

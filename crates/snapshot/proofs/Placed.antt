@@ -1,5 +1,5 @@
 -- Whether a record is kept, and which pieces are in place.
-use Rattle.std.proofs.Common.{◌≡◌, ℕ, zero, suc, ◌+◌, ◌<◌, ◌≤◌, ⊎_elim, List, Some, None, sym, ◌∙◌, subst, arith, rules}
+use Rattle.std.proofs.Common.{◌≡◌, ℕ, zero, suc, ◌+◌, ◌<◌, ◌≤◌, inr, ⊎_elim, List, Option, Some, None, refl, sym, ◌∙◌, subst, arith, rules}
 use Rattle.std.proofs.lemmas.Option.{none-some}
 use Rattle.std.specs.List.{All}
 use Rattle.redo_core.specs.Data.{CutData, AdvanceData, RecordData}
@@ -9,8 +9,9 @@ use Rattle.redo_core.proofs.Members.{all_members}
 use Rattle.epoch_book.specs.Contradicted.{IsContradicted}
 use Rattle.hot_log.specs.Found.{IsLeast}
 use Rattle.messages.specs.Pieces.{PieceData}
-use Rattle.snapshot.specs.Stagings.{StagingData, piece_at}
-use Rattle.snapshot.specs.Placing.{IsKeptFor, HasHead, CanFollow, CanStand, IsMisplaced}
+use Rattle.snapshot.specs.Stagings.{StagingData, piece_at, IsStaging}
+use Rattle.snapshot.specs.Placing.{IsKeptFor, HasHead, CanFollow, CanStand, IsComplete, IsMisplaced}
+use Rattle.snapshot.proofs.InOrder.{within}
 
 -- a record that does not wait is kept where it is above the anchor and all truncations spare it
 pub kept : (book : BookData) (anchor : ℕ) (r : RecordData) → r.epoch ≤ book.complete → anchor < r.number
@@ -51,9 +52,17 @@ pub one_place_more : (st : StagingData) (n : ℕ) → ((below : ℕ) → below <
     → IsMisplaced st below → ⊥
 one_place_more st n before can below lt bad = search rules
 
+-- where no piece is missing there is a head, and so the total is not 0
+some_at : (st : StagingData) (o : Option PieceData) → IsStaging st → IsComplete st → piece_at st 0 ≡ o → 0 < st.total
+some_at st None form whole e = absurd (whole 0 (inr refl, e))
+some_at st (Some p) form whole e = within st 0 p form e
+
+pub some_total : (st : StagingData) → IsStaging st → IsComplete st → 0 < st.total
+some_total st form whole = some_at st (piece_at st 0) form whole refl
+
 -- a head that is not in place is the first that is not
-pub head_bad : (st : StagingData) → (CanStand st 0 → ⊥) → IsLeast (IsMisplaced st) (Some 0)
-head_bad st cannot = search rules
+pub head_bad : (st : StagingData) → 0 < st.total → (CanStand st 0 → ⊥) → IsLeast (IsMisplaced st) (Some 0)
+head_bad st some cannot = ((some, cannot), λ m bad. omega arith)
 
 -- a book that is given by its parts
 pub of_parts : (cs ds : List CutData) (k j : ℕ) (ps qs : List ℕ) (vs ws : List AdvanceData) → cs ≡ ds → k ≡ j → ps ≡ qs → vs ≡ ws

@@ -166,5 +166,4 @@ none_misplaced st index form whole of bad =
     let s = of.0 in let d = of.1 in
     let all = has_all s d st of.2 form whole in
     let sound = of.3 in
-    bad.1 (stands sound.1 sound.2 s d st sound.3 sound.4 of.2 all index
-    (⊎_elim (λ (lt : index < st.total). omega (arith, lt, of.2.total)) (λ (z : st.total ≡ 0). absurd (omega (arith, z, of.2.total, all.count.2))) bad.0))
+    bad.1 (stands sound.1 sound.2 s d st sound.3 sound.4 of.2 all index (omega (arith, bad.0, of.2.total)))

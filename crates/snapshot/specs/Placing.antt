@@ -46,9 +46,9 @@ CanStand st (suc index) =
     (book : BookData) × (anchor : ℕ) × (before here : PieceData) × HasHead st book anchor
     × (piece_at st index ≡ Some before) × (piece_at st (suc index) ≡ Some here) × CanFollow book anchor before.content here.content
 
--- The piece of an index is not in place. Where the total is 0, there is no head.
+-- the piece of an index is not in place
 abbrev pub IsMisplaced : StagingData → ℕ → Type 0
-IsMisplaced st index = ((index < st.total) ⊎ (st.total ≡ 0)) × (CanStand st index → ⊥)
+IsMisplaced st index = (index < st.total) × (CanStand st index → ⊥)
 
 -- no piece is missing
 abbrev pub IsComplete : StagingData → Type 0

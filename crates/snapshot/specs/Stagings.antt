@@ -42,6 +42,6 @@ RefusesPiece st p Stranger = IsStranger st p
 RefusesPiece st p (Double index) = (IsStranger st p → ⊥) × (index ≡ p.index) × ((q : PieceData) × (piece_at st index ≡ Some q))
 RefusesPiece st p Memory = (IsStranger st p → ⊥) × (piece_at st p.index ≡ None)
 
--- a piece that has not come
+-- A piece that has not come. Where the total is 0 that is the head: each snapshot has one.
 abbrev pub IsMissingPiece : StagingData → ℕ → Type 0
-IsMissingPiece st index = (index < st.total) × (piece_at st index ≡ None)
+IsMissingPiece st index = ((index < st.total) ⊎ (index ≡ 0)) × (piece_at st index ≡ None)

@@ -35,8 +35,8 @@ pub enum FinishFault {
 impl Staging {
     /// The segment that the pieces make. The staging stays as it is, so that a missing piece can still be added.
     ///
-    /// Errors: `Missing` with the least index whose piece has not come; else `Malformed` with the least one whose piece cannot follow
-    /// those before it, never for the pieces of one snapshot of a sound log; `Memory`.
+    /// Errors: `Missing` with the least index whose piece has not come, which is 0 where the total is 0; else `Malformed` with the least one
+    /// whose piece cannot follow those before it, never for the pieces of one snapshot of a sound log; `Memory`.
     pub fn finish(&self) -> Result<Segment, FinishFault>
         // Each piece is of the staging's name and total, under its own index.
         ensures form { IsStaging self.now }

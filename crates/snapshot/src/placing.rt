@@ -8,7 +8,7 @@ ghost use Rattle.redo_core.specs.Standing.{SparesIn};
 ghost use Rattle.epoch_book.specs.Contradicted.{IsContradicted as HasContradiction};
 ghost use Rattle.hot_log.specs.Found.{IsLeast};
 ghost use Rattle.messages.specs.Pieces.{IsContent};
-ghost use Rattle.snapshot.specs.Stagings.{IsMissingPiece};
+ghost use Rattle.snapshot.specs.Stagings.{IsMissingPiece, IsStaging};
 ghost use Rattle.snapshot.specs.Placing.{IsComplete, IsMisplaced, IsKeptFor, PageFollows, RecordsFollow, CanFollow, CanStand, HasHead};
 
 use crate::snapshot::BATCH;
@@ -18,11 +18,11 @@ use messages::{Book, PageImage, PieceContent};
 use redo_core::{Cut, Record};
 
 impl Staging {
-    /// The least index whose piece is missing.
+    /// The least index whose piece is missing. Each snapshot has a head, so where the total is 0 the head is missing.
     pub(crate) fn first_missing(&self) -> Option<u32>
         ensures { IsLeast (IsMissingPiece self.now) result }
     {
-        for index in 0..self.total {
+        for index in 0..self.total.max(1) {
             if self.get(index).is_none() {
                 return Some(index);
             }
@@ -64,6 +64,7 @@ impl Staging {
         ensures some { IfSome result (λ h. HasHead self.now h.0.now h.1) }
         ensures total { IfSome result (λ h. 0 < self.now.total) }
         ensures none { IsNone result → (book : BookData) (anchor : ℕ) → HasHead self.now book anchor → ⊥ }
+        ensures form { IsStaging self.now }
     {
         match self.get(0)?.content() {
             PieceContent::Head { book, anchor } => Some((book, *anchor)),

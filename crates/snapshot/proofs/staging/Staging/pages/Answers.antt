@@ -1,4 +1,4 @@
-use Rattle.std.proofs.Common.{◌≡◌, ℕ, ◌+◌, ◌<◌, ◌≤◌, ◌++◌, List, Some, sym, subst}
+use Rattle.std.proofs.Common.{◌≡◌, ℕ, ◌+◌, ◌<◌, ◌≤◌, ◌++◌, List, Some, inl, sym, subst}
 use Rattle.messages.specs.Pieces.{PieceData}
 use Rattle.snapshot.specs.Stagings.{StagingData, piece_at, IsStaging}
 use Rattle.snapshot.specs.Hydrating.{pages_of}
@@ -19,7 +19,7 @@ loop-index-preserved c =
           let items : gs ++ pages_of p.content ≡ c.match-get.pages.items = rw (w.pages-is, w.in_ok-add_page.ensures) in
           subst (AreBelow pages_of st (n + 1)) items (below_more pages_of st n gs p is c.loop-index.invariant)
       | in_default w ↦ absurd (c.requires.0 n
-          (subst (λ (s : StagingData). n < s.total) c.self.view_is c.loop-index-test.true, sym w.in_default.ensures.value))
+          (inl (subst (λ (s : StagingData). n < s.total) c.self.view_is c.loop-index-test.true), sym w.in_default.ensures.value))
     ]
 
 pub returns-clause-brought : goal.returns-clause-brought

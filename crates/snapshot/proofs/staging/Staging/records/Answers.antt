@@ -1,4 +1,4 @@
-use Rattle.std.proofs.Common.{◌≡◌, ◌+◌, ◌<◌, ◌≤◌, ◌++◌, List, Some, sym, subst, rules}
+use Rattle.std.proofs.Common.{◌≡◌, ◌+◌, ◌<◌, ◌≤◌, ◌++◌, List, Some, inl, sym, subst, rules}
 use Rattle.redo_core.specs.Data.{RecordData}
 use Rattle.redo_core.specs.Order.{IsRising, RecordBefore}
 use Rattle.messages.specs.Pieces.{PieceData}
@@ -25,7 +25,7 @@ loop-index-preserved c =
                 (rises_more st n xs p c.get.ensures.form c.requires is c.loop-index.invariant.members c.loop-index.invariant.rising);
           }
       | in_default w ↦ absurd (c.requires.0 n
-          (subst (λ (s : StagingData). n < s.total) c.self.view_is c.loop-index-test.true, sym w.in_default.ensures.value))
+          (inl (subst (λ (s : StagingData). n < s.total) c.self.view_is c.loop-index-test.true), sym w.in_default.ensures.value))
     ]
 
 pub returns : goal.returns
