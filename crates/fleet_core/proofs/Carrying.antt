@@ -45,7 +45,7 @@ own_step readers old other messages step reply new kept none follows calls found
 
 -- ---- replies of nodes
 
--- it tells of no node or message that is not there
+-- it names no node or message that is not there
 abbrev IsOfNode : Reply → Type 0
 IsOfNode (NoNode node) = ⊥
 IsOfNode (NoMessage number) = ⊥

@@ -35,13 +35,13 @@ use Rattle.fleet_core.proofs.Places.{zip_count}
 use Rattle.fleet_core.proofs.Numbering.{both_there, still_asked, made_more, AnswersBoth, questions_alike, answers_alike}
 use Rattle.fleet_core.proofs.Uncovering.{leaves_uncovered, answers_meaning}
 
--- a segment means the facts, and the kept messages stand for the machine's
+-- a segment means the facts, and the kept messages are of the machine's
 pub record Stands (roster : ℕ) (log facts : List Fact) (messages : List Message) (s : State) (made : List Made) : Type 0 where
   pub sound : IsSound roster log
   pub means : Means roster log facts s
   pub are : AreMade roster log messages made
 
--- a step was replied as the machine does, and what is stored then stands for its next state
+-- a step was replied as the machine does, and what is stored then means its next state
 abbrev pub Follows : ℕ → List Fact → List Fact → List Fact → List Message → Step Fact → Reply → State → List Made → Type 0
 Follows roster log facts others messages step reply new later =
     NodeReplies roster facts others messages step reply × Means roster log (facts_after facts others messages step reply) new

@@ -1,4 +1,4 @@
--- What stands at a number of a list of messages, and of the list that stands for it.
+-- The message of a number in a list, and in the list of the machine's messages for it.
 use Rattle.std.proofs.Common.{◌≡◌, ℕ, zero, suc, ◌⊎◌, List, [], ◌∷◌, ◌++◌, refl, subst, Option, Some, None, rules}
 use Rattle.std.specs.Prelude.{slice_get}
 use Rattle.std.specs.List.{AllZip, AllByRecursion}

@@ -14,11 +14,11 @@ use Rattle.fleet_core.specs.declared.making.Made.{Made}
 use Rattle.fleet_core.specs.FleetState.{other_than}
 use Rattle.fleet_core.specs.AtNode.{IsCarriedOut, CarriesOut}
 
--- the segment behind the reference that was given, or the own one
+-- the segment of the reference that was given, or the own one
 pub unwrap_now : {S : Type 0} (other : Option (Bor S)) (own : Bor S) → (unwrap_or other own).now ≡ unwrap_or (option_copied other) own.now
 unwrap_now other own = search rules
 
--- it stands at a place of the list, and the other one at the other place
+-- it is at a place of the list, and the other one at the other place
 pub record Stands (old : List State) (place other : ℕ) (s : State) (o : Option State) (later : State) (new : List State) : Type 0 where
   pub there : slice_get old place ≡ Some s
   pub beside : o ≡ other_than old place other

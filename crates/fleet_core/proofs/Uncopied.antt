@@ -20,7 +20,7 @@ use Rattle.fleet_core.specs.Calls.{Takes}
 pub takes_settled : (s : State) (r : RecordData) → IsDeadOrSettled s r → Takes s (Record r) Unchanged s
 takes_settled s r settled = (Ok taken.Unchanged, settled_exact takes_known s r settled, refl)
 
--- it is held itself
+-- it is stored itself
 pub takes_held : (s : State) (r found : RecordData) → IsHeld s.held → (IsDeadOrSettled s r → ⊥) → IsRecordAt s.held (key_of r) (Some found)
     → found ≡ r → Takes s (Record r) Unchanged s
 takes_held s r found held compared at same = (
@@ -30,7 +30,7 @@ takes_held s r found held compared at same = (
   refl,
 )
 
--- another one is held under its key
+-- another one is stored under its key
 pub refuses_other : (s : State) (r found : RecordData) → IsHeld s.held → (IsDeadOrSettled s r → ⊥) → IsRecordAt s.held (key_of r) (Some found)
     → found ≢ r → Takes s (Record r) (Refused refusal.OtherRecord) s
 refuses_other s r found held compared at other = (

@@ -24,7 +24,7 @@ OwnFollows readers old other step reply new =
     → readers ≡ roster → IsSound roster log → TakesFrom log step → Means roster log facts old → Means roster log others (unwrap_or other old)
     → NodeReplies roster facts others messages step reply × Means roster log (facts_after facts others messages step reply) new
 
--- Where moreover the kept messages stand for some, those that are kept then stand for the next ones.
+-- Where moreover the kept messages are of some messages of the machine, those that are kept then are of the next ones.
 abbrev pub NodeFollows : ℕ → State → Option State → List Made → Step Fact → Reply → State → List Made → Type 0
 NodeFollows readers old other made step reply new later =
     (roster : ℕ) (log facts others : List Fact) (messages : List Message)

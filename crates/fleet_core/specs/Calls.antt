@@ -58,7 +58,7 @@ pub record Discards (old : State) (reply : Reply) (new : State) : Type 0 where
   pub told : reply ≡ Discarded
   pub discards : DiscardsJust old new
 
--- the segment tells its own front
+-- the reply is the segment's own front
 pub record Fronts (s : State) (reply : Reply) : Type 0 where
   pub front : Front
   pub own : IsFrontOf s front
@@ -89,11 +89,11 @@ abbrev pub JoinsBeside : State → Option State → Reply → State → Type 0
 JoinsBeside old None reply new = (reply ≡ Joined) × (new ≡ old)
 JoinsBeside old (Some other) reply new = JoinsOther old other reply new
 
--- the answer tells whether the first segment's meaning covers the second's
+-- the answer says whether the first segment's meaning covers the second's
 abbrev pub ReportsCovers : State → State → Bool → Type 0
 ReportsCovers upper lower answer = (y x : Meaning) → HasMeaning upper y → HasMeaning lower x → IsTrue answer ↔ Covers y x
 
--- there was no memory, or the reply is an answer that tells this
+-- there was no memory, or the reply is an answer that says this
 abbrev pub RepliesAnswer : (Bool → Type 0) → Reply → Type 0
 RepliesAnswer ReportsAnswer reply = (reply ≡ Memory) ⊎ ((answer : Bool) × ReportsAnswer answer × (reply ≡ Answer answer))
 

@@ -1,4 +1,4 @@
--- The messages that a fleet keeps, and what they stand for.
+-- The messages that a fleet keeps, and those of the machine that they are of.
 use Rattle.std.specs.Prelude.{◌≡◌, ℕ, List, length, Option, Some, None}
 use Rattle.std.specs.List.{AllZip}
 use Rattle.redo_core.specs.Meaning.{Meaning, IsMeaning}
@@ -57,7 +57,7 @@ missing_message messages step = None
 abbrev pub LacksMessage : {F : Type 0} → FleetState → Step F → ℕ → Type 0
 LacksMessage fleet step number = (first_missing (length fleet.segments) (nodes_of step) ≡ None) × (missing_message fleet.messages step ≡ Some number)
 
--- ---- what they stand for
+-- ---- those of the machine
 -- the summary is that of the facts, which are of the log
 pub record AsksWith (roster : ℕ) (log asked : List Fact) (summary : SummaryData) : Type 0 where
   pub part : IsPart asked log
@@ -70,7 +70,7 @@ pub record AnswersWith (roster : ℕ) (log facts : List Fact) (summary : Summary
   pub position : IsPosition roster facts p
   pub fills : Fills facts p (listing_of summary) (filling_of delta)
 
--- a kept message stands for one of the machine: an answer beside the question that it names
+-- a kept message is of one of the machine: an answer together with the question that it names
 abbrev pub IsMade : ℕ → List Fact → List Made → Message → Made → Type 0
 IsMade roster log made (Asked asked) (Question summary) = AsksWith roster log asked summary
 IsMade roster log made (Asked asked) (Answer question delta) = ⊥
@@ -78,6 +78,6 @@ IsMade roster log made (Answered asked facts) (Question summary) = ⊥
 IsMade roster log made (Answered asked facts) (Answer question delta) =
     (summary : SummaryData) × (question_in made question ≡ Some summary) × AsksWith roster log asked summary × AnswersWith roster log facts summary delta
 
--- the kept messages stand for those of the machine, in order
+-- the kept messages are of those of the machine, in order
 abbrev pub AreMade : ℕ → List Fact → List Message → List Made → Type 0
 AreMade roster log messages made = AllZip (IsMade roster log made) messages made

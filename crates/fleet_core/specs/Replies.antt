@@ -79,7 +79,7 @@ keys_of m = map key_of m.kept
 abbrev pub summary_of_meaning : Meaning → Listing
 summary_of_meaning m = record { anchor = m.anchor; keys = keys_of m }
 
--- the summary has a key that facts which stand at p do not account for
+-- the summary has a key that facts at position p do not account for
 abbrev pub LacksKey : List Fact → Position → Meaning → Key → Type 0
 LacksKey facts p m key = Contains (keys_of m) key × (IsAccounted facts p key → ⊥)
 

@@ -29,7 +29,7 @@ after_all m [] replies = m
 after_all m (step ∷ steps) [] = m
 after_all m (step ∷ steps) (reply ∷ replies) = after_all (after m step reply) steps replies
 
--- the fleet is of the roster, each segment means its node's facts, and each message stands for the machine's
+-- the fleet is of the roster, each segment means its node's facts, and each message is of the machine's
 pub record MeansMachine (roster : ℕ) (log : List Fact) (m : Machine) (fleet : FleetState) : Type 0 where
   pub roster_is : fleet.roster ≡ roster
   pub nodes : AllZip (λ facts segment. Means roster log facts segment) m.nodes fleet.segments

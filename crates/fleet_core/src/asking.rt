@@ -6,7 +6,7 @@ use crate::replying::{absorbed_reply, fault_reply};
 use gossip_core::{absorb, reply, summary};
 use segment_core::Segment;
 
-/// Makes a message of what a node tells of itself.
+/// Makes a message of a node's summary.
 pub fn ask(segment: &Segment, messages: &mut Vec<Made>) -> Reply
     ensures calls { Asks segment.now messages.old.items result messages.new.items }
 {
@@ -16,7 +16,7 @@ pub fn ask(segment: &Segment, messages: &mut Vec<Made>) -> Reply
     }
 }
 
-/// Makes a message of what a node has beyond what the question of a number tells.
+/// Makes a message of what a node has beyond the summary in the question of a number.
 pub fn answer_question(segment: &Segment, messages: &mut Vec<Made>, number: usize) -> Reply
     ensures calls { AnswersNumber segment.now messages.old.items number result messages.new.items }
 {
@@ -36,7 +36,7 @@ pub fn answer_question(segment: &Segment, messages: &mut Vec<Made>, number: usiz
     }
 }
 
-/// Brings into a node what the answer of a number tells.
+/// Brings the delta of the answer of a number into a node.
 pub fn absorb_answer(segment: &mut Segment, messages: &[Made], number: usize) -> Reply
     ensures calls { AbsorbsNumber segment.old messages.now number result segment.new }
 {
@@ -46,7 +46,7 @@ pub fn absorb_answer(segment: &mut Segment, messages: &[Made], number: usize) ->
     }
 }
 
-/// Adds a message, and tells its number.
+/// Adds a message, and replies with its number.
 fn make(messages: &mut Vec<Made>, message: Made) -> Reply
     ensures { Makes messages.old.items message result messages.new.items }
 {

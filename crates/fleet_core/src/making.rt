@@ -8,13 +8,13 @@ use messages::{Delta, Summary};
 /// A message that was made. It stays, whatever becomes of the node that made it, and may be used again.
 #[derive(Drop)]
 pub enum Made {
-    /// What a node told of itself when it was asked.
+    /// The summary of a node when it was asked.
     Question(Summary),
-    /// What a node had beyond what the question of this number tells.
+    /// What a node had beyond the summary in the question of this number.
     Answer { question: usize, delta: Delta },
 }
 
-/// What was told by the question of a number, counted from 1; None where there is no such question.
+/// The summary in the question of a number, counted from 1; None where there is no such question.
 pub fn question(messages: &[Made], number: usize) -> Option<&Summary>
     ensures { option_copied result ≡ question_in messages.now number }
 {

@@ -29,7 +29,7 @@ pub enum Reply {
     Message(usize),
     /// The node means what it meant and what the answering node meant.
     Absorbed,
-    /// The node does not answer for what the asking node told: so much of it is uncovered.
+    /// The node does not answer for the summary of the asking node: so much of it is uncovered.
     Uncovered(Shown),
     /// There is no such message, or it is not one that the step can use: only what was asked is answered, only answers are absorbed.
     NoMessage(usize),

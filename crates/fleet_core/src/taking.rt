@@ -28,14 +28,14 @@ pub fn take_copy(segment: &mut Segment, fact: &Fact) -> Reply
     }
 }
 
-/// The reply to a record that there is no memory to copy: one that is known or refused wants none.
+/// The reply to a record that there is no memory to copy: one that is known or refused needs none.
 fn uncopied_reply(segment: &Segment, redo: &Record) -> Reply
     ensures { Takes segment.now (RecordOf redo.now) result segment.now }
 {
     if segment.is_stable(redo) {
         return Reply::Unchanged;
     }
-    // At most one record is held under a key.
+    // At most one record is stored under a key.
     segment.opens_form();
     match segment.get(redo.key()) {
         Some(held) => {

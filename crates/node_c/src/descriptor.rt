@@ -3,7 +3,7 @@
 use io::{read_full, write_all};
 use std::io::{ErrorKind, Read, Result, Write};
 
-/// A descriptor that blocks. Whoever lends its number keeps it open, and closes it.
+/// A descriptor that blocks. The caller keeps it open, and closes it.
 #[derive(Drop)]
 pub struct Descriptor {
     number: i32,
@@ -33,7 +33,7 @@ impl Write for Descriptor {
         }
     }
 
-    /// Nothing is held back, so there is nothing to flush.
+    /// Each write goes out at once, so there is nothing to flush.
     fn flush(&mut self) -> Result<()> {
         Ok(())
     }

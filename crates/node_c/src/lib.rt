@@ -1,7 +1,7 @@
-//! One replica behind two open descriptors, for servers that are written in Rust or in C.
+//! One replica on two open descriptors, for servers that are written in Rust or in C.
 //!
 //! A static library with one function, which `embedding/include/yieldcleat.h` declares. It answers frames (`node_stream::serve_frames`)
-//! over the descriptors. What bytes a descriptor gives or takes, no clause says: a descriptor tells nothing of them.
+//! over the descriptors. What bytes a descriptor gives or takes, no clause says: a descriptor reveals nothing of them.
 #![tactic(auto)]
 
 mod descriptor;
