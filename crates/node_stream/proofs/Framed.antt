@@ -58,7 +58,7 @@ few_faults Order = omega arith
 few_faults Rest = omega arith
 few_faults TooLong = omega arith
 
--- the answer that tells the number of a fault has 17 bytes at most
+-- the answer with the number of a fault has 17 bytes at most
 pub fault_is_short : {E : Type 0} (r : Result FrameAnswer E) (text : List ℕ) (f : WireFault) → text ≡ fault_line (line.Wire f)
     → IfOk r (λ a. bytes_of a ≡ unended text) → IfOk r (λ a. length (bytes_of a) ≤ 17)
 fault_is_short (Ok a) text f is h =

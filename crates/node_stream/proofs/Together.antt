@@ -39,8 +39,8 @@ module _ (form : Spoken) (bytes text : List ℕ) where
   in_turn_more put behind old [] (t ∷ ts) mid new h one = absurd h
   in_turn_more put behind old (b ∷ bs) [] mid new h one = absurd h
 
--- ---- the frames in front of the rest
--- the frames in front of the rest are answered, and so many stand in the rest
+-- ---- the frames before the rest
+-- the frames before the rest are answered, and so many are in the rest
 pub record Answered (old : ReplicaData) (bytes rest out : List ℕ) (left : ℕ) (new : ReplicaData) : Type 0 where
   pub done : List (List ℕ)
   pub texts : List (List ℕ)
@@ -109,10 +109,10 @@ module _ (old : ReplicaData) (bytes rest out : List ℕ) (left : ℕ) (mid : Rep
       }
 
 -- ---- what was put is an answer
--- the reply of what only reads may be told as lack of memory
+-- in place of the reply of what only reads the answer may say that memory ran out
 lacking : (old : ReplicaData) (asked : Result Asked LineFault) (text : List ℕ) (new : ReplicaData) → ReadsAsked by_frames asked old text new
     → AnswersAsked by_frames asked old (codes "memory") new
-lacking old (Ok asked) text new h = inl (record { is = refl; unchanged = h.unchanged; did = inr (h.told, h.replies) })
+lacking old (Ok asked) text new h = inl (record { is = refl; did = inr (h.told, h.replies, h.unchanged) })
 lacking old (Err fault) text new h = absurd h
 
 pub said : (mid : ReplicaData) (frame text : List ℕ) (new : ReplicaData) (answers answers' : AnswerFrames) (others : ℕ)

@@ -1,6 +1,7 @@
 -- A stream makes turns of the replica.
-use Rattle.std.proofs.Common.{◌≡◌, ℕ, ◌+◌, ◌⊎◌, List, [], ◌∷◌, ◌++◌, length, Option, Some, None, Result, Ok, Err, inl, inr, refl, subst}
+use Rattle.std.proofs.Common.{◌≡◌, ℕ, ◌+◌, ◌⊎◌, List, [], ◌∷◌, ◌++◌, length, Option, Some, None, Result, Ok, Err, inl, inr, refl, subst, add-zero}
 use Rattle.redo_core.specs.declared.facts.Fact.{Fact}
+use Rattle.framing.specs.Inside.{Exceeds}
 use Rattle.framing.specs.Lines as lines
 use Rattle.framing.specs.Lines.{AnswersEach}
 use Rattle.replica.specs.Machine.{IsReply}
@@ -9,7 +10,7 @@ use Rattle.replica.specs.Parts.{ReplicaData}
 use Rattle.replica.specs.declared.requests.Request.{Request}
 use Rattle.replica.specs.declared.replies.Reply.{Reply}
 use Rattle.node_stream.specs.Answering.{Spoken, by_lines, by_frames, AnswersAsked, AnswersRequest, ReadsAsked, AnswersOneOf, AnswersInTurn, AnswersThese, IsAnswerBy}
-use Rattle.node_stream.specs.Running.{IsTurn, MakesNoTurn, MakesRequest, IsTurnOver, MakesOneOf, MakeEach, MakesThese, MakesBelow, RunsBringing, Run, AnswersRun, FramesRun}
+use Rattle.node_stream.specs.Running.{IsTurn, MakesNoTurn, MakesRequest, IsTurnOver, MakesOneOf, MakeInTurn, MakeEach, MakesThese, MakesBelow, RunsBringing, Run, AnswersRun, FramesRun}
 use Rattle.node_stream.specs.declared.asked.Asked.{Asked}
 use Rattle.node_stream.specs.declared.faults.LineFault.{LineFault}
 
@@ -21,7 +22,7 @@ module _ (form : Spoken) (brings : ReplicaData → Request → List Fact) where
   same : (old new : ReplicaData) (holds : List Turn → Type 0) → new ≡ old → holds [] → Made old new holds
   same old new holds e h = ([], e, e, h)
 
-  -- ---- turns behind turns
+  -- ---- turns after turns
   runs_both : (old : ReplicaData) (turns : List Turn) (mid : ReplicaData) (more : List Turn) (new : ReplicaData) → Runs old turns mid
       → Runs mid more new → Runs old (turns ++ more) new
   runs_both old [] mid more new h k = subst (λ (r : ReplicaData). Runs r more new) h k
@@ -77,32 +78,40 @@ module _ (form : Spoken) (brings : ReplicaData → Request → List Fact) where
   one_made old bytes text new h = one_asked old bytes text new (form.asks bytes) refl h
 
   -- ---- one of many requests
-  read_over : (old : ReplicaData) (bytes text answer : List ℕ) (new : ReplicaData) (asked : Result Asked LineFault) → form.asks bytes ≡ asked
-      → ReadsAsked form asked old answer new → text ≡ form.over → Made old new (MakesOneOf form bytes text)
-  read_over old bytes text answer new (Ok asked) e h over =
+  read_over : (put others : ℕ) (old : ReplicaData) (bytes text answer : List ℕ) (new : ReplicaData) (asked : Result Asked LineFault)
+      → form.asks bytes ≡ asked → ReadsAsked form asked old answer new → Exceeds put (length answer) others → text ≡ form.over
+      → Made old new (MakesOneOf form put others bytes text)
+  read_over put others old bytes text answer new (Ok asked) e h exceeds over =
       let t : Turn = record { asked = asked.request; told = h.told; brought = brings old asked.request } in
-      let is : IsTurnOver form bytes text t = record { asked = asked; asks = e; is = refl; over = over } in
+      let is : IsTurnOver form put others bytes text t = record {
+        asked = asked;
+        asks = e;
+        is = refl;
+        exceeds = subst (λ (l : List ℕ). Exceeds put (length l) others) h.is exceeds;
+        over = over;
+      } in
       (t ∷ [], (new, h.replies, refl), (new, refl, h.replies, refl), inr (t, refl, is))
-  read_over old bytes text answer new (Err fault) e h over = absurd h
+  read_over put others old bytes text answer new (Err fault) e h exceeds over = absurd h
 
   one_of_made : (put others : ℕ) (old : ReplicaData) (bytes text : List ℕ) (new : ReplicaData) → AnswersOneOf form put others old bytes text new
-      → Made old new (MakesOneOf form bytes text)
-  one_of_made put others old bytes text new (inl h) = let one = one_made old bytes text new h.1 in (one.0, one.1, one.2, inl one.3)
-  one_of_made put others old bytes text new (inr h) = read_over old bytes text h.answer new (form.asks bytes) refl h.reads h.is
+      → Made old new (MakesOneOf form put others bytes text)
+  one_of_made put others old bytes text new (inl h) = let one = one_made old bytes text new h.1 in (one.0, one.1, one.2, inl (h.0, one.3))
+  one_of_made put others old bytes text new (inr h) = read_over put others old bytes text h.answer new (form.asks bytes) refl h.reads h.exceeds h.is
 
-  in_turn_made : (put behind : ℕ) (old : ReplicaData) (requests texts : List (List ℕ)) (new : ReplicaData)
-      → AnswersInTurn form put behind old requests texts new → Made old new (MakeEach (MakesOneOf form) requests texts)
-  in_turn_made put behind old [] [] new h = same old new (MakeEach (MakesOneOf form) [] []) h refl
-  in_turn_made put behind old (bytes ∷ others) (text ∷ texts) new h =
-      let here = one_of_made put (length others + behind) old bytes text h.0 h.1 in
-      let rest = in_turn_made (put + (4 + length text)) behind h.0 others texts new h.2 in (
+  in_turn_made : (put : ℕ) (old : ReplicaData) (requests texts : List (List ℕ)) (new : ReplicaData)
+      → AnswersInTurn form put 0 old requests texts new → Made old new (MakeInTurn form put requests texts)
+  in_turn_made put old [] [] new h = same old new (MakeInTurn form put [] []) h refl
+  in_turn_made put old (bytes ∷ others) (text ∷ texts) new h =
+      let here = one_of_made put (length others) old bytes text h.0
+      (subst (λ (n : ℕ). AnswersOneOf form put n old bytes text h.0) (add-zero (length others)) h.1) in
+      let rest = in_turn_made (put + (4 + length text)) h.0 others texts new h.2 in (
         here.0 ++ rest.0,
         runs_both old here.0 h.0 rest.0 new here.1 rest.1,
         bringing_both old here.0 h.0 rest.0 new here.2 rest.2,
         (here.0, rest.0, refl, here.3, rest.3),
       )
-  in_turn_made put behind old [] (text ∷ texts) new h = absurd h
-  in_turn_made put behind old (bytes ∷ others) [] new h = absurd h
+  in_turn_made put old [] (text ∷ texts) new h = absurd h
+  in_turn_made put old (bytes ∷ others) [] new h = absurd h
 
   -- ---- one request, or many
   abbrev These : Option (List ℕ) → List ℕ → List ℕ → List Turn → Type 0
@@ -112,11 +121,24 @@ module _ (form : Spoken) (brings : ReplicaData → Request → List Fact) where
       → Made old new (These inside bytes text)
   these_made old None bytes text new h = let one = one_made old bytes text new h in (one.0, one.1, one.2, inr one.3)
   these_made old (Some inside) bytes text new (inl h) = same old new (These (Some inside) bytes text) h.1 (inl (refl, h.0))
-  these_made old (Some inside) bytes text new (inr (inl h)) = same old new (These (Some inside) bytes text) h.2 (inr (inl (refl, inl h.1)))
-  these_made old (Some inside) bytes text new (inr (inr (inl h))) = same old new (These (Some inside) bytes text) h.same (inr (inl (refl, inr h.is)))
+  these_made old (Some inside) bytes text new (inr (inl h)) = same old new (These (Some inside) bytes text) h.2 (inr (inl (refl, inl (h.0, h.1))))
+  these_made old (Some inside) bytes text new (inr (inr (inl h))) =
+      same old new (These (Some inside) bytes text) h.same (inr (inl (refl, inr (h.frames, h.asked, h.exceed, h.is))))
   these_made old (Some inside) bytes text new (inr (inr (inr h))) =
-      let all = in_turn_made 0 0 old h.frames h.texts new h.answered in
-      (all.0, all.1, all.2, inr (inr (record { frames = h.frames; texts = h.texts; asked = h.asked; told = h.told; makes = all.3 })))
+      let all = in_turn_made 0 old h.frames h.texts new h.answered in (
+        all.0,
+        all.1,
+        all.2,
+        inr (inr (record {
+          frames = h.frames;
+          texts = h.texts;
+          asked = h.asked;
+          few = h.few;
+          told = h.told;
+          within = h.within;
+          makes = all.3;
+        })),
+      )
 
   module _ (limit : ℕ) where
     came_made : (old : ReplicaData) (bytes text : List ℕ) (new : ReplicaData)

@@ -1,4 +1,4 @@
--- A reply whose line takes memory comes of a request that has changed nothing.
+-- A reply whose line takes memory is to a request that has changed no more than a refused one.
 use Rattle.std.proofs.Common.{◌≡◌, ℕ, Bool, true, false, Option, Some, None, Result, Ok, Err, inl, inr, refl, ap, ◌∙◌}
 use Rattle.redo_core.specs.declared.facts.Fact.{Fact}
 use Rattle.redo_core.specs.declared.refusal.Refused.{Refused}
@@ -23,7 +23,7 @@ use Rattle.read_cache.specs.Cached.{Cached}
 use Rattle.replica.specs.AtSegment.{CommitsPlan, Opens}
 use Rattle.replica.specs.Hydrating.{FreezesAs, AddsTo, StandsFor, Finishes, EndsInUnion, UnitesMade}
 use Rattle.replica.specs.Machine.{IsReply}
-use Rattle.replica.specs.Parts.{ReplicaData, IsUnchanged}
+use Rattle.replica.specs.Parts.{ReplicaData}
 use Rattle.replica.specs.Refused.{IsRefusal, IsAfterRefusal}
 use Rattle.replica.specs.Replying.{refusal_reply, taken_reply, fault_reply, tidied_reply, absorbed_reply, unadded_reply, unfinished_reply, united_reply}
 use Rattle.replica.specs.declared.requests.Request.{Request}
@@ -32,7 +32,7 @@ use Rattle.replica.specs.declared.replies.Reply.{Reply}
 use Rattle.replica.specs.declared.replies.Reply.TheVariants as reply
 use Rattle.node_stream.specs.Telling.{TakesMemory}
 
--- the reply tells what was asked, and is no refusal
+-- the reply has the value that was asked for, and is no refusal
 abbrev tells : Reply → Bool
 tells (reply.Front f) = true
 tells (reply.Gap g) = true
@@ -164,44 +164,30 @@ unites_tells old None told new staging p = ap tells p.0
 unites_tells old (Some st) told new staging p = made_tells old st p.answer told new staging p.unites
 
 -- ---- each request
-same_is_unchanged : (old new : ReplicaData) → new ≡ old → IsUnchanged old new
-same_is_unchanged old new e = record {
-  cached = record { segment = ap (λ r. r.cached.segment) e; pages = ap (λ r. r.cached.pages) e };
-  snapshot = ap (λ r. r.snapshot) e;
-  staging = ap (λ r. r.staging) e;
-}
-
-told_by : (old : ReplicaData) (asked : Request) (told : Reply) (new : ReplicaData) → IsReply old asked told new
-    → (IsRefusal told → IsUnchanged old new) → TakesMemory told → IsUnchanged old new
-told_by old (request.Open roster) told new h r t = r (refuses told t (opens_tells old.cached roster told new.cached h.0))
-told_by old (request.Take fact) told new h r t = r (refuses told t (ap tells h.0.is ∙ taken_tells h.0.answer))
-told_by old request.Front told new h r t = same_is_unchanged old new h.1
-told_by old request.Gap told new h r t = same_is_unchanged old new h.1
-told_by old request.State told new h r t = same_is_unchanged old new h.1
-told_by old (request.Read page point) told new h r t = record {
+-- what makes a reply of such a kind leaves the replica as a refusal does
+pub told_unchanged : (old : ReplicaData) (asked : Request) (told : Reply) (new : ReplicaData) → IsReply old asked told new
+    → (IsRefusal told → IsAfterRefusal asked old new) → TakesMemory told → IsAfterRefusal asked old new
+told_unchanged old (request.Open roster) told new h r t = r (refuses told t (opens_tells old.cached roster told new.cached h.0))
+told_unchanged old (request.Take fact) told new h r t = r (refuses told t (ap tells h.0.is ∙ taken_tells h.0.answer))
+told_unchanged old request.Front told new h r t = h.1
+told_unchanged old request.Gap told new h r t = h.1
+told_unchanged old request.State told new h r t = h.1
+told_unchanged old (request.Read page point) told new h r t = record {
   cached = record { segment = h.0.segment; pages = h.0.pages };
   snapshot = h.1.snapshot;
   staging = h.1.staging;
 }
-told_by old request.Ask told new h r t = same_is_unchanged old new h.1
-told_by old (request.Answer summary) told new h r t = same_is_unchanged old new h.1
-told_by old (request.AnswerWithin summary most) told new h r t = same_is_unchanged old new h.1
-told_by old (request.Absorb summary delta) told new h r t = r (refuses told t (ap tells h.0.is ∙ absorbed_tells h.0.answer))
-told_by old (request.Fold page) told new h r t = r (refuses told t (commits_tells old.cached h.0.plan told new.cached h.0.commits))
-told_by old request.Discard told new h r t = r (refuses told t (ap tells h.0.is))
-told_by old request.Tidy told new h r t = r (refuses told t (ap tells h.0.is ∙ tidied_tells h.0.answer))
-told_by old (request.Freeze name) told new h r t = r (refuses told t (freezes_tells old.cached.segment name old.snapshot told new.snapshot h.0))
-told_by old (request.Piece index) told new h r t = same_is_unchanged old new h.1
-told_by old (request.Stage name total) told new h r t = r (refuses told t (ap tells h.0.0))
-told_by old (request.Add piece) told new h r t = r (refuses told t (adds_tells old.staging piece told new.staging h.0))
-told_by old request.Finish told new h r t = r (refuses told t (finishes_tells old.cached old.staging told new.cached new.staging h.0))
-told_by old request.Unite told new h r t = r (refuses told t (unites_tells old.cached old.staging told new.cached new.staging h.0))
-told_by old (request.Next after) told new h r t = same_is_unchanged old new h.1
-
-left_unchanged : (asked : Request) (old new : ReplicaData) → IsAfterRefusal asked old new → IsUnchanged old new
-left_unchanged (request.Read page point) old new left = left
-left_unchanged asked old new left = same_is_unchanged old new left
-
-pub told_unchanged : (old : ReplicaData) (asked : Request) (told : Reply) (new : ReplicaData) → IsReply old asked told new
-    → (IsRefusal told → IsAfterRefusal asked old new) → TakesMemory told → IsUnchanged old new
-told_unchanged old asked told new h r t = told_by old asked told new h (λ k. left_unchanged asked old new (r k)) t
+told_unchanged old request.Ask told new h r t = h.1
+told_unchanged old (request.Answer summary) told new h r t = h.1
+told_unchanged old (request.AnswerWithin summary most) told new h r t = h.1
+told_unchanged old (request.Absorb summary delta) told new h r t = r (refuses told t (ap tells h.0.is ∙ absorbed_tells h.0.answer))
+told_unchanged old (request.Fold page) told new h r t = r (refuses told t (commits_tells old.cached h.0.plan told new.cached h.0.commits))
+told_unchanged old request.Discard told new h r t = r (refuses told t (ap tells h.0.is))
+told_unchanged old request.Tidy told new h r t = r (refuses told t (ap tells h.0.is ∙ tidied_tells h.0.answer))
+told_unchanged old (request.Freeze name) told new h r t = r (refuses told t (freezes_tells old.cached.segment name old.snapshot told new.snapshot h.0))
+told_unchanged old (request.Piece index) told new h r t = h.1
+told_unchanged old (request.Stage name total) told new h r t = r (refuses told t (ap tells h.0.0))
+told_unchanged old (request.Add piece) told new h r t = r (refuses told t (adds_tells old.staging piece told new.staging h.0))
+told_unchanged old request.Finish told new h r t = r (refuses told t (finishes_tells old.cached old.staging told new.cached new.staging h.0))
+told_unchanged old request.Unite told new h r t = r (refuses told t (unites_tells old.cached old.staging told new.cached new.staging h.0))
+told_unchanged old (request.Next after) told new h r t = h.1

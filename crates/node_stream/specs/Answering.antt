@@ -2,7 +2,7 @@
 use Rattle.std.specs.Prelude.{◌≡◌, ℕ, ◌+◌, ◌*◌, ◌<◌, ◌≤◌, ◌^◌, ◌⊎◌, List, [], ◌∷◌, length, Option, Some, None, Result, Ok, Err, codes}
 use Rattle.framing.specs.Inside.{AreInside, FitsFrame, Exceeds}
 use Rattle.replica.specs.Machine.{IsReply}
-use Rattle.replica.specs.Parts.{ReplicaData, IsUnchanged}
+use Rattle.replica.specs.Parts.{ReplicaData}
 use Rattle.replica.specs.Refused.{IsRefusal, IsAfterRefusal}
 use Rattle.replica.specs.declared.replies.Reply.{Reply}
 use Rattle.node_stream.specs.Reading.{request_of}
@@ -47,26 +47,26 @@ by_frames = record {
   over = codes "long";
 }
 
--- the replica carries out the request, and the text is that of its reply; a refused read may change which images the cache keeps, and any
--- other refusal changes nothing
+-- The replica carries out the request, and the text is that of its reply. A refused read may change which images the cache keeps, and any
+-- other refusal changes nothing.
 pub record ReportsReply (form : Spoken) (asked : Asked) (old : ReplicaData) (text : List ℕ) (new : ReplicaData) : Type 0 where
   pub told : Reply
   pub replies : IsReply old asked.request told new
   pub refused : IsRefusal told → IsAfterRefusal asked.request old new
   pub is : text ≡ form.reply asked.window told
 
--- the replica may carry out what is asked with some reply
+-- the replica carries out what is asked with some reply, and is as after a refusal of it; bytes that encode no request ask nothing
 abbrev pub CarriesOut : Result Asked LineFault → ReplicaData → ReplicaData → Type 0
-CarriesOut (Ok asked) old new = (told : Reply) × IsReply old asked.request told new
+CarriesOut (Ok asked) old new = (told : Reply) × IsReply old asked.request told new × IsAfterRefusal asked.request old new
 CarriesOut (Err fault) old new = ⊥
 
--- There was no memory. Nothing has changed but which images the cache keeps: the replica did nothing, or what it did changed no more.
+-- There was no memory. The replica did nothing; or it carried out a request that leaves it as a refusal does: a read may have changed which
+-- images the cache keeps, and any other request has changed nothing.
 pub record LacksMemory (form : Spoken) (asked : Result Asked LineFault) (old : ReplicaData) (text : List ℕ) (new : ReplicaData) : Type 0 where
   pub is : text ≡ form.memory
-  pub unchanged : IsUnchanged old new
   pub did : (new ≡ old) ⊎ CarriesOut asked old new
 
--- what was read is carried out and told; what asks for nothing changes nothing
+-- the request is carried out and its reply reported; bytes that encode no request change nothing
 abbrev pub ReportsAnswer : Spoken → Result Asked LineFault → ReplicaData → List ℕ → ReplicaData → Type 0
 ReportsAnswer form (Ok asked) old text new = ReportsReply form asked old text new
 ReportsAnswer form (Err fault) old text new = (text ≡ form.fault fault) × (new ≡ old)
@@ -80,20 +80,19 @@ abbrev pub AnswersRequest : Spoken → ReplicaData → List ℕ → List ℕ →
 AnswersRequest form old bytes text new = AnswersAsked form (form.asks bytes) old text new
 
 -- ---- many requests
--- The text is that of the reply to what was asked, and nothing has changed but which images the cache keeps: asked again, it is answered again.
+-- The text is that of the reply to what was asked, and the replica is as after a refusal of it: asked again, it is answered again.
 pub record OnlyReads (form : Spoken) (asked : Asked) (old : ReplicaData) (text : List ℕ) (new : ReplicaData) : Type 0 where
   pub told : Reply
   pub replies : IsReply old asked.request told new
   pub is : text ≡ form.reply asked.window told
-  pub unchanged : IsUnchanged old new
+  pub unchanged : IsAfterRefusal asked.request old new
 
--- what asks for nothing does not read
+-- bytes that encode no request read nothing
 abbrev pub ReadsAsked : Spoken → Result Asked LineFault → ReplicaData → List ℕ → ReplicaData → Type 0
 ReadsAsked form (Ok asked) old text new = OnlyReads form asked old text new
 ReadsAsked form (Err fault) old text new = ⊥
 
--- The answer exceeds the limit, behind so many bytes of answers and in front of so many answers; nothing has changed but which images the
--- cache keeps.
+-- The answer exceeds the limit, after so many bytes of answers and before so many answers. The replica is as after a refusal of the request.
 pub record IsOver (form : Spoken) (put others : ℕ) (old : ReplicaData) (bytes text : List ℕ) (new : ReplicaData) : Type 0 where
   pub is : text ≡ form.over
   pub answer : List ℕ
@@ -105,7 +104,7 @@ abbrev pub AnswersOneOf : Spoken → ℕ → ℕ → ReplicaData → List ℕ �
 AnswersOneOf form put others old bytes text new =
     (FitsFrame put (length text) others × AnswersRequest form old bytes text new) ⊎ IsOver form put others old bytes text new
 
--- the texts answer the requests, one after another, behind so many bytes of answers and in front of so many answers
+-- the texts answer the requests, one after another, after so many bytes of answers and before so many answers
 abbrev pub AnswersInTurn : Spoken → ℕ → ℕ → ReplicaData → List (List ℕ) → List (List ℕ) → ReplicaData → Type 0
 AnswersInTurn form put behind old [] [] new = new ≡ old
 AnswersInTurn form put behind old (bytes ∷ others) (text ∷ texts) new =
@@ -114,7 +113,7 @@ AnswersInTurn form put behind old (bytes ∷ others) (text ∷ texts) new =
 AnswersInTurn form put behind old [] (text ∷ texts) new = ⊥
 AnswersInTurn form put behind old (bytes ∷ others) [] new = ⊥
 
--- The bytes are the frames of requests, of which there are few enough, and the text is those of their answers, one behind the other.
+-- The bytes are the frames of requests, of which there are few enough, and the text is those of their answers, one after another.
 pub record AnswersAll (form : Spoken) (old : ReplicaData) (bytes text : List ℕ) (new : ReplicaData) : Type 0 where
   pub frames : List (List ℕ)
   pub texts : List (List ℕ)

@@ -5,7 +5,7 @@ use Rattle.node_stream.specs.declared.job.Form.TheVariants.{Lines, Frames}
 use Rattle.node_stream.specs.declared.job.Job.{Job}
 use Rattle.node_stream.specs.declared.job.Job.TheVariants.{Serve, Help, Version}
 
--- the one word behind the program's name
+-- the one word after the program's name
 abbrev pub named : List ℕ → Option Job
 named word =
     if bytes_eq word (codes "--frames") then Some (Serve Frames)

@@ -8,18 +8,18 @@ use Rattle.node_stream.specs.declared.asked.Asked.{Asked}
 use Rattle.node_stream.specs.declared.faults.LineFault.{LineFault}
 use Rattle.node_stream.specs.declared.faults.LineFault.TheVariants as fault
 
--- what stands in front of the first space and behind it
+-- the bytes before the first space and after it
 abbrev pub halves : List ℕ → Option (List ℕ × List ℕ)
 halves text = option_map (λ at. (take at text, drop (at + 1) text)) (position (λ b. b == 32) text)
 
--- ---- a word and bytes, as they stand
+-- ---- a word and bytes, as they are
 abbrev pub take_frame : List ℕ → Result Asked LineFault
 take_frame bytes = fact_in bytes >>= (λ f. Ok (asked (request.Take f)))
 
 abbrev pub answer_frame : List ℕ → Result Asked LineFault
 answer_frame bytes = summary_in bytes >>= (λ s. Ok (asked (request.Answer s)))
 
--- a number, and the bytes behind it and a space
+-- a number, and the bytes after it and a space
 abbrev pub under_limit : Option ℕ → List ℕ → Option (ℕ × List ℕ)
 under_limit None bytes = None
 under_limit (Some number) bytes = Some (number, bytes)
@@ -42,12 +42,12 @@ within_frame text = within_both (limited text)
 abbrev pub add_frame : List ℕ → Result Asked LineFault
 add_frame bytes = piece_in bytes >>= (λ p. Ok (asked (request.Add p)))
 
--- so many bytes, and those behind them
+-- so many bytes, and those after them
 abbrev pub split_by : Option ℕ → List ℕ → Option (List ℕ × List ℕ)
 split_by None bytes = None
 split_by (Some count) bytes = if nat_lt (length bytes) count then None else Some (take count bytes, drop count bytes)
 
--- a number, a space, so many bytes, and the bytes behind them
+-- a number, a space, so many bytes, and the bytes after them
 abbrev pub sized : Option (List ℕ × List ℕ) → Option (List ℕ × List ℕ)
 sized None = None
 sized (Some (digits, bytes)) = split_by (decimal_value 4294967295 digits) bytes
@@ -64,7 +64,7 @@ unfoldable pub absorb_frame : List ℕ → Result Asked LineFault
 absorb_frame text = absorb_both (absorbed text)
 
 -- ---- frames
--- a word and what stands behind it and a space; behind any other word no bytes stand, and the frame asks what its line would ask
+-- a word and the bytes after it and a space; after any other word no bytes follow, and the frame asks what its line would ask
 unfoldable pub halves_frame : List ℕ → Option (List ℕ × List ℕ) → Result Asked LineFault
 halves_frame frame None = request_of frame
 halves_frame frame (Some (word, rest)) =
@@ -80,7 +80,7 @@ abbrev pub request_in : List ℕ → Result Asked LineFault
 request_in frame = halves_frame frame (halves frame)
 
 -- ---- many frames in one
--- what stands behind the word
+-- the bytes after the word
 unfoldable pub behind_many : Option (List ℕ × List ℕ) → Option (List ℕ)
 behind_many None = None
 behind_many (Some (word, rest)) = if bytes_eq word (codes "many") then Some rest else None

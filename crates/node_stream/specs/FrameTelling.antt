@@ -16,11 +16,11 @@ use Rattle.node_stream.specs.declared.faults.LineFault.TheVariants as line
 abbrev pub unended : List ℕ → List ℕ
 unended text = take (length text - 1) text
 
--- bytes, or what stands for them where they are more than a frame holds
+-- bytes, or a text in their place where they are more than a frame has room for
 unfoldable pub fitted : List ℕ → List ℕ → List ℕ
 fitted long bytes = if nat_lt 4294967295 (length bytes) then long else bytes
 
--- a word and bytes, as they stand
+-- a word and bytes, as they are
 abbrev pub bytes_frame : List ℕ → List ℕ → List ℕ
 bytes_frame word bytes = fitted (word ++ codes " too long") (word ++ codes " " ++ bytes)
 
@@ -28,7 +28,7 @@ bytes_frame word bytes = fitted (word ++ codes " too long") (word ++ codes " " +
 unfoldable pub value_frame : List ℕ → Bool → List ℕ → List ℕ
 value_frame word is_long bytes = if is_long then word ++ codes " too long" else bytes_frame word bytes
 
--- the frame of a reply: bytes as they stand, and else its line without the LF
+-- the frame of a reply: bytes as they are, and otherwise its line without the LF
 abbrev pub frame_of : Window → Reply → List ℕ
 frame_of w (reply.Page image) = bytes_frame (codes "page") (window_of w image)
 frame_of w (reply.Summary s) = value_frame (codes "summary") (is_long_summary s) (summary_bytes s)
@@ -37,7 +37,7 @@ frame_of w (reply.Piece p) = value_frame (codes "piece") (is_long_piece p) (piec
 frame_of w (reply.Next r) = bytes_frame (codes "record") (fact_bytes (fact.Record r))
 frame_of w told = unended (line_of w told)
 
--- why a frame asks for nothing
+-- why a frame encodes no request
 abbrev pub fault_frame : LineFault → List ℕ
 fault_frame (line.Wire f) = unended (fault_line (line.Wire f))
 fault_frame fault = codes "bad request"

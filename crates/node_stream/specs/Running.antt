@@ -1,8 +1,8 @@
 -- The turns of a replica that a stream makes.
-use Rattle.std.specs.Prelude.{◌≡◌, ℕ, ◌<◌, ◌⊎◌, List, [], ◌∷◌, ◌++◌, length, Option, Some, None, Ok, Err}
+use Rattle.std.specs.Prelude.{◌≡◌, ℕ, ◌+◌, ◌*◌, ◌<◌, ◌≤◌, ◌^◌, ◌⊎◌, List, [], ◌∷◌, ◌++◌, length, Option, Some, None, Ok, Err}
 use Rattle.redo_core.specs.declared.facts.Fact.{Fact}
 use Rattle.framing.specs.Frames.{AnswersFrames}
-use Rattle.framing.specs.Inside.{AreInside}
+use Rattle.framing.specs.Inside.{AreInside, FitsFrame, Exceeds}
 use Rattle.framing.specs.Lines.{AnswersLines}
 use Rattle.replica.specs.Machine.{IsReply}
 use Rattle.replica.specs.Meaning.{Turn, Runs}
@@ -20,7 +20,7 @@ pub record IsTurn (form : Spoken) (bytes text : List ℕ) (t : Turn) : Type 0 wh
   pub is : t.asked ≡ asked.request
   pub tells : (text ≡ form.reply asked.window t.told) ⊎ (text ≡ form.memory)
 
--- no turn: there was no memory, or what was asked asks for nothing
+-- no turn: there was no memory, or the bytes encode no request
 abbrev pub MakesNoTurn : Spoken → List ℕ → List ℕ → Type 0
 MakesNoTurn form bytes text = (text ≡ form.memory) ⊎ ((fault : LineFault) × (form.asks bytes ≡ Err fault) × (text ≡ form.fault fault))
 
@@ -28,18 +28,31 @@ MakesNoTurn form bytes text = (text ≡ form.memory) ⊎ ((fault : LineFault) ×
 abbrev pub MakesRequest : Spoken → List ℕ → List ℕ → List Turn → Type 0
 MakesRequest form bytes text turns = ((turns ≡ []) × MakesNoTurn form bytes text) ⊎ ((t : Turn) × (turns ≡ t ∷ []) × IsTurn form bytes text t)
 
--- The turn of one of many requests, whose answer exceeds the limit of the answer to all.
-pub record IsTurnOver (form : Spoken) (bytes text : List ℕ) (t : Turn) : Type 0 where
+-- The turn of one of many requests, whose reply would exceed the limit of the answer to all, after so many bytes of answers and before so
+-- many answers. The text says so.
+pub record IsTurnOver (form : Spoken) (put others : ℕ) (bytes text : List ℕ) (t : Turn) : Type 0 where
   pub asked : Asked
   pub asks : form.asks bytes ≡ Ok asked
   pub is : t.asked ≡ asked.request
+  pub exceeds : Exceeds put (length (form.reply asked.window t.told)) others
   pub over : text ≡ form.over
 
--- the turns of one of many requests
-abbrev pub MakesOneOf : Spoken → List ℕ → List ℕ → List Turn → Type 0
-MakesOneOf form bytes text turns = MakesRequest form bytes text turns ⊎ ((t : Turn) × (turns ≡ t ∷ []) × IsTurnOver form bytes text t)
+-- The turns of one of many requests: those that it would make alone, where its text is within the limit; else one whose reply exceeds that.
+abbrev pub MakesOneOf : Spoken → ℕ → ℕ → List ℕ → List ℕ → List Turn → Type 0
+MakesOneOf form put others bytes text turns =
+    (FitsFrame put (length text) others × MakesRequest form bytes text turns)
+    ⊎ ((t : Turn) × (turns ≡ t ∷ []) × IsTurnOver form put others bytes text t)
 
--- those of one request after another, by what is said of one and its text
+-- Those of one of many requests after another: each text is that of the request in its place, and counts with four bytes for its length.
+abbrev pub MakeInTurn : Spoken → ℕ → List (List ℕ) → List (List ℕ) → List Turn → Type 0
+MakeInTurn form put [] [] turns = turns ≡ []
+MakeInTurn form put (bytes ∷ others) (text ∷ texts) turns =
+    (here : List Turn) × (rest : List Turn) × (turns ≡ here ++ rest) × MakesOneOf form put (length others) bytes text here
+    × MakeInTurn form (put + (4 + length text)) others texts rest
+MakeInTurn form put [] (text ∷ texts) turns = ⊥
+MakeInTurn form put (bytes ∷ others) [] turns = ⊥
+
+-- those of one request after another, by what one makes with its text
 abbrev pub MakeEach : (List ℕ → List ℕ → List Turn → Type 0) → List (List ℕ) → List (List ℕ) → List Turn → Type 0
 MakeEach one [] [] turns = turns ≡ []
 MakeEach one (bytes ∷ others) (text ∷ texts) turns =
@@ -47,19 +60,26 @@ MakeEach one (bytes ∷ others) (text ∷ texts) turns =
 MakeEach one [] (text ∷ texts) turns = ⊥
 MakeEach one (bytes ∷ others) [] turns = ⊥
 
--- Those of the frames in the bytes, whose answers are the frames in the text.
+-- Those of the frames in the bytes, of which there are few enough. Their answers are the frames in the text, which is within the limit.
 pub record MakesMany (form : Spoken) (bytes text : List ℕ) (turns : List Turn) : Type 0 where
   pub frames : List (List ℕ)
   pub texts : List (List ℕ)
   pub asked : AreInside bytes frames
+  pub few : 21 * length frames ≤ 2 ^ 26
   pub told : AreInside text texts
-  pub makes : MakeEach (MakesOneOf form) frames texts turns
+  pub within : length text ≤ 2 ^ 26
+  pub makes : MakeInTurn form 0 frames texts turns
 
--- those of one request, or of many; none where these are no frames, or too many
+-- The bytes are no frames, and the text says so; or short answers to so many frames would exceed the limit.
+abbrev pub AreNotAnswered : Spoken → List ℕ → List ℕ → Type 0
+AreNotAnswered form bytes text =
+    (((frames : List (List ℕ)) → AreInside bytes frames → ⊥) × (text ≡ form.fault fault.Form))
+    ⊎ ((frames : List (List ℕ)) × AreInside bytes frames × (2 ^ 26 < 21 * length frames) × (text ≡ form.over))
+
+-- those of one request, or of many
 abbrev pub MakesThese : Spoken → Option (List ℕ) → List ℕ → List ℕ → List Turn → Type 0
 MakesThese form None bytes text turns = MakesRequest form bytes text turns
-MakesThese form (Some inside) bytes text turns =
-    ((turns ≡ []) × ((text ≡ form.fault fault.Form) ⊎ (text ≡ form.over))) ⊎ MakesMany form inside text turns
+MakesThese form (Some inside) bytes text turns = ((turns ≡ []) × AreNotAnswered form inside text) ⊎ MakesMany form inside text turns
 
 -- those of what came; none where there was no memory for it, or it is longer than the limit
 abbrev pub MakesBelow : Spoken → ℕ → List ℕ → List ℕ → List Turn → Type 0
@@ -68,7 +88,7 @@ MakesBelow form limit bytes text turns =
     ⊎ (((turns ≡ []) × (limit < length bytes) × (text ≡ form.long))
     ⊎ MakesThese form (form.many bytes) bytes text turns)
 
--- the requests make the turns, in order, and the texts tell their replies
+-- the requests make the turns, in order, and the texts are those of their replies
 abbrev pub MakeTurns : Spoken → ℕ → List (List ℕ) → List (List ℕ) → List Turn → Type 0
 MakeTurns form limit requests texts turns = MakeEach (MakesBelow form limit) requests texts turns
 
@@ -85,7 +105,7 @@ Run form brings limit old requests texts new =
     (turns : List Turn) × Runs old turns new × RunsBringing brings old turns new × MakeTurns form limit requests texts turns
 
 -- The answers to lines are such replies. What each request brings is for the reader to say; where that is of one sound log at each turn,
--- `RunsMean` tells what the segment means after them.
+-- `RunsMean` says what the segment means after them.
 abbrev pub AnswersRun : Type 0
 AnswersRun =
     (brings : ReplicaData → Request → List Fact) (limit : ℕ) (old : ReplicaData) (lines texts : List (List ℕ)) (new : ReplicaData)

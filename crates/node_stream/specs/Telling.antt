@@ -39,7 +39,7 @@ held_line (held.Min point) = one_number (codes "refused by least ") point
 held_line (held.Advance a) = three_numbers (codes "refused by min ") a.epoch a.point a.reader
 held_line (held.Cut c) = three_numbers (codes "refused by cut ") c.epoch c.lo c.hi
 
--- the truncation of an epoch that has another one already is told apart from one that what came contradicts
+-- another truncation of an epoch that has one has a line of its own, apart from that of one which what came contradicts
 abbrev pub refusal_line : Refusal → List ℕ
 refusal_line (refusal.OtherRoster own shown) = two_numbers (codes "refused by roster ") own shown
 refusal_line (refusal.OtherCut c) = three_numbers (codes "refused by other cut ") c.epoch c.lo c.hi
@@ -120,7 +120,7 @@ line_of w (reply.Next r) = bytes_line (codes "record") (fact_bytes (fact.Record 
 line_of w reply.NoNext = codes "none\n"
 line_of w reply.Memory = codes "memory\n"
 
--- The replies whose line takes memory. None of them comes of a request that has changed anything.
+-- The replies whose line takes memory. None of them is to a request that has changed more than a refusal does.
 abbrev pub TakesMemory : Reply → Type 0
 TakesMemory (reply.Refused why) = Unit {0}
 TakesMemory (reply.Front f) = Unit {0}
@@ -140,7 +140,7 @@ TakesMemory (reply.Malformed index) = Unit {0}
 TakesMemory (reply.Next r) = Unit {0}
 TakesMemory told = ⊥
 
--- ---- lines that ask for nothing
+-- ---- lines that encode no request
 -- a value's fault goes by its number
 abbrev pub fault_line : LineFault → List ℕ
 fault_line line.Form = codes "bad line\n"

@@ -1,4 +1,4 @@
-//! Why a line asks for nothing.
+//! Why a line encodes no request.
 
 ghost use Rattle.std.specs.Prelude.{◌≡◌};
 ghost use Rattle.node_stream.specs.declared.faults.LineError.TheVariants.{Memory};
@@ -8,14 +8,14 @@ use std::alloc::AllocError;
 use std::fmt;
 use thiserror::Error;
 
-/// Why a line asks for nothing.
+/// Why a line encodes no request.
 #[derive(Clone, Copy, Debug, PartialEq, Eq, Error)]
 pub enum LineFault {
     /// It has the form of no request.
     Form,
     /// It has the form of a request, but for digits that are no hexadecimal digits, or not an even number of them.
     Hex,
-    /// The digits stand for bytes that are no value of the kind that stands there.
+    /// The digits encode bytes that are no value of the kind that belongs there.
     Wire(WireFault),
 }
 

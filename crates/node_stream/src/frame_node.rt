@@ -19,7 +19,7 @@ use framing::frames::FrameAnswer;
 use replica::{Replica, Reply};
 use std::alloc::Global;
 
-/// The answer where memory was wanting.
+/// The answer where memory ran out.
 pub fn memory() -> FrameAnswer
     ensures bytes { bytes_of result ≡ codes "memory" }
     ensures short { IsShort (bytes_of result) }
@@ -41,7 +41,7 @@ fn answer_reply(alloc: Global, window: Window, reply: &Reply, room: String) -> F
     }
 }
 
-/// Carries out a request, and tells the reply.
+/// Carries out a request, and answers with the reply.
 fn answer_request(alloc: Global, replica: &mut Replica, asked: Asked, room: String) -> FrameAnswer
     requires inside { IsInside asked.window }
     requires room { HasRoom room }
@@ -54,7 +54,7 @@ fn answer_request(alloc: Global, replica: &mut Replica, asked: Asked, room: Stri
     answer_reply(alloc, window, &reply, room)
 }
 
-/// Tells why a frame asks for nothing.
+/// Answers with why a frame encodes no request.
 fn answer_fault(alloc: Global, fault: LineFault) -> FrameAnswer
     ensures bytes { (bytes_of result ≡ codes "memory") ⊎ (bytes_of result ≡ fault_frame fault) }
     ensures few { length (bytes_of result) ≤ 17 }
@@ -65,17 +65,17 @@ fn answer_fault(alloc: Global, fault: LineFault) -> FrameAnswer
     }
 }
 
-/// Answers the bytes of the frame of one request: the reply where they ask something, else why they ask nothing, and then nothing has
-/// changed.
+/// Answers the bytes of the frame of one request: with the reply where they encode one, else with why they encode none, and then nothing
+/// has changed.
 ///
-/// The bytes `memory` stand for lack of memory. Then, where the reply is a refusal, and where the answer has more than 17 bytes, nothing
-/// has changed but which images the cache keeps.
+/// The bytes `memory` say that memory ran out. Then, where the reply is a refusal, and where the answer has more than 17 bytes, a read may
+/// have changed which images the cache keeps, and any other request has changed nothing.
 pub fn answer_one(alloc: Global, replica: &mut Replica, frame: &[u8]) -> FrameAnswer
     ensures answers { AnswersRequest by_frames replica.old frame.now (bytes_of result) replica.new }
     ensures long { 17 < length (bytes_of result) → ReadsAsked by_frames (request_in frame.now) replica.old (bytes_of result) replica.new }
     ensures short { IsShort (bytes_of result) }
 {
-    // (taken before anything is read, so that nothing that was read stands where it is wanting)
+    // The room is taken first, so that a request for whose answer memory lacks is not carried out.
     let Ok(room) = room(alloc) else {
         return memory();
     };

@@ -24,7 +24,7 @@ fn first_space(text: &[u8]) -> Option<usize>
     memchr(b' ', text)
 }
 
-/// What stands in front of the first space and behind it.
+/// The bytes before the first space, and those after it.
 pub fn halves(text: &[u8]) -> Option<(&[u8], &[u8])>
     ensures { option_map (λ p. (p.0.now, p.1.now)) result ≡ halves text.now }
 {
@@ -62,7 +62,7 @@ fn answer_within(alloc: Global, text: &[u8]) -> Result<Asked, LineError>
     Ok(Asked::new(Request::AnswerWithin { summary, most }))
 }
 
-/// A number of bytes, and what stands behind it and a space.
+/// A number of bytes, and the bytes after it and a space.
 fn limited(text: &[u8]) -> Option<(u64, &[u8])>
     ensures { option_map (λ p. (p.0, p.1.now)) result ≡ limited text.now }
 {
@@ -78,7 +78,7 @@ fn add(alloc: Global, bytes: &[u8]) -> Result<Asked, LineError>
     Ok(Asked::new(Request::Add { piece }))
 }
 
-/// The bytes of a summary, whose number stands in front of them, and those of a delta.
+/// The bytes of a summary, which follow their number, and those of a delta.
 fn absorbed(text: &[u8]) -> Option<(&[u8], &[u8])>
     ensures { option_map (λ p. (p.0.now, p.1.now)) result ≡ absorbed text.now }
 {
@@ -103,9 +103,9 @@ fn absorb(alloc: Global, text: &[u8]) -> Result<Asked, LineError>
     Ok(Asked::new(Request::Absorb { summary, delta }))
 }
 
-/// What a frame asks: its bytes stand as they are behind a word that takes bytes, and else it asks what the line of its bytes asks.
+/// What a frame asks: after a word that takes bytes these follow as they are; any other frame asks what the line of its bytes asks.
 ///
-/// Errors: `Fault` where it asks for nothing, with the first cause from left to right and never `Hex`, and `Memory`.
+/// Errors: `Fault` where it encodes no request, with the first cause from left to right and never `Hex`, and `Memory`.
 #[tactic(auto, unfolding(crate::specs::FrameReading::halves_frame))]
 pub fn read_frame(alloc: Global, frame: &[u8]) -> Result<Asked, LineError>
     ensures asks { Gives (λ x. x) result (request_in frame.now) }

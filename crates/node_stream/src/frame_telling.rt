@@ -69,7 +69,7 @@ fn made(line: String) -> Result<FrameAnswer, AllocError>
     Ok(FrameAnswer::Made(bytes))
 }
 
-/// A word and a space, behind which bytes are to stand.
+/// A word and a space, after which bytes are to follow.
 fn begun(alloc: Global, word: &str) -> Result<BytesMut, AllocError>
     ensures { IfOk result (λ b. b.items ≡ word.now) }
 {
@@ -78,7 +78,7 @@ fn begun(alloc: Global, word: &str) -> Result<BytesMut, AllocError>
     Ok(bytes)
 }
 
-/// The bytes, or what stands for them where they have no room in a frame.
+/// The bytes, or a text in their place where they have no room in a frame.
 #[tactic(auto, unfolding(crate::specs::FrameTelling::fitted))]
 fn fitted(bytes: BytesMut, long: &'static str) -> Result<FrameAnswer, AllocError>
     requires { IsShort long.now }
@@ -194,7 +194,7 @@ pub fn told(
     }
 }
 
-/// Why a frame asks for nothing.
+/// Why a frame encodes no request.
 pub fn fault(alloc: Global, fault: LineFault) -> Result<FrameAnswer, AllocError>
     ensures bytes { IfOk result (λ a. bytes_of a ≡ fault_frame fault) }
     ensures few { IfOk result (λ a. length (bytes_of a) ≤ 17) }

@@ -1,4 +1,4 @@
-//! The one answer that tells a number of what has changed: its room is taken before the change.
+//! The one answer with a number to a request that changes something: its room is taken before the change.
 
 ghost use Rattle.std.specs.Prelude.{◌≡◌, IfOk, codes};
 ghost use Rattle.framing.specs.AnswerText.{text_of};

@@ -1,4 +1,4 @@
-//! One replica behind a stream of lines or of frames: each request is answered by one line or frame, before the next one is looked at.
+//! One replica on a stream of lines or of frames: each request is answered by one line or frame, before the next one is read.
 #![tactic(auto)]
 
 mod answers;

@@ -17,7 +17,7 @@ use std::alloc::Global;
 /// The most requests in a frame: so many answers of 17 bytes, with their lengths, are within 64 MiB.
 const MOST: usize = 3_195_660;
 
-/// The bytes of the frames that a frame holds behind its word; None where it is of no such kind.
+/// The bytes of the frames that a frame has after the word `many`; None where it is of no such kind.
 #[tactic(auto, unfolding(crate::specs::FrameReading::behind_many))]
 fn frames_in(frame: &[u8]) -> Option<&[u8]>
     ensures { option_map (λ r. r.now) result ≡ many_in frame.now }
@@ -30,7 +30,7 @@ fn frames_in(frame: &[u8]) -> Option<&[u8]>
     }
 }
 
-/// Answers the frame of one request, and puts the answer behind the others; where it exceeds the limit, `long`.
+/// Answers the frame of one request, and appends the answer to the others; where it exceeds the limit, `long`.
 fn put_answer(
     alloc: Global,
     replica: &mut Replica,
@@ -71,8 +71,8 @@ fn answer_each(
     answers
 }
 
-/// Answers the frames that stand in the bytes, by frames; where they are no frames or too many, or there is no room for as many short
-/// answers, by one that says so, and then none is carried out.
+/// Answers the frames in the bytes, by frames; where they are no frames or too many, or there is no room for as many short answers, by one
+/// that says so, and then none is carried out.
 fn answer_many(alloc: Global, replica: &mut Replica, bytes: &[u8]) -> FrameAnswer
     ensures answers { AnswersMany by_frames replica.old bytes.now (bytes_of result) replica.new }
     ensures short { length (bytes_of result) ≤ 2 ^ 26 }
@@ -92,12 +92,12 @@ fn answer_many(alloc: Global, replica: &mut Replica, bytes: &[u8]) -> FrameAnswe
     }
 }
 
-/// Answers the bytes of a request frame by those of a frame: the reply where they ask something, else why they ask nothing, and then
-/// nothing has changed. Behind the word `many` stand whole frames of requests, and the answer is the frames of their answers, of up to
+/// Answers the bytes of a request frame by those of a frame: with the reply where they encode a request, else with why they encode none, and
+/// then nothing has changed. After the word `many` follow whole frames of requests, and the answer is the frames of their answers, of up to
 /// 64 MiB together.
 ///
-/// The bytes `memory` stand for lack of memory, and `long` for an answer that would exceed the limit of that to many. Then, and where the
-/// reply is a refusal, nothing has changed but which images the cache keeps.
+/// The bytes `memory` say that memory ran out, and `long` that an answer would exceed the limit of that to many. Then, and where the reply
+/// is a refusal, a read may have changed which images the cache keeps, and any other request has changed nothing.
 pub fn answer_frame(alloc: Global, replica: &mut Replica, frame: &[u8]) -> FrameAnswer
     ensures answers { IsFrameAnswer replica.old frame.now (bytes_of result) replica.new }
     ensures short { IsShort (bytes_of result) }

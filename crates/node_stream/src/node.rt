@@ -22,7 +22,7 @@ use replica::{Replica, Reply};
 use std::alloc::{AllocError, Global};
 use std::marker::Model;
 
-/// The answer where memory was wanting.
+/// The answer where memory ran out.
 const MEMORY: &str = "memory\n";
 
 /// The answer line of a reply, or where there is no memory for it, the one that says so.
@@ -37,7 +37,7 @@ fn answer_reply(alloc: Global, window: Window, reply: &Reply, room: String) -> A
     }
 }
 
-/// Carries out a request, and tells the reply.
+/// Carries out a request, and answers with the reply.
 fn answer_request(alloc: Global, replica: &mut Replica, asked: Asked, room: String) -> Answer
     requires inside { IsInside asked.window }
     requires room { HasRoom room }
@@ -48,7 +48,7 @@ fn answer_request(alloc: Global, replica: &mut Replica, asked: Asked, room: Stri
     answer_reply(alloc, window, &reply, room)
 }
 
-/// Tells why a line asks for nothing.
+/// Answers with why a line encodes no request.
 fn answer_fault(alloc: Global, fault: LineFault) -> Answer
     ensures { (text_of result ≡ codes "memory\n") ⊎ (text_of result ≡ fault_line fault) }
 {
@@ -58,15 +58,15 @@ fn answer_fault(alloc: Global, fault: LineFault) -> Answer
     }
 }
 
-/// Answers a request line, which stands here without its LF, by a line: that of the reply where it asks something, else why it asks
-/// nothing, and then nothing has changed.
+/// Answers a request line, which is given without its LF, by a line: that of the reply where it encodes a request, else why it encodes
+/// none, and then nothing has changed.
 ///
-/// The line `memory` stands for lack of memory. Then, and where the reply is a refusal, nothing has changed but which images the cache
-/// keeps.
+/// The line `memory` says that memory ran out. Then, and where the reply is a refusal, a read may have changed which images the cache
+/// keeps, and any other request has changed nothing.
 pub fn answer_line(alloc: Global, replica: &mut Replica, line: &[u8]) -> Answer
     ensures { IsAnswer replica.old line.now (text_of result) replica.new }
 {
-    // (taken before anything is read, so that nothing that was read stands where it is wanting)
+    // The room is taken first, so that a request for whose answer memory lacks is not carried out.
     let Ok(room) = room(alloc) else {
         return Answer::Fixed(MEMORY);
     };
@@ -77,7 +77,7 @@ pub fn answer_line(alloc: Global, replica: &mut Replica, line: &[u8]) -> Answer
     }
 }
 
-/// A replica that answers lines and frames, and tells its answers in memory of this allocator.
+/// A replica that answers lines and frames, with answers in memory of this allocator.
 #[derive(Drop)]
 pub struct Node {
     alloc: Global,

@@ -50,7 +50,7 @@ fn serve_input(
     }
 }
 
-/// The status of an ending, of which standard error tells where it is a fault.
+/// The status of an ending; standard error names it where it is a fault.
 fn ended_by(rt: &impl Eprint, ended: Result<(), RunFault>) -> ExitCode {
     let words = words_of(ended);
     if !words.is_empty() {

@@ -1,4 +1,4 @@
-//! A replica behind a stream.
+//! A replica on a stream.
 
 ghost use Rattle.framing.specs.FramesServed.{ServesFrames};
 ghost use Rattle.framing.specs.LinesServed.{Serves};
@@ -12,7 +12,7 @@ use std::io::{Read, Write};
 /// line is looked at. A line of more than `limit` bytes without its LF is answered `long line`, and its bytes are not kept.
 ///
 /// Errors: `Input` and `Output` only where that device failed; `Memory` after 2^64 - 1 reads. After `Output` the writer has a beginning
-/// of the answers, else all of them. Want of memory is no error: it is answered `memory`.
+/// of the answers, else all of them. Lack of memory is no error: it is answered `memory`.
 pub fn serve<R: Read, W: Write>(
     limit: usize,
     node: &mut Node,
@@ -28,7 +28,7 @@ pub fn serve<R: Read, W: Write>(
 /// next frame is read. A frame of more than `limit` bytes is answered `long frame`, and its bytes are not kept.
 ///
 /// Errors: `Input` and `Output` only where that device failed; `Memory` after 2^64 - 1 frames. After `Output` the writer has a
-/// beginning of the answers, else all of them. Want of memory is no error: it is answered `memory`.
+/// beginning of the answers, else all of them. Lack of memory is no error: it is answered `memory`.
 pub fn serve_frames<R: Read, W: Write>(
     limit: usize,
     node: &mut Node,

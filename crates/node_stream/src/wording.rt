@@ -16,14 +16,14 @@ use script_text::{labelled, worded_line};
 use segment_core::{Front, Gap, Refusal};
 use std::alloc::{AllocError, Global};
 
-/// Words, and numbers behind them.
+/// Words, and numbers after them.
 pub fn numbers(alloc: Global, words: &str, numbers: &[u64]) -> Result<Answer, AllocError>
     ensures { IfOk result (λ a. text_of a ≡ worded_line words.now numbers.now) }
 {
     Ok(Answer::Made(worded_line(alloc, words, numbers)?))
 }
 
-/// Words, and a number behind them.
+/// Words, and a number after them.
 pub fn one(alloc: Global, words: &str, number: u64) -> Result<Answer, AllocError>
     ensures { IfOk result (λ a. text_of a ≡ worded_line words.now (number ∷ [])) }
 {
@@ -121,7 +121,7 @@ pub fn state(alloc: Global, status: Status) -> Result<Answer, AllocError>
     Ok(Answer::Made(text))
 }
 
-/// Why a line asks for nothing.
+/// Why a line encodes no request.
 pub fn fault(alloc: Global, fault: LineFault) -> Result<Answer, AllocError>
     ensures { IfOk result (λ a. text_of a ≡ fault_line fault) }
 {

@@ -12,9 +12,12 @@ returns-clause-answers c = ⊎_elim
     }))
     (λ lacks. inl (record {
       is = lacks.0;
-      unchanged = told_unchanged c.args.replica.now c.args.asked.request c.step-reply.result c.step-reply.new.self c.step-reply.ensures.replies
-          c.step-reply.ensures.refused lacks.1;
-      did = inr (c.step-reply.result, c.step-reply.ensures.replies);
+      did = inr (
+        c.step-reply.result,
+        c.step-reply.ensures.replies,
+        told_unchanged c.args.replica.now c.args.asked.request c.step-reply.result c.step-reply.new.self c.step-reply.ensures.replies
+            c.step-reply.ensures.refused lacks.1,
+      );
     }))
     c.answer_reply.ensures.bytes
 

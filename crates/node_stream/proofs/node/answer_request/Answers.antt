@@ -12,8 +12,11 @@ returns c = ⊎_elim
     }))
     (λ lacks. inl (record {
       is = lacks.0;
-      unchanged = told_unchanged c.args.replica.now c.args.asked.request c.step-reply.result c.step-reply.new.self c.step-reply.ensures.replies
-          c.step-reply.ensures.refused lacks.1;
-      did = inr (c.step-reply.result, c.step-reply.ensures.replies);
+      did = inr (
+        c.step-reply.result,
+        c.step-reply.ensures.replies,
+        told_unchanged c.args.replica.now c.args.asked.request c.step-reply.result c.step-reply.new.self c.step-reply.ensures.replies
+            c.step-reply.ensures.refused lacks.1,
+      );
     }))
     c.answer_reply.ensures
