@@ -41,9 +41,9 @@ KeepsStaged roster log staged kept =
     (st : StagingData) → kept ≡ Some st → (index : ℕ) (p : PieceData) → piece_at st index ≡ Some p → IsOfStaged roster log staged p
 
 -- what such a staging brings, where its pieces are all of these facts
-pub record IsOfFacts (roster : ℕ) (log facts : List Fact) (staged : List (List Fact)) (st : StagingData) : Type 0 where
+pub record IsOfFacts (roster : ℕ) (log facts : List Fact) (st : StagingData) : Type 0 where
   pub brings : (made : State) → Hydrates st made → BringsStaging roster log (Some st) facts
-  pub whole : IsComplete st → (staged ≡ []) ⊎ IsOfSoundState st
+  pub whole : IsComplete st → IsOfSoundState st
 
 -- ---- pieces of two snapshots that bring the same
 content_too : (d e : SnapshotData) (index : ℕ) (content : PieceContent) → e.pages ≡ d.pages → e.records ≡ d.records → index ≢ 0
@@ -96,14 +96,11 @@ module _ (roster : ℕ) (log : List Fact) (staged : List (List Fact)) (st : Stag
   pub brings_facts : (made : State) → Hydrates st made → BringsStaging roster log (Some st) facts
   brings_facts made hydrates = brings_all hydrates.head.0 hydrates.head.1
 
-  -- the pieces of a staging for some, if all have come, are of one snapshot of a state that means facts of the log
-  of_sound : (found : Option PieceData) → piece_at st 0 ≡ found → 0 < st.total → IsComplete st → IsOfSoundState st
-  of_sound None at some complete = absurd (complete 0 (some, at))
-  of_sound (Some first) at some complete =
+  -- the pieces of a staging, if all have come, are of one snapshot of a state that means facts of the log
+  of_sound : (found : Option PieceData) → piece_at st 0 ≡ found → IsComplete st → IsOfSoundState st
+  of_sound None at complete = absurd (complete 0 (inr refl, at))
+  of_sound (Some first) at complete =
       let b = brings_all first at in (b.0, b.1, b.2, (roster, log, facts, sound, b.3))
 
-  pub whole_or_none : (st.total ≡ 0 → staged ≡ []) → IsComplete st → (staged ≡ []) ⊎ IsOfSoundState st
-  whole_or_none empty complete = ⊎_elim
-      (λ (none : st.total ≡ 0). inl (empty none))
-      (λ (some : 0 < st.total). inr (of_sound (piece_at st 0) refl some complete))
-      (let t : (st.total ≡ 0) ⊎ (0 < st.total) = grind arith in t)
+  pub whole_is_sound : IsComplete st → IsOfSoundState st
+  whole_is_sound complete = of_sound (piece_at st 0) refl complete

@@ -38,7 +38,7 @@ pub record IsNamed (turns : List (ℕ × Turn)) (node : ℕ) (r : ReplicaData) :
   pub snapshot : KeepsNamed turns (frozen_at turns node) r.snapshot
   pub staging : StagesNamed turns (staged_at turns node) r.staging
 
--- each piece that was told is of a snapshot that was made under the piece's name
+-- each piece that was replied is of a snapshot that was made under the piece's name
 abbrev TellNamed : List (ℕ × Turn) → Type 0
 TellNamed turns = (index : ℕ) (p : PieceData) (facts : List Fact) → WasReplied frozen_at turns (request.Piece index) (reply.Piece p) facts
     → IsNameOf turns p.name facts
@@ -102,10 +102,15 @@ module _ (turns : List (ℕ × Turn)) (node : ℕ) (t : Turn) (old new : Replica
       let Goal : List (List Fact) → Type 0 = λ staged. StagesNamed (turns ++ (node, t) ∷ []) staged new.staging in
       ⊎_elim
       (λ (stays : StagingStays old.staging new.staging t.asked t.told).
-      as_before (stays.1 (staged_at turns node) t.brought) (λ st is. had.staging.own st (sym stays.0 ∙ is)))
+      as_before (stays.staged (staged_at turns node) t.brought) (λ st is. had.staging.own st (sym stays.same ∙ is)))
       (λ s. ⊎_elim
       (λ (gone : IsGone new.staging t.asked t.told).
-      as_before (gone.1 (staged_at turns node) t.brought) (λ st is. absurd (let none : new.staging ≡ None = gone.0 in cc)))
+      let empty : Goal [] = record {
+        name = had.staging.name;
+        named = λ facts in_it. absurd (none_in facts in_it);
+        own = λ st is. absurd (let none : new.staging ≡ None = gone.none in cc);
+      } in
+      subst Goal (sym (gone.staged (staged_at turns node) t.brought)) empty)
       (λ u. ⊎_elim
       (λ (begun : IsBegun new.staging t.asked t.told).
       let empty : Goal [] = record {
@@ -130,7 +135,7 @@ own_named turns node t old new told had comes says = record {
       (own_staging turns node t old new told had comes says);
 }
 
--- ---- the other nodes, and what was told
+-- ---- the other nodes, and what was replied
 other_named : (turns : List (ℕ × Turn)) (node other : ℕ) (t : Turn) (r : ReplicaData) → node ≢ other → IsNamed turns other r
     → IsNamed (turns ++ (node, t) ∷ []) other r
 other_named turns node other t r apart had = record {

@@ -33,7 +33,8 @@ use Rattle.gossip_core.specs.declared.answering.Shown.{Shown}
 use Rattle.gossip_core.proofs.AnsweringFacts.{answers_for, tells_answer}
 use Rattle.segment_join.specs.Joining.{AreOfOneLog}
 use Rattle.read_cache.specs.Cached.{Cached}
-use Rattle.snapshot.specs.Stagings.{StagingData, IsStaging}
+use Rattle.hot_log.specs.Found.{IsLeast}
+use Rattle.snapshot.specs.Stagings.{StagingData, IsStaging, IsMissingPiece}
 use Rattle.snapshot.specs.Placing.{IsComplete}
 use Rattle.snapshot.specs.Hydrating.{IsOfSoundState}
 use Rattle.snapshot.specs.declared.finishing.FinishFault.{FinishFault}
@@ -50,8 +51,10 @@ use Rattle.replica.specs.Hydrating.{MakesSegment, Finishes, StandsFor, EndsInUni
 use Rattle.replica.specs.Machine.{IsReply}
 use Rattle.replica.specs.Meaning.{BringsDelta, ReplicaMeans}
 use Rattle.cluster_theorems.specs.Following.{IsRead}
-use Rattle.cluster_theorems.specs.Replying.{ReportsTake, ReportsSummary, ReportsDelta, ReportsAbsorb, EndsStaging, RepliesAs}
+use Rattle.cluster_theorems.specs.Replying.{ReportsTake, ReportsSummary, ReportsDelta, ReportsAbsorb, Lacks, EndsStaging, RepliesAs}
+use Rattle.cluster_theorems.specs.Turns.{Begun}
 use Rattle.cluster_theorems.proofs.Made.{IsOfFacts}
+use Rattle.cluster_theorems.proofs.Staged.{FillsAs, same_lack, complete}
 
 module _ (roster : ℕ) (log facts : List Fact) (s : State) (sound : IsSound roster log) (means : Means roster log facts s) where
   -- ---- take
@@ -141,27 +144,31 @@ made_reply : Reply → Result State FinishFault → Reply
 made_reply done (Ok made) = done
 made_reply done (Err why) = unfinished_reply why
 
-ended : (staged : List (List Fact)) (done : Reply) (st : StagingData) (answer : Result State FinishFault) (told : Reply)
-    → (IsComplete st → (staged ≡ []) ⊎ IsOfSoundState st) → MakesSegment st answer → told ≡ made_reply done answer
-    → (told ≡ reply.Memory) ⊎ EndsStaging staged done told
+-- where nothing is missing the staging lacks nothing, and the least piece that it lacks is the least that is missing
+lacks_none : (begun : Begun) (st : StagingData) → FillsAs (Some begun) (Some st) → IsComplete st → IsLeast (Lacks begun) None
+lacks_none begun st fills whole = λ index lacks. whole index ((same_lack begun st fills index).0 lacks)
+
+lacks_least : (begun : Begun) (st : StagingData) (index : ℕ) → FillsAs (Some begun) (Some st) → IsLeast (IsMissingPiece st) (Some index)
+    → IsLeast (Lacks begun) (Some index)
+lacks_least begun st index fills least =
+    ((same_lack begun st fills index).1 least.0, λ m lacks. least.1 m ((same_lack begun st fills m).0 lacks))
+
+-- where a segment was made nothing is missing
+made_whole : (st : StagingData) (made : State) → MakesSegment st (Ok made) → IsComplete st
+made_whole st made makes = complete st (λ i least. absurd (let e : Ok made ≡ Err (finish.Missing i) = (makes.missing i).1 least in cc))
+
+ended : (begun : Begun) (done : Reply) (st : StagingData) (answer : Result State FinishFault) (told : Reply) → FillsAs (Some begun) (Some st)
+    → (IsComplete st → IsOfSoundState st) → MakesSegment st answer → told ≡ made_reply done answer → EndsStaging (Some begun) done told
 unfolding made_reply
-ended staged done st (Ok made) told whole makes is = inr (inl is)
-ended staged done st (Err (finish.Missing index)) told whole makes is = inr (inr (inr (index, inl is)))
-ended staged done st (Err (finish.Malformed index)) told whole makes is = inr (inr (inr (
-  index,
-  inr (
-    is,
-    ⊎_elim
-        (λ (none : staged ≡ []). none)
-        (λ (of : IsOfSoundState st). absurd (makes.sound of index refl))
-        (whole ((makes.malformed index).0 refl).0),
-  ),
-)))
-ended staged done st (Err finish.Memory) told whole makes is = inl is
+ended begun done st (Ok made) told fills whole makes is = inr (lacks_none begun st fills (made_whole st made makes), inl is)
+ended begun done st (Err (finish.Missing index)) told fills whole makes is = inl (index, lacks_least begun st index fills ((makes.missing index).0 refl), is)
+ended begun done st (Err (finish.Malformed index)) told fills whole makes is =
+    absurd (makes.sound (whole ((makes.malformed index).0 refl).0) index refl)
+ended begun done st (Err finish.Memory) told fills whole makes is = inr (lacks_none begun st fills (makes.memory refl).0, inr is)
 
 -- what is known of a staging, if there is one
-abbrev pub StagingIsOf : ℕ → List Fact → List Fact → List (List Fact) → Option StagingData → Type 0
-StagingIsOf roster log brought staged before = (st : StagingData) → before ≡ Some st → IsStaging st → IsOfFacts roster log brought staged st
+abbrev pub StagingIsOf : ℕ → List Fact → List Fact → Option StagingData → Type 0
+StagingIsOf roster log brought before = (st : StagingData) → before ≡ Some st → IsStaging st → IsOfFacts roster log brought st
 
 finish_is : (old : Cached) (st : StagingData) (answer : Result State FinishFault) (told : Reply) (new : Cached) (after : Option StagingData)
     → StandsFor old st answer told new after → told ≡ made_reply reply.Restored answer
@@ -173,87 +180,96 @@ not_made : (done : Reply) (why : FinishFault) (told : Reply) → told ≡ unfini
 unfolding made_reply
 not_made done why told is = is
 
-finished_told : (roster : ℕ) (log brought : List Fact) (staged : List (List Fact)) (before after : Option StagingData) (old new : Cached) (told : Reply)
-    → StagingIsOf roster log brought staged before → Finishes old before told new after → (told ≡ reply.Memory) ⊎ EndsStaging staged reply.Restored told
-finished_told roster log brought staged None after old new told of says = inr (inr (inl says.0))
-finished_told roster log brought staged (Some st) after old new told of says =
-    ended staged reply.Restored st says.answer told (of st refl says.makes.form).whole says.makes (finish_is old st says.answer told new after says.stands)
+finished_told : (roster : ℕ) (log brought : List Fact) (begun : Option Begun) (before after : Option StagingData) (old new : Cached) (told : Reply)
+    → FillsAs begun before → StagingIsOf roster log brought before → Finishes old before told new after → EndsStaging begun reply.Restored told
+finished_told roster log brought None None after old new told fills of says = says.0
+finished_told roster log brought None (Some st) after old new told fills of says = absurd fills
+finished_told roster log brought (Some begun) None after old new told fills of says = absurd fills
+finished_told roster log brought (Some begun) (Some st) after old new told fills of says =
+    ended begun reply.Restored st says.answer told fills (of st refl says.makes.form).whole says.makes
+    (finish_is old st says.answer told new after says.stands)
 
-module _ (roster : ℕ) (log facts brought : List Fact) (staged : List (List Fact)) (sound : IsSound roster log) where
-  joined_told : (old made : State) (told : Reply) (joined : Result (Unit {0}) Refusal) → Means roster log facts old → Means roster log brought made
-      → IfErr joined (λ e. AreOfOneLog old made → e ≡ refusal.Memory) → told ≡ united_reply joined
-      → (told ≡ reply.Memory) ⊎ EndsStaging staged reply.United told
-  joined_told old made told (Ok done) own its fits is = inr (inl is)
-  joined_told old made told (Err why) own its fits is = inl (is ∙ ap refusal_reply (fits (roster, log, facts, brought, sound, own, its)))
+module _ (roster : ℕ) (log facts brought : List Fact) (sound : IsSound roster log) where
+  joined_told : (begun : Begun) (old made : State) (told : Reply) (joined : Result (Unit {0}) Refusal) → Means roster log facts old
+      → Means roster log brought made → IsLeast (Lacks begun) None → IfErr joined (λ e. AreOfOneLog old made → e ≡ refusal.Memory)
+      → told ≡ united_reply joined → EndsStaging (Some begun) reply.United told
+  joined_told begun old made told (Ok done) own its none fits is = inr (none, inl is)
+  joined_told begun old made told (Err why) own its none fits is =
+      inr (none, inr (is ∙ ap refusal_reply (fits (roster, log, facts, brought, sound, own, its))))
 
-  united_by : (old new : Cached) (st : StagingData) (after : Option StagingData) (told : Reply) (answer : Result State FinishFault)
-      → Means roster log facts old.segment → IsOfFacts roster log brought staged st → MakesSegment st answer → UnitesMade old st answer told new after
-      → (told ≡ reply.Memory) ⊎ EndsStaging staged reply.United told
-  united_by old new st after told (Ok made) own of makes says =
+  united_by : (begun : Begun) (old new : Cached) (st : StagingData) (after : Option StagingData) (told : Reply) (answer : Result State FinishFault)
+      → FillsAs (Some begun) (Some st) → Means roster log facts old.segment → IsOfFacts roster log brought st → MakesSegment st answer
+      → UnitesMade old st answer told new after → EndsStaging (Some begun) reply.United told
+  united_by begun old new st after told (Ok made) fills own of makes says =
       let b = of.brings made makes.hydrates in
-      joined_told old.segment made told says.answer own (makes.means b.0 b.1 b.2 roster log brought sound b.3) says.sound says.is
-  united_by old new st after told (Err why) own of makes says =
-      ended staged reply.United st (Err why) told of.whole makes (not_made reply.United why told says.0)
+      joined_told begun old.segment made told says.answer own (makes.means b.0 b.1 b.2 roster log brought sound b.3)
+      (lacks_none begun st fills (made_whole st made makes)) says.sound says.is
+  united_by begun old new st after told (Err why) fills own of makes says =
+      ended begun reply.United st (Err why) told fills of.whole makes (not_made reply.United why told says.0)
 
-  united_told : (before after : Option StagingData) (old new : Cached) (told : Reply) → Means roster log facts old.segment
-      → StagingIsOf roster log brought staged before → EndsInUnion old before told new after → (told ≡ reply.Memory) ⊎ EndsStaging staged reply.United told
-  united_told None after old new told own of says = inr (inr (inl says.0))
-  united_told (Some st) after old new told own of says = united_by old new st after told says.answer own (of st refl says.makes.form) says.makes says.unites
+  united_told : (begun : Option Begun) (before after : Option StagingData) (old new : Cached) (told : Reply) → FillsAs begun before
+      → Means roster log facts old.segment → StagingIsOf roster log brought before → EndsInUnion old before told new after
+      → EndsStaging begun reply.United told
+  united_told None None after old new told fills own of says = says.0
+  united_told None (Some st) after old new told fills own of says = absurd fills
+  united_told (Some begun) None after old new told fills own of says = absurd fills
+  united_told (Some begun) (Some st) after old new told fills own of says =
+      united_by begun old new st after told says.answer fills own (of st refl says.makes.form) says.makes says.unites
 
 -- what is absorbed has what some facts of the log have beyond the summary, what is taken is of the log, and the pieces of a staging are of
 -- some facts
-abbrev pub BringsSome : ℕ → List Fact → List (List Fact) → Option StagingData → Request → List Fact → Type 0
-BringsSome roster log staged before (request.Take fact) brought = Contains log fact
-BringsSome roster log staged before (request.Absorb summary delta) brought = BringsDelta roster log summary delta brought
-BringsSome roster log staged before request.Finish brought = StagingIsOf roster log brought staged before
-BringsSome roster log staged before request.Unite brought = StagingIsOf roster log brought staged before
-BringsSome roster log staged before asked brought = Unit {0}
+abbrev pub BringsSome : ℕ → List Fact → Option StagingData → Request → List Fact → Type 0
+BringsSome roster log before (request.Take fact) brought = Contains log fact
+BringsSome roster log before (request.Absorb summary delta) brought = BringsDelta roster log summary delta brought
+BringsSome roster log before request.Finish brought = StagingIsOf roster log brought before
+BringsSome roster log before request.Unite brought = StagingIsOf roster log brought before
+BringsSome roster log before asked brought = Unit {0}
 
 within_memory : (most : ℕ) (whole told : Reply) → whole ≡ reply.Memory → told ≡ limited_reply most whole → told ≡ reply.Memory
 within_memory most whole told none is = is ∙ ap (limited_reply most) none
 
-pub replies_as : (roster : ℕ) (log facts brought : List Fact) (staged : List (List Fact)) (old new : ReplicaData) (asked : Request) (told : Reply)
-    → IsSound roster log → ReplicaMeans roster log facts old → BringsSome roster log staged old.staging asked brought → IsReply old asked told new
-    → RepliesAs roster log facts staged asked told
-replies_as roster log facts brought staged old new (request.Open readers) told sound means brings says = tt
-replies_as roster log facts brought staged old new (request.Take fact) told sound means brings says =
+pub replies_as : (roster : ℕ) (log facts brought : List Fact) (begun : Option Begun) (old new : ReplicaData) (asked : Request) (told : Reply)
+    → IsSound roster log → ReplicaMeans roster log facts old → FillsAs begun old.staging → BringsSome roster log old.staging asked brought → IsReply old asked told new
+    → RepliesAs roster log facts begun asked told
+replies_as roster log facts brought begun old new (request.Open readers) told sound means fills brings says = tt
+replies_as roster log facts brought begun old new (request.Take fact) told sound means fills brings says =
     let t = says.0 in took roster log facts old.cached.segment sound means fact told t.answer brings t.tells t.sound t.is
-replies_as roster log facts brought staged old new request.Front told sound means brings says =
+replies_as roster log facts brought begun old new request.Front told sound means fills brings says =
     let t = says.0 in
     record { p = means.0; position = means.1.position; front = t.front; tells = t.facts roster log facts means.0 sound means.1; is = t.is }
-replies_as roster log facts brought staged old new request.Gap told sound means brings says =
+replies_as roster log facts brought begun old new request.Gap told sound means fills brings says =
     let t = says.0 in
     record { p = means.0; position = means.1.position; gap = t.gap; tells = t.facts roster log facts means.0 sound means.1; is = t.is }
-replies_as roster log facts brought staged old new request.State told sound means brings says = tt
-replies_as roster log facts brought staged old new (request.Read page point) told sound means brings says =
+replies_as roster log facts brought begun old new request.State told sound means fills brings says = tt
+replies_as roster log facts brought begun old new (request.Read page point) told sound means fills brings says =
     let t = says.0 in
     record { p = means.0; position = means.1.position; answer = t.answer; tells = t.facts roster log facts means.0 sound means.1; is = t.is }
-replies_as roster log facts brought staged old new request.Ask told sound means brings says = ⊎_elim
+replies_as roster log facts brought begun old new request.Ask told sound means fills brings says = ⊎_elim
     (λ (lacks : told ≡ reply.Memory). inl lacks)
     (λ (sums : (summary : SummaryData) × SumsUp old.cached.segment summary told).
     inr (summed roster log facts old.cached.segment sound means sums.0 told sums.1))
     says.0
-replies_as roster log facts brought staged old new (request.Answer summary) told sound means brings says =
+replies_as roster log facts brought begun old new (request.Answer summary) told sound means fills brings says =
     let t = says.0 in delta_told roster log facts old.cached.segment sound means summary told t.answer t.fills t.sound t.is
-replies_as roster log facts brought staged old new (request.AnswerWithin summary most) told sound means brings says =
+replies_as roster log facts brought begun old new (request.AnswerWithin summary most) told sound means fills brings says =
     let t = says.0 in
     let r = t.replies in ⊎_elim
     (λ (lacks : t.whole ≡ reply.Memory). inl (within_memory most t.whole told lacks t.is))
     (λ (tells : ReportsDelta roster facts summary t.whole). inr (t.whole, tells, t.is))
     (delta_told roster log facts old.cached.segment sound means summary t.whole r.answer r.fills r.sound r.is)
-replies_as roster log facts brought staged old new (request.Absorb summary delta) told sound means brings says =
+replies_as roster log facts brought begun old new (request.Absorb summary delta) told sound means fills brings says =
     let t = says.0 in
     absorbed roster log facts old.cached.segment sound means summary delta told t.answer brought brings t.answers t.refused t.sound t.is
-replies_as roster log facts brought staged old new (request.Fold page) told sound means brings says =
+replies_as roster log facts brought begun old new (request.Fold page) told sound means fills brings says =
     let t = says.0 in folded roster log facts old.cached.segment sound means old.cached new.cached told t.plan refl t.sound t.commits
-replies_as roster log facts brought staged old new request.Discard told sound means brings says = says.0.is
-replies_as roster log facts brought staged old new request.Tidy told sound means brings says =
+replies_as roster log facts brought begun old new request.Discard told sound means fills brings says = says.0.is
+replies_as roster log facts brought begun old new request.Tidy told sound means fills brings says =
     let t = says.0 in tidied roster log facts old.cached.segment sound means told t.answer t.sound t.is
-replies_as roster log facts brought staged old new request.Finish told sound means brings says =
-    finished_told roster log brought staged old.staging new.staging old.cached new.cached told brings says.0
-replies_as roster log facts brought staged old new request.Unite told sound means brings says =
-    united_told roster log facts brought staged sound old.staging new.staging old.cached new.cached told means brings says.0
-replies_as roster log facts brought staged old new asked told sound means brings says = tt
+replies_as roster log facts brought begun old new request.Finish told sound means fills brings says =
+    finished_told roster log brought begun old.staging new.staging old.cached new.cached told fills brings says.0
+replies_as roster log facts brought begun old new request.Unite told sound means fills brings says =
+    united_told roster log facts brought sound begun old.staging new.staging old.cached new.cached told fills means brings says.0
+replies_as roster log facts brought begun old new asked told sound means fills brings says = tt
 
 -- ---- one reply
 fronts_alike : (p q : Position) (f g : Front) → p ≡ q → IsFrontAt p f → IsFrontAt q g → f ≡ g
@@ -280,13 +296,13 @@ one_read facts others same p page q (Err (fault.Above m)) (Err fault.Memory) h k
 one_read facts others same p page q (Err (fault.BrokenBlockChain g n)) b h k x y = absurd h
 one_read facts others same p page q (Err fault.Memory) b h k x y = absurd (x refl)
 
-pub one_reply : (roster : ℕ) (log facts others : List Fact) (staged pieces : List (List Fact)) (asked : Request) (told other : Reply) → SameSet facts others → IsRead asked
-    → RepliesAs roster log facts staged asked told → RepliesAs roster log others pieces asked other → (told ≡ reply.Memory → ⊥) → (other ≡ reply.Memory → ⊥) → told ≡ other
-one_reply roster log facts others staged pieces request.Front told other same reads h k x y =
+pub one_reply : (roster : ℕ) (log facts others : List Fact) (begun filled : Option Begun) (asked : Request) (told other : Reply) → SameSet facts others → IsRead asked
+    → RepliesAs roster log facts begun asked told → RepliesAs roster log others filled asked other → (told ≡ reply.Memory → ⊥) → (other ≡ reply.Memory → ⊥) → told ≡ other
+one_reply roster log facts others begun filled request.Front told other same reads h k x y =
     let one : h.p ≡ k.p = front_unique facts others same h.p k.p h.position k.position in
     h.is ∙ ap (λ f. reply.Front f) (fronts_alike h.p k.p h.front k.front one h.tells k.tells) ∙ sym k.is
-one_reply roster log facts others staged pieces (request.Read page point) told other same reads h k x y =
+one_reply roster log facts others begun filled (request.Read page point) told other same reads h k x y =
     let one : h.p ≡ k.p = front_unique facts others same h.p k.p h.position k.position in
     h.is ∙ one_read facts others same k.p page point h.answer k.answer (subst (λ p. IsReadResult facts p page point h.answer) one h.tells) k.tells
     (λ e. x (h.is ∙ e)) (λ e. y (k.is ∙ e)) ∙ sym k.is
-one_reply roster log facts others staged pieces asked told other same reads h k x y = absurd reads
+one_reply roster log facts others begun filled asked told other same reads h k x y = absurd reads

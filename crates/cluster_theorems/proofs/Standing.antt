@@ -1,4 +1,4 @@
--- How all nodes stand after some turns of a run, and after one more.
+-- What holds of all nodes after some turns of a run, and after one more.
 use Rattle.std.proofs.Common.{◌≡◌, ◌≢◌, ℕ, inl, inr, ⊎_elim, ltb, Bool, true, false, cond, List, [], ◌∷◌, ◌++◌, refl, sym, ◌∙◌, subst, Option, Some, None, Result, Ok, Err, IfOk, rules}
 use Rattle.redo_core.specs.Sound.{IsSound}
 use Rattle.redo_core.specs.declared.facts.Fact.{Fact}
@@ -27,21 +27,21 @@ use Rattle.replica.specs.Hydrating.{Pieces, MakesSegment, Finishes, StandsFor, E
 use Rattle.replica.specs.Machine.{IsReply}
 use Rattle.replica.specs.Meaning.{Turn, facts_after, BringsDelta, BringsStaging, ReplicaMeans}
 use Rattle.replica.proofs.Means.{step_means, united_made}
-use Rattle.cluster_theorems.specs.Turns.{facts_at, frozen_at, staged_at, WasReplied}
+use Rattle.cluster_theorems.specs.Turns.{facts_at, frozen_at, staged_at, begun_at, WasReplied}
 use Rattle.cluster_theorems.specs.Carrying.{IsCarried, WasAnswered, StagesFacts}
 use Rattle.cluster_theorems.specs.Following.{AreTurnsOf}
-use Rattle.cluster_theorems.proofs.Turned.{own_facts, other_facts, own_frozen, other_frozen, own_staged, other_staged, replied_last, none_there}
-use Rattle.cluster_theorems.proofs.Made.{IsTold, KeepsMade, KeepsStaged, IsOfFacts, brings_facts, whole_or_none}
+use Rattle.cluster_theorems.proofs.Turned.{own_facts, other_facts, own_frozen, other_frozen, own_staged, other_staged, own_begun, other_begun, replied_last, none_there}
+use Rattle.cluster_theorems.proofs.Made.{IsTold, KeepsMade, KeepsStaged, IsOfFacts, brings_facts, whole_is_sound}
 use Rattle.cluster_theorems.proofs.Reached.{IsKept, Hold}
-use Rattle.cluster_theorems.proofs.Staged.{AddsTold, IsFilled, snapshot_made, staging_kept, still_filled}
+use Rattle.cluster_theorems.proofs.Staged.{AddsTold, FillsAs, snapshot_made, staging_kept, still_filled}
 
--- a node's replica means the facts that have reached it, its snapshot is of those that had when it was made, and its staging has pieces of
--- those that these brought
+-- a node's replica means the facts that have reached it, its snapshot is of those that had when it was made, and its staging has the pieces
+-- that it has taken, of the facts that these brought
 pub record Stands (roster : ℕ) (log : List Fact) (turns : List (ℕ × Turn)) (node : ℕ) (r : ReplicaData) : Type 0 where
   pub means : ReplicaMeans roster log (facts_at turns node) r
   pub snapshot : KeepsMade roster log (frozen_at turns node) r.snapshot
   pub staging : KeepsStaged roster log (staged_at turns node) r.staging
-  pub filled : IsFilled (staged_at turns node) r.staging
+  pub filled : FillsAs (begun_at turns node) r.staging
 
 -- each delta has what the facts of the node that replied it have beyond the summary, and each piece is of a snapshot of the facts that its
 -- node had when it made that
@@ -51,7 +51,7 @@ pub record HaveTold (roster : ℕ) (log : List Fact) (turns : List (ℕ × Turn)
   pub pieces : (index : ℕ) (p : PieceData) (facts : List Fact) → WasReplied frozen_at turns (request.Piece index) (reply.Piece p) facts
       → IsTold roster log facts p
 
--- ---- what is told
+-- ---- what is replied
 not_delta : (delta : DeltaData) (why : ReadFault) → reply.Delta delta ≡ fault_reply why → ⊥
 not_delta delta why e = search rules
 
@@ -67,7 +67,7 @@ within_delta : (most : ℕ) (whole : Reply) (delta : DeltaData) → reply.Delta 
 within_delta most (reply.Delta d) delta e = by_test (ltb most (delta_len d)) d delta e
 within_delta most whole delta e = sym e
 
--- a piece that is told is of the snapshot that is kept
+-- a piece that is replied is of the snapshot that is kept
 pub piece_told : (kept : Option SnapshotData) (index : ℕ) (p : PieceData) → Pieces kept index (reply.Piece p)
     → (d : SnapshotData) × (kept ≡ Some d) × IsPieceOf d p
 piece_told kept index p says = search rules
@@ -156,10 +156,10 @@ module _ (roster : ℕ) (log : List Fact) (sound : IsSound roster log) where
 
   -- what is known of the staging of a node, where all its pieces are of some facts
   pub of_facts : (turns : List (ℕ × Turn)) (node : ℕ) (brought : List Fact) (r : ReplicaData) → Stands roster log turns node r
-      → StagesFacts turns node brought → (st : StagingData) → r.staging ≡ Some st → IsStaging st → IsOfFacts roster log brought (staged_at turns node) st
+      → StagesFacts turns node brought → (st : StagingData) → r.staging ≡ Some st → IsStaging st → IsOfFacts roster log brought st
   of_facts turns node brought r stands same st is form = record {
     brings = brings_facts roster log (staged_at turns node) st brought sound form (stands.staging st is) same;
-    whole = whole_or_none roster log (staged_at turns node) st brought sound form (stands.staging st is) same (stands.filled st is);
+    whole = whole_is_sound roster log (staged_at turns node) st brought sound form (stands.staging st is) same;
   }
 
   not_united : (facts brought : List Fact) (s : State) (why : FinishFault) → Means roster log facts s
@@ -223,14 +223,14 @@ module _ (roster : ℕ) (log : List Fact) (sound : IsSound roster log) where
         (snapshot_made roster log (facts_at turns node) (frozen_at turns node) t.asked t.told old new stands.means stands.snapshot says);
     staging = subst (λ staged. KeepsStaged roster log staged new.staging) (sym (own_staged turns node t))
         (staging_kept roster log t.brought (staged_at turns node) t.asked t.told old new (adds_told turns node t.asked t.brought have carried) stands.staging says);
-    filled = subst (λ staged. IsFilled staged new.staging) (sym (own_staged turns node t))
-        (still_filled (staged_at turns node) t.brought t.asked t.told old new stands.filled says);
+    filled = subst (λ begun. FillsAs begun new.staging) (sym (own_begun turns node t))
+        (still_filled (begun_at turns node) t.asked t.told old new stands.filled says);
   }
 
   -- ---- the other nodes
   other_stands : (turns : List (ℕ × Turn)) (node other : ℕ) (t : Turn) (r : ReplicaData) → node ≢ other → Stands roster log turns other r
       → Stands roster log (turns ++ (node, t) ∷ []) other r
-  other_stands turns node other t r apart stands = search (rules, other_facts, other_frozen, other_staged)
+  other_stands turns node other t r apart stands = search (rules, other_facts, other_frozen, other_staged, other_begun)
 
   -- ---- all
   abbrev pub Comes : List (ℕ × Turn) → ℕ → Turn → Type 0
@@ -254,6 +254,6 @@ module _ (roster : ℕ) (log : List Fact) (sound : IsSound roster log) where
         means = empty_means roster log;
         snapshot = λ d is. absurd (cc);
         staging = λ st is. absurd (cc);
-        filled = λ st is. absurd (cc);
+        filled = tt;
       } in
       (told, λ node. (empty_replica roster (pages node), runs node, stands node))

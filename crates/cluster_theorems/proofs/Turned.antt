@@ -1,12 +1,12 @@
 -- Lists of turns, with one turn more.
-use Rattle.std.proofs.Common.{◌≡◌, ◌≢◌, ℕ, ◌⊎◌, inl, inr, List, [], ◌∷◌, ◌++◌, refl, ap, ◌∙◌, arith, Bool, true, false, rules}
+use Rattle.std.proofs.Common.{◌≡◌, ◌≢◌, ℕ, ◌⊎◌, inl, inr, List, [], ◌∷◌, ◌++◌, refl, ap, ◌∙◌, arith, Bool, true, false, Option, None, rules}
 use Rattle.std.specs.Prelude.{◌==◌, if◌then◌else◌}
 use Rattle.std.proofs.lemmas.Bool.Decides.{nat_tests}
 use Rattle.redo_core.specs.declared.facts.Fact.{Fact}
 use Rattle.replica.specs.declared.requests.Request.{Request}
 use Rattle.replica.specs.declared.replies.Reply.{Reply}
 use Rattle.replica.specs.Meaning.{Turn, facts_after, facts_after_all}
-use Rattle.cluster_theorems.specs.Turns.{turns_of, facts_at, frozen_after, frozen_after_all, frozen_at, staged_after, staged_after_all, staged_at, WasReplied}
+use Rattle.cluster_theorems.specs.Turns.{turns_of, facts_at, frozen_after, frozen_after_all, frozen_at, staged_after, staged_after_all, staged_at, Begun, begun_after, begun_after_all, begun_at, WasReplied}
 
 -- ---- one node's turns
 one_more : (b : Bool) (t : Turn) (all own rest : List Turn) → all ≡ own ++ rest
@@ -73,8 +73,19 @@ own_staged turns node t = ap (staged_after_all []) (own_last turns node t) ∙ s
 pub other_staged : (turns : List (ℕ × Turn)) (node other : ℕ) (t : Turn) → node ≢ other → staged_at (turns ++ (node, t) ∷ []) other ≡ staged_at turns other
 other_staged turns node other t apart = ap (staged_after_all []) (other_last turns node other t apart)
 
+begun_more : (begun : Option Begun) (turns more : List Turn) → begun_after_all begun (turns ++ more) ≡ begun_after_all (begun_after_all begun turns) more
+begun_more begun [] more = refl
+begun_more begun (t ∷ turns) more = begun_more (begun_after begun t.asked t.told) turns more
+
+pub own_begun : (turns : List (ℕ × Turn)) (node : ℕ) (t : Turn)
+    → begun_at (turns ++ (node, t) ∷ []) node ≡ begun_after (begun_at turns node) t.asked t.told
+own_begun turns node t = ap (begun_after_all None) (own_last turns node t) ∙ begun_more None (turns_of node turns) (t ∷ [])
+
+pub other_begun : (turns : List (ℕ × Turn)) (node other : ℕ) (t : Turn) → node ≢ other → begun_at (turns ++ (node, t) ∷ []) other ≡ begun_at turns other
+other_begun turns node other t apart = ap (begun_after_all None) (other_last turns node other t apart)
+
 -- ---- what was replied
--- what stands in a list with one item more stands before that, or is it
+-- an item of a list with one more is an item of the list, or the new one
 pub none_there : {X : Type 0} (before : List X) (y : X) (after : List X) → [] ≡ before ++ y ∷ after → ⊥
 none_there [] y after e = absurd (cc)
 none_there (z ∷ before) y after e = absurd (cc)

@@ -12,7 +12,7 @@ use Rattle.replica.specs.declared.replies.Reply.TheVariants as reply
 use Rattle.replica.specs.Meaning.{Turn}
 use Rattle.cluster_theorems.specs.Turns.{facts_at, frozen_at, staged_at, WasReplied}
 
--- a node told the piece, and these facts had reached it when it made the piece's snapshot
+-- a node replied the piece, and these facts had reached it when it made the piece's snapshot
 abbrev pub WasTold : List (ℕ × Turn) → PieceData → List Fact → Type 0
 WasTold turns piece facts = (index : ℕ) × WasReplied frozen_at turns (request.Piece index) (reply.Piece piece) facts
 
@@ -27,7 +27,7 @@ abbrev pub StagesFacts : List (ℕ × Turn) → ℕ → List Fact → Type 0
 StagesFacts turns node brought = (facts : List Fact) → Contains (staged_at turns node) facts → SameSet facts brought
 
 -- After these turns a request may come to a node and bring it these facts. A fact is of the log. A delta was replied to the summary, and
--- brings the facts of the node that replied it; a piece was told, and brings those of its snapshot. A staging brings what each piece does
+-- brings the facts of the node that replied it; a piece was replied too, and brings those of its snapshot. A staging brings what each piece does
 -- that it has taken: they are all of the same facts.
 abbrev pub IsCarried : ℕ → List Fact → List (ℕ × Turn) → ℕ → Request → List Fact → Type 0
 IsCarried roster log turns node (request.Open readers) brought = readers ≡ roster

@@ -10,7 +10,7 @@ use Rattle.replica.specs.declared.replies.Reply.TheVariants as reply
 use Rattle.replica.specs.Parts.{ReplicaData, empty_replica}
 use Rattle.replica.specs.Machine.{IsReply}
 use Rattle.replica.specs.Meaning.{Turn, Runs, ReplicaMeans}
-use Rattle.cluster_theorems.specs.Turns.{turns_of, facts_at, staged_at}
+use Rattle.cluster_theorems.specs.Turns.{turns_of, facts_at, begun_at}
 use Rattle.cluster_theorems.specs.Carrying.{AreCarried}
 use Rattle.cluster_theorems.specs.Replying.{RepliesAs}
 
@@ -30,7 +30,7 @@ pub record FollowsFacts (roster : ℕ) (log : List Fact) (turns : List (ℕ × T
   pub means : (node : ℕ) → ReplicaMeans roster log (facts_at turns node) (nodes node)
   pub answers : (node : ℕ) → AnswersAs roster log (facts_at turns node) (nodes node).cached.segment
   pub replies : (before after : List (ℕ × Turn)) (node : ℕ) (t : Turn) → turns ≡ before ++ (node, t) ∷ after
-      → RepliesAs roster log (facts_at before node) (staged_at before node) t.asked t.told
+      → RepliesAs roster log (facts_at before node) (begun_at before node) t.asked t.told
 
 -- Over a sound log any number of nodes follow the facts, whatever turns they have, where each is carried by those before it. The first
 -- turns of such a run are one too, so it is so at each moment.
@@ -45,8 +45,8 @@ IsRead request.Front = Unit {0}
 IsRead (request.Read page point) = Unit {0}
 IsRead asked = ⊥
 
--- Two nodes that the same facts have reached, each at its own moment of a run, reply the same to a front and to a read, unless memory is
--- wanting.
+-- Two nodes that the same facts have reached, each at its own moment of a run, reply the same to a front and to a read, unless memory runs
+-- out.
 abbrev pub SameReplies : Type 0
 SameReplies =
     (roster : ℕ) (log : List Fact) (pages : ℕ → ℕ) (turns : List (ℕ × Turn)) (nodes : ℕ → ReplicaData)

@@ -1,4 +1,4 @@
--- Names by which a staging tells the pieces of snapshots apart.
+-- Names by which a staging distinguishes the pieces of snapshots.
 use Rattle.std.specs.Prelude.{◌≡◌, ℕ, List, ◌∷◌, ◌++◌}
 use Rattle.std.specs.List.{Contains}
 use Rattle.redo_core.specs.Sets.{SameSet}
@@ -20,7 +20,7 @@ IsNameOf turns name facts = (pieces : ℕ) × WasReplied facts_at turns (request
 abbrev pub NamesDiffer : List (ℕ × Turn) → Type 0
 NamesDiffer turns = (name : ℕ) (facts others : List Fact) → IsNameOf turns name facts → IsNameOf turns name others → SameSet facts others
 
--- a piece that comes was told
+-- a piece that comes was replied
 abbrev pub ComesTold : List (ℕ × Turn) → Request → List Fact → Type 0
 ComesTold turns (request.Add piece) brought = WasTold turns piece brought
 ComesTold turns asked brought = Unit {0}
@@ -29,7 +29,7 @@ abbrev pub PiecesComeTold : List (ℕ × Turn) → Type 0
 PiecesComeTold turns =
     (before after : List (ℕ × Turn)) (node : ℕ) (t : Turn) → turns ≡ before ++ (node, t) ∷ after → ComesTold before t.asked t.brought
 
--- Where pieces are told before they are added, and names differ, all pieces that a staging has taken are of the same facts, at each moment.
+-- Where pieces are replied before they are added, and names differ, all pieces that a staging has taken are of the same facts, at each moment.
 abbrev pub NamesSuffice : Type 0
 NamesSuffice =
     (roster : ℕ) (pages : ℕ → ℕ) (turns : List (ℕ × Turn)) (nodes : ℕ → ReplicaData)

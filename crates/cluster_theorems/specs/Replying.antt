@@ -1,8 +1,10 @@
 -- What a node replies that certain facts have reached: it is read off those facts and the log.
-use Rattle.std.specs.Prelude.{◌≡◌, ℕ, ◌⊎◌, ◌↔◌, List, [], ◌∷◌, ◌++◌, Option, Result}
+use Rattle.std.specs.Prelude.{◌≡◌, ℕ, ◌<◌, ◌⊎◌, ◌↔◌, List, [], ◌∷◌, ◌++◌, Option, Some, None, Result}
+use Rattle.std.specs.List.{Contains}
 use Rattle.redo_core.specs.Meaning.{Meaning, IsMeaning}
 use Rattle.redo_core.specs.Position.{Position, IsPosition}
 use Rattle.redo_core.specs.declared.facts.Fact.{Fact}
+use Rattle.hot_log.specs.Found.{IsLeast}
 use Rattle.messages.specs.Deltas.{DeltaData}
 use Rattle.messages.specs.Summaries.{SummaryData}
 use Rattle.segment_theorems.specs.Gossip.{AnswersFor, Fills}
@@ -21,6 +23,7 @@ use Rattle.replica.specs.declared.replies.Reply.{Reply}
 use Rattle.replica.specs.declared.replies.Reply.TheVariants as reply
 use Rattle.replica.specs.Gossiping.{limited_reply}
 use Rattle.replica.specs.Replying.{gap_reply, read_reply}
+use Rattle.cluster_theorems.specs.Turns.{Begun}
 
 -- whether a fact changed what the facts mean
 abbrev pub ReportsTake : ℕ → List Fact → Fact → Reply → Type 0
@@ -74,26 +77,32 @@ ReportsAbsorb roster facts summary told =
     × (((told ≡ reply.Absorbed) × AnswersFor facts p (listing_of summary))
     ⊎ ((shown : Shown) × (told ≡ reply.Uncovered shown) × (AnswersFor facts p (listing_of summary) → ⊥)))
 
--- The end of a staging: there is none, a piece has not come, or the segment is there. Pieces that came are never malformed: that is a
--- staging to which none has come, which was begun for none.
-abbrev pub EndsStaging : List (List Fact) → Reply → Reply → Type 0
-EndsStaging staged done told =
-    (told ≡ done) ⊎ ((told ≡ reply.NoStaging) ⊎ ((index : ℕ) × ((told ≡ reply.Missing index) ⊎ ((told ≡ reply.Malformed index) × (staged ≡ [])))))
+-- the staging lacks the piece of the index; one for no pieces lacks the head
+abbrev pub Lacks : Begun → ℕ → Type 0
+Lacks begun index = ((index < begun.total) ⊎ (index ≡ 0)) × (Contains begun.taken index → ⊥)
 
--- What is replied by a node that these facts of the log have reached, and whose staging has taken pieces that brought such facts. Memory
--- may be wanting. Else no fact, no delta and no staged segment is refused, and no block chain is broken.
-abbrev pub RepliesAs : ℕ → List Fact → List Fact → List (List Fact) → Request → Reply → Type 0
-RepliesAs roster log facts staged (request.Take fact) told = (told ≡ reply.Memory) ⊎ ReportsTake roster facts fact told
-RepliesAs roster log facts staged request.Front told = ReportsFront roster facts told
-RepliesAs roster log facts staged request.Gap told = ReportsGapOf roster log facts told
-RepliesAs roster log facts staged (request.Read page point) told = ReportsPage roster facts page point told
-RepliesAs roster log facts staged request.Ask told = (told ≡ reply.Memory) ⊎ ReportsSummary roster facts told
-RepliesAs roster log facts staged (request.Answer summary) told = (told ≡ reply.Memory) ⊎ ReportsDelta roster facts summary told
-RepliesAs roster log facts staged (request.AnswerWithin summary most) told = (told ≡ reply.Memory) ⊎ ReportsWithin roster facts summary most told
-RepliesAs roster log facts staged (request.Absorb summary delta) told = (told ≡ reply.Memory) ⊎ ReportsAbsorb roster facts summary told
-RepliesAs roster log facts staged (request.Fold page) told = (told ≡ reply.Memory) ⊎ (told ≡ reply.Folded)
-RepliesAs roster log facts staged request.Discard told = told ≡ reply.Discarded
-RepliesAs roster log facts staged request.Tidy told = (told ≡ reply.Memory) ⊎ (told ≡ reply.Tidied)
-RepliesAs roster log facts staged request.Finish told = (told ≡ reply.Memory) ⊎ EndsStaging staged reply.Restored told
-RepliesAs roster log facts staged request.Unite told = (told ≡ reply.Memory) ⊎ EndsStaging staged reply.United told
-RepliesAs roster log facts staged asked told = Unit {0}
+-- The end of a staging: `NoStaging` where there is none; `Missing` with the least index of a piece that it lacks; and where it lacks none, the
+-- segment is there, unless memory runs out. Pieces that came are never malformed.
+abbrev pub EndsStaging : Option Begun → Reply → Reply → Type 0
+EndsStaging None done told = told ≡ reply.NoStaging
+EndsStaging (Some begun) done told =
+    ((index : ℕ) × IsLeast (Lacks begun) (Some index) × (told ≡ reply.Missing index))
+    ⊎ (IsLeast (Lacks begun) None × ((told ≡ done) ⊎ (told ≡ reply.Memory)))
+
+-- What a node replies that these facts of the log have reached, and whose staging, if there is one, has taken these pieces. Memory may run
+-- out. Otherwise no fact, no delta and no staged segment is refused, and no block chain is broken.
+abbrev pub RepliesAs : ℕ → List Fact → List Fact → Option Begun → Request → Reply → Type 0
+RepliesAs roster log facts begun (request.Take fact) told = (told ≡ reply.Memory) ⊎ ReportsTake roster facts fact told
+RepliesAs roster log facts begun request.Front told = ReportsFront roster facts told
+RepliesAs roster log facts begun request.Gap told = ReportsGapOf roster log facts told
+RepliesAs roster log facts begun (request.Read page point) told = ReportsPage roster facts page point told
+RepliesAs roster log facts begun request.Ask told = (told ≡ reply.Memory) ⊎ ReportsSummary roster facts told
+RepliesAs roster log facts begun (request.Answer summary) told = (told ≡ reply.Memory) ⊎ ReportsDelta roster facts summary told
+RepliesAs roster log facts begun (request.AnswerWithin summary most) told = (told ≡ reply.Memory) ⊎ ReportsWithin roster facts summary most told
+RepliesAs roster log facts begun (request.Absorb summary delta) told = (told ≡ reply.Memory) ⊎ ReportsAbsorb roster facts summary told
+RepliesAs roster log facts begun (request.Fold page) told = (told ≡ reply.Memory) ⊎ (told ≡ reply.Folded)
+RepliesAs roster log facts begun request.Discard told = told ≡ reply.Discarded
+RepliesAs roster log facts begun request.Tidy told = (told ≡ reply.Memory) ⊎ (told ≡ reply.Tidied)
+RepliesAs roster log facts begun request.Finish told = EndsStaging begun reply.Restored told
+RepliesAs roster log facts begun request.Unite told = EndsStaging begun reply.United told
+RepliesAs roster log facts begun asked told = Unit {0}

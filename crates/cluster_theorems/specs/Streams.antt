@@ -1,4 +1,4 @@
--- A cluster whose nodes are behind streams.
+-- A cluster whose nodes answer streams.
 use Rattle.std.specs.Prelude.{ℕ, List, Bool, true, false}
 use Rattle.redo_core.specs.Sound.{IsSound}
 use Rattle.redo_core.specs.declared.facts.Fact.{Fact}
@@ -22,7 +22,7 @@ abbrev pub AnswersStream : Bool → ℕ → ReplicaData → List (List ℕ) → 
 AnswersStream true limit old frames texts new = AnswersFrames IsFrameAnswer limit old frames texts new
 AnswersStream false limit old lines texts new = AnswersLines IsAnswer limit old lines texts new
 
--- Each node's lines or frames make turns, whose replies its texts tell. However these are interleaved, where each is carried by those
+-- Each node's lines or frames make turns, whose replies are its texts. However these are interleaved, where each is carried by those
 -- before it the nodes follow the facts.
 abbrev pub StreamsFollow : Type 0
 StreamsFollow =

@@ -1,5 +1,5 @@
 -- The turns of the nodes of a cluster, in the order of time: what they bring to each node, and what was replied in them.
-use Rattle.std.specs.Prelude.{◌≡◌, ◌==◌, ℕ, List, [], ◌∷◌, ◌++◌, if◌then◌else◌}
+use Rattle.std.specs.Prelude.{◌≡◌, ◌==◌, ℕ, List, [], ◌∷◌, ◌++◌, Option, Some, None, option_map, if◌then◌else◌}
 use Rattle.std.specs.List.{AllZip}
 use Rattle.redo_core.specs.declared.facts.Fact.{Fact}
 use Rattle.replica.specs.declared.requests.Request.{Request}
@@ -39,10 +39,12 @@ frozen_after_all facts frozen (t ∷ turns) =
 abbrev pub frozen_at : List (ℕ × Turn) → ℕ → List Fact
 frozen_at turns node = frozen_after_all [] [] (turns_of node turns)
 
--- the facts that each piece brought which its staging has taken
+-- the facts that each piece brought which its staging has taken; none where the staging is gone
 abbrev pub staged_after : List (List Fact) → List Fact → Request → Reply → List (List Fact)
 staged_after staged brought (request.Stage name total) told = []
 staged_after staged brought (request.Add piece) reply.Added = brought ∷ staged
+staged_after staged brought request.Finish reply.Restored = []
+staged_after staged brought request.Unite reply.United = []
 staged_after staged brought asked told = staged
 
 abbrev pub staged_after_all : List (List Fact) → List Turn → List (List Fact)
@@ -51,6 +53,29 @@ staged_after_all staged (t ∷ turns) = staged_after_all (staged_after staged t.
 
 abbrev pub staged_at : List (ℕ × Turn) → ℕ → List (List Fact)
 staged_at turns node = staged_after_all [] (turns_of node turns)
+
+-- its staging: the total that this was begun for, and the indices of the pieces that it has taken
+pub record Begun : Type 0 where
+  pub total : ℕ
+  pub taken : List ℕ
+
+abbrev pub with_piece : ℕ → Begun → Begun
+with_piece index begun = record { total = begun.total; taken = index ∷ begun.taken }
+
+-- one is begun, a piece is added, or it is gone
+abbrev pub begun_after : Option Begun → Request → Reply → Option Begun
+begun_after begun (request.Stage name total) told = Some (record { total = total; taken = [] })
+begun_after begun (request.Add piece) reply.Added = option_map (with_piece piece.index) begun
+begun_after begun request.Finish reply.Restored = None
+begun_after begun request.Unite reply.United = None
+begun_after begun asked told = begun
+
+abbrev pub begun_after_all : Option Begun → List Turn → Option Begun
+begun_after_all begun [] = begun
+begun_after_all begun (t ∷ turns) = begun_after_all (begun_after begun t.asked t.told) turns
+
+abbrev pub begun_at : List (ℕ × Turn) → ℕ → Option Begun
+begun_at turns node = begun_after_all None (turns_of node turns)
 
 -- ---- what was replied
 -- in one of the turns a node was asked this, and replied that; and these are the facts that it `had` by then
