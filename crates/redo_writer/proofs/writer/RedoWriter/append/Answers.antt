@@ -1,0 +1,34 @@
+use Rattle.std.proofs.Common.{◌≡◌, ◌++◌, ◌∷◌, [], sym, ◌∙◌, ap, arith, subst}
+use Rattle.std.specs.Prelude.{slice_index}
+use Rattle.redo_core.specs.Data.{RecordData, record_with}
+use Rattle.redo_core.specs.Shape.{record_fault}
+use Rattle.redo_core.specs.declared.facts.Fact.TheVariants.{Record}
+use Rattle.redo_writer.specs.declared.parts.AliveRecord.{AliveRecord}
+use Rattle.redo_writer.specs.Tracks.{PutsTop, newest_number}
+use Rattle.redo_writer.specs.State.{WriterState, state_with}
+use Rattle.redo_writer.specs.Continues.{Continues}
+use Rattle.redo_writer.proofs.Continuing.{continues_record}
+use Rattle.redo_writer.proofs.writer.RedoWriter.append.Goals as goal
+
+pub returns-in-Ok-clause-continues : goal.returns-in-Ok-clause-continues
+returns-in-Ok-clause-continues c log g =
+    let i = c.self.inside in
+    let w : WriterState = state_with i.epoch i.last i.points i.page_tops.items i.settled i.alive.items in
+    let x : AliveRecord = record { number = c.args.number; page = c.args.page; block_back = c.top_of-block_back.result } in
+    let is : c.in-Ok.redo ≡ record_with i.epoch c.args.number c.number_on_top-back.result c.args.page c.top_of-block_back.result c.args.init c.args.patches.items =
+    c.in-Ok.ensures.ok.0 in
+    let number : c.in-Ok.redo.number ≡ c.args.number = ap (λ (r : RecordData). r.number) is in
+    let page : c.in-Ok.redo.page ≡ c.args.page = ap (λ (r : RecordData). r.page) is in
+    let tops : c.reserve_top.new.page_tops.items ≡ c.self.inside.page_tops.items = c.reserve_top.ensures.items in
+    let new : Continues (state_with i.epoch c.in-Ok.redo.number i.points c.keep_newest.new.page_tops.items i.settled (x ∷ i.alive.items)) (log ++ Record c.in-Ok.redo ∷ []) =
+    continues_record w log c.in-Ok.redo x c.keep_newest.new.page_tops.items (subst (λ v. Continues v log) (sym c.self.view_is) g)
+    (ap record_fault is ∙ c.in-Ok.ensures.ok.1) (ap (λ (r : RecordData). r.epoch) is) (omega arith)
+    (ap (λ (r : RecordData). r.back) is ∙ c.number_on_top-back.ensures ∙ ap (newest_number i.settled) c.reserve.ensures.items)
+    (ap (λ (r : RecordData). r.block_back) is ∙ c.top_of-block_back.ensures ∙ ap (λ xs. slice_index xs c.args.page) (c.deref.ensures.value ∙ tops)
+    ∙ ap (slice_index i.page_tops.items) (sym page))
+    (record { number = sym number; page = sym page; block_back = sym (ap (λ (r : RecordData). r.block_back) is) })
+    (subst (λ xs. PutsTop c.args.page c.args.number xs c.keep_newest.new.page_tops.items) tops c.keep_newest.ensures.tops) in
+    subst (λ ys. Continues (state_with i.epoch c.args.number i.points c.keep_newest.new.page_tops.items i.settled ys) (log ++ Record c.in-Ok.redo ∷ []))
+    (sym (c.keep_newest.ensures.alive ∙ ap (λ ys. x ∷ ys) c.reserve.ensures.items))
+    (subst (λ n. Continues (state_with i.epoch n i.points c.keep_newest.new.page_tops.items i.settled (x ∷ i.alive.items)) (log ++ Record c.in-Ok.redo ∷ []))
+    number new)

@@ -1,0 +1,4 @@
+pub mod Tracks
+pub mod State
+pub mod Continues
+pub mod Refusals
