@@ -1,12 +1,17 @@
 -- A writer that continues a log continues the longer log.
-use Rattle.std.proofs.Common.{◌≡◌, ◌≢◌, ℕ, ◌+◌, ◌-◌, max, replicate, ◌<◌, ◌≤◌, ◌⊎◌, inl, inr, ⊎_elim, List, [], ◌∷◌, ◌++◌, length, refl, sym, ap, ◌∙◌, subst, arith, Option, Some, None, cond}
+use Rattle.std.proofs.Common.{◌≡◌, ◌≢◌, ℕ, ◌+◌, ◌-◌, max, replicate, ◌<◌, ◌≤◌, ◌⊎◌, inl, inr, ⊎_elim, List, [], ◌∷◌, ◌++◌, length, refl, sym, ap, ◌∙◌, subst, arith, None}
 use Rattle.std.specs.Prelude.{slice_index}
 use Rattle.std.specs.List.{Contains}
 use Rattle.std.proofs.lemmas.Bool.{cases_lt, cases_eq}
 use Rattle.std.proofs.lemmas.List.{get_or-replicate, length-replicate}
 use Rattle.std.proofs.lemmas.Option.{none-some}
 use Rattle.redo_core.specs.Data.{RecordData, CutData, AdvanceData}
-use Rattle.redo_core.specs.Shape.{cut_fault}
+use Rattle.std.specs.Prelude.{Bool}
+use Rattle.std.proofs.lemmas.Bool.Decides.{nat_tests}
+use Rattle.redo_core.specs.Data.{record_with}
+use Rattle.redo_core.specs.declared.patches.Patch.{Patch}
+use Rattle.redo_writer.specs.Refusals.{contents_fault}
+use Rattle.redo_core.specs.Shape.{cut_fault, record_fault}
 use Rattle.redo_core.specs.Sets.{records, cuts, advances}
 use Rattle.redo_core.specs.Roster.{IsRoster, IsReader, least, point_of}
 use Rattle.redo_core.specs.Points.{HasAdvance, IsPoint, ArePoints}
@@ -21,8 +26,7 @@ use Rattle.redo_core.proofs.Members.{none_in}
 use Rattle.redo_core.proofs.FactParts.{record_in, cut_in, advance_in}
 use Rattle.redo_core.proofs.SoundFacts.{kept, cut_facts, counted_in}
 use Rattle.redo_core.proofs.CompleteEpochs.{has_cuts}
-use Rattle.redo_core.proofs.Points.{least_le, least_ge, least_mono}
-use Rattle.log_law.specs.Writing.{IsBoundAt}
+use Rattle.redo_core.proofs.Points.{least_ge, least_mono}
 use Rattle.log_law.proofs.FirstCuts.{counted_among}
 use Rattle.log_law.proofs.Lengthened.{record_cases, record_longer, record_last, cut_cases, cut_longer, cut_last, advance_cases, advance_longer, advance_last, counted_cases, counted_longer, KeepsRest, sound_push, Extends, extends_other, extends_cut, alive_longer, alive_shorter, has_cuts_longer, record_keeps, advance_keeps}
 use Rattle.log_law.proofs.Repeats.{cut_eq, law1_advance}
@@ -132,6 +136,17 @@ back_order w log g page =
     (λ (h : HasNumber (λ r. IsAliveRecord log w.epoch r × (r.page ≡ page)) (slice_index w.page_tops page)).
     top.1 (slice_index w.page_tops page) (h.0, h.1.0, h.2))
     (g.alive.pages page).0
+
+pub back_below : (w : WriterState) (log : List Fact) → Continues w log → newest_number w.settled w.alive ≤ w.last
+back_below w log g = ⊎_elim
+    (λ (e : newest_number w.settled w.alive ≡ 0). omega arith)
+    (λ (h : HasNumber (IsAliveRecord log w.epoch) (newest_number w.settled w.alive)). let l : h.0.number ≤ w.last = alive_at_most w log g h.0 h.1 in
+    let e : h.0.number ≡ newest_number w.settled w.alive = h.2 in omega arith)
+    (newest_greatest (IsAliveRecord log w.epoch) w.settled w.page_tops w.alive g.alive).0
+
+-- backlinks in order are no fault
+pub contents_alone : (e n b p bb : ℕ) (i : Bool) (patches : List Patch) → b < n → bb ≤ b → record_fault (record_with e n b p bb i patches) ≡ contents_fault n patches
+contents_alone e n b p bb i patches below le = grind (arith, nat_tests)
 
 -- the points where no advance came
 points_kept : {roster : ℕ} (log : List Fact) (f : Fact) (k j : ℕ) (points : List ℕ) → k ≤ j → ((a : AdvanceData) → Contains (advances log) a → a.epoch ≤ k)
@@ -543,7 +558,7 @@ continues_settled w log settled alive g past t = record {
 -- nothing yet
 pub continues_nothing : (roster : ℕ) → IsRoster roster → Continues (empty_state roster) []
 continues_nothing roster readers =
-    let len : length (replicate roster 0) ≡ roster = length-replicate {A = ℕ} roster 0 in
+    let len : length (replicate {A = ℕ} roster 0) ≡ roster = length-replicate {A = ℕ} roster 0 in
     record {
       sound = record { readers = subst IsRoster (sym len) readers; keeps = λ p f h. absurd (none-some f h) };
       epoch = (

@@ -2,3 +2,4 @@ pub mod Tracks
 pub mod State
 pub mod Continues
 pub mod Refusals
+pub mod Changes

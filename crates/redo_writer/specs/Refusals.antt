@@ -1,8 +1,11 @@
 -- What a writer refuses, and why.
-use Rattle.std.specs.Prelude.{◌≡◌, ℕ, ◌<◌, ◌⊎◌, ◌==◌, nat_lt, length, Option, Some, None, if◌then◌else◌}
-use Rattle.redo_core.specs.Data.{RecordData, cut_of, advance_of}
+use Rattle.std.specs.Prelude.{◌≡◌, ℕ, ◌<◌, ◌≤◌, ◌⊎◌, ◌==◌, nat_lt, length, false, List, Option, Some, None, if◌then◌else◌}
+use Rattle.redo_core.specs.Data.{RecordData, record_with, cut_of, advance_of}
 use Rattle.redo_core.specs.Shape.{record_fault, cut_fault, advance_fault}
 use Rattle.redo_core.specs.Roster.{least}
+use Rattle.redo_core.specs.declared.facts.Fact.{Fact}
+use Rattle.redo_core.specs.declared.patches.Patch.{Patch}
+use Rattle.log_law.specs.Writing.{IsBound}
 use Rattle.redo_core.specs.declared.shapes.ShapeFault.{ShapeFault}
 use Rattle.log_law.specs.declared.writer.WriterFault.{WriterFault}
 use Rattle.log_law.specs.declared.writer.WriterFault.TheVariants.{Shape, LoBelowAdvance, NumberNotAbove, OtherRoster, EpochsUsedUp, Memory}
@@ -19,6 +22,19 @@ append_refusal w r = if nat_lt w.last r.number then shape_first (record_fault r)
 -- lack of memory hides a fault of the shape, and no other
 abbrev pub RefusesRecord : WriterState → RecordData → WriterFault → Type 0
 RefusesRecord w r fault = (append_refusal w r ≡ Some fault) ⊎ ((fault ≡ Memory) × (w.last < r.number))
+
+-- the first fault that a record of this number and these patches has whatever its backlinks are
+abbrev pub contents_fault : ℕ → List Patch → Option ShapeFault
+contents_fault number patches = record_fault (record_with 0 number 0 0 0 false patches)
+
+-- the same refusal by what the log says: it is never for a fault of the backlinks
+abbrev pub RefusesOnLog : List Fact → ℕ → List Patch → WriterFault → Type 0
+RefusesOnLog log number patches (Shape fault) = contents_fault number patches ≡ Some fault
+RefusesOnLog log number patches (LoBelowAdvance point) = ⊥
+RefusesOnLog log number patches (NumberNotAbove bound) = IsBound log bound × (number ≤ bound)
+RefusesOnLog log number patches (OtherRoster own shown) = ⊥
+RefusesOnLog log number patches EpochsUsedUp = ⊥
+RefusesOnLog log number patches Memory = (bound : ℕ) × IsBound log bound × (bound < number)
 
 abbrev pub recover_refusal : WriterState → ℕ → ℕ → Option WriterFault
 recover_refusal w lo hi = shape_first (cut_fault (cut_of 1 lo hi)) (

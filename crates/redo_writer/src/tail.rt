@@ -1,4 +1,4 @@
-ghost use Rattle.std.specs.Prelude.{◌≡◌, ◌≢◌, ℕ, ◌<◌, ◌≤◌, ◌+◌, ◌∷◌, List, length, slice_index, OnOk};
+ghost use Rattle.std.specs.Prelude.{◌≡◌, ◌≢◌, ℕ, ◌<◌, ◌≤◌, ◌+◌, ◌∷◌, ◌++◌, List, length, slice_index, OnOk};
 ghost use Rattle.std.specs.Vec.{vec_capacity};
 ghost use Rattle.std.specs.VecDeque.{deque_len, deque_capacity};
 ghost use Rattle.redo_core.specs.Data.{RecordData};
@@ -6,6 +6,7 @@ ghost use Rattle.redo_core.specs.declared.facts.Fact.{Fact};
 ghost use Rattle.std.specs.List.{Contains};
 ghost use Rattle.redo_core.specs.Order.{IsRising};
 ghost use Rattle.redo_writer.specs.declared.parts.AliveRecord.{AliveRecord as Entry};
+ghost use Rattle.redo_writer.specs.Changes.{DropsAbove};
 ghost use Rattle.redo_writer.specs.Tracks.{IsAliveRecord, IsNewer, LinksPages, PutsTop, Tracks, newest_number};
 
 use crate::parts::AliveRecord;
@@ -77,7 +78,8 @@ fn restore_top(page_tops: &mut Vec<u64>, page: u16, number: u64)
 
 /// Drops the entries above `lo`, and gives each page the number that it had before them.
 pub(crate) fn annul_above(alive: &mut VecDeque<AliveRecord>, page_tops: &mut Vec<u64>, lo: u64)
-    ensures { (log : List Fact) (k settled : ℕ) → LinksPages (IsAliveRecord log k) → settled ≤ lo
+    ensures entries { DropsAbove lo alive.old.items alive.new.items }
+    ensures tracks { (log : List Fact) (k settled : ℕ) → LinksPages (IsAliveRecord log k) → settled ≤ lo
         → Tracks (IsAliveRecord log k) settled page_tops.old.items alive.old.items
         → Tracks (λ r. IsAliveRecord log k r × (r.number ≤ lo)) settled page_tops.new.items alive.new.items }
 {
@@ -92,6 +94,8 @@ pub(crate) fn annul_above(alive: &mut VecDeque<AliveRecord>, page_tops: &mut Vec
 pub(crate) fn settle(alive: &mut VecDeque<AliveRecord>, settled: u64, point: u64) -> u64
     ensures tracks { (log : List Fact) (k : ℕ) (tops : List ℕ) → settled ≤ point → Tracks (IsAliveRecord log k) settled tops alive.old.items
         → (result ≤ point) × Tracks (IsAliveRecord log k) result tops alive.new.items }
+    ensures entries { (dropped : List Entry) × (alive.old.items ≡ alive.new.items ++ dropped) × (result ≡ newest_number settled dropped)
+        × ((x : Entry) → Contains dropped x → x.number ≤ point) }
     ensures left { IsRising IsNewer alive.new.items → (x : Entry) → Contains alive.new.items x → point < x.number }
 {
     let mut greatest = settled;

@@ -8,7 +8,8 @@ ghost use Rattle.redo_core.specs.declared.facts.Fact.TheVariants.{Record as Reco
 ghost use Rattle.redo_writer.specs.declared.parts.AliveRecord.{AliveRecord as Entry};
 ghost use Rattle.redo_writer.specs.State.{state_of, empty_state, next_record};
 ghost use Rattle.redo_writer.specs.Continues.{Continues};
-ghost use Rattle.redo_writer.specs.Refusals.{append_refusal, RefusesRecord, recover_refusal, advance_refusal};
+ghost use Rattle.redo_writer.specs.Changes.{KeepsRecord, OpensEpoch, RaisesReader, DropsSettled};
+ghost use Rattle.redo_writer.specs.Refusals.{append_refusal, RefusesRecord, RefusesOnLog, recover_refusal, advance_refusal};
 
 use crate::parts::{AliveRecord, WriterParts};
 use crate::tail::{annul_above, keep_newest, number_on_top, put_top, reserve_top, settle, top_of};
@@ -94,8 +95,10 @@ impl RedoWriter {
     ) -> Result<Record, Refused<Vec<Patch>, WriterFault>>
         ensures record { IfOk result (λ r. r ≡ next_record self.old number page init patches.items) }
         ensures continues { (log : List Fact) → Continues self.old log → IfOk result (λ r. Continues self.new (log ++ RecordFact r ∷ [])) }
+        ensures state { OnOk result (KeepsRecord self.old number page self.new) }
         ensures allowed { OnOk result (append_refusal self.old (next_record self.old number page init patches.items) ≡ None) }
         ensures fault { IfErr result (λ e. RefusesRecord self.old (next_record self.old number page init patches.items) e.fault) }
+        ensures fault_on_log { (log : List Fact) → Continues self.old log → IfErr result (λ e. RefusesOnLog log number patches.items e.fault) }
         ensures returned { IfErr result (λ e. e.value ≡ patches) }
         ensures unchanged { OnErr result (self.new ≡ self.old) }
     {
@@ -138,6 +141,7 @@ impl RedoWriter {
     pub fn recover(&mut self, lo: u64, hi: u64) -> Result<Cut, WriterFault>
         ensures cut { IfOk result (λ c. c ≡ cut_of (self.old.epoch + 1) lo hi) }
         ensures continues { (log : List Fact) → Continues self.old log → IfOk result (λ c. Continues self.new (log ++ CutFact c ∷ [])) }
+        ensures state { OnOk result (OpensEpoch self.old lo hi self.new) }
         ensures fault { result_err result ≡ recover_refusal self.old lo hi }
         ensures unchanged { OnErr result (self.new ≡ self.old) }
     {
@@ -168,6 +172,7 @@ impl RedoWriter {
     pub fn advance(&mut self, reader: u8, point: u64) -> Result<Advance, WriterFault>
         ensures advance { IfOk result (λ a. a ≡ advance_of self.old.epoch reader point) }
         ensures continues { (log : List Fact) → Continues self.old log → IfOk result (λ a. Continues self.new (log ++ AdvanceFact a ∷ [])) }
+        ensures state { IfOk result (λ a. RaisesReader self.old a self.new) }
         ensures fault { result_err result ≡ advance_refusal self.old reader point }
         ensures unchanged { OnErr result (self.new ≡ self.old) }
     {
@@ -186,7 +191,8 @@ impl RedoWriter {
     /// Drops what only a truncation below the minimum read point could need. It takes no memory.
     pub fn forget(&mut self)
         ensures continues { (log : List Fact) → Continues self.old log → Continues self.new log }
-        ensures dropped { (log : List Fact) → Continues self.old log → (x : Entry) → Contains self.new.alive x → least self.new.points < x.number }
+        ensures state { DropsSettled self.old self.new }
+        ensures above { (log : List Fact) → Continues self.old log → (x : Entry) → Contains self.new.alive x → least self.new.points < x.number }
     {
         let point = self.points.least();
         self.settled = settle(&mut self.alive, self.settled, point);

@@ -1,4 +1,4 @@
-use Rattle.std.proofs.Common.{◌≡◌, ◌≤◌, sym, ◌∙◌, ap, arith, subst, length}
+use Rattle.std.proofs.Common.{◌≡◌, sym, ◌∙◌, ap, arith, subst, length}
 use Rattle.redo_core.specs.Data.{AdvanceData}
 use Rattle.redo_core.specs.Shape.{advance_fault}
 use Rattle.redo_core.specs.Roster.{IsReader}

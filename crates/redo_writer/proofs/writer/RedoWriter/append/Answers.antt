@@ -1,4 +1,4 @@
-use Rattle.std.proofs.Common.{◌≡◌, ◌++◌, ◌∷◌, [], sym, ◌∙◌, ap, arith, subst}
+use Rattle.std.proofs.Common.{◌≡◌, ◌<◌, ◌≤◌, ◌++◌, ◌∷◌, [], sym, ◌∙◌, ap, arith, subst}
 use Rattle.std.specs.Prelude.{slice_index}
 use Rattle.redo_core.specs.Data.{RecordData, record_with}
 use Rattle.redo_core.specs.Shape.{record_fault}
@@ -7,7 +7,7 @@ use Rattle.redo_writer.specs.declared.parts.AliveRecord.{AliveRecord}
 use Rattle.redo_writer.specs.Tracks.{PutsTop, newest_number}
 use Rattle.redo_writer.specs.State.{WriterState, state_with}
 use Rattle.redo_writer.specs.Continues.{Continues}
-use Rattle.redo_writer.proofs.Continuing.{continues_record}
+use Rattle.redo_writer.proofs.Continuing.{continues_record, back_below, back_order, contents_alone}
 use Rattle.redo_writer.proofs.writer.RedoWriter.append.Goals as goal
 
 pub returns-in-Ok-clause-continues : goal.returns-in-Ok-clause-continues
@@ -32,3 +32,18 @@ returns-in-Ok-clause-continues c log g =
     (sym (c.keep_newest.ensures.alive ∙ ap (λ ys. x ∷ ys) c.reserve.ensures.items))
     (subst (λ n. Continues (state_with i.epoch n i.points c.keep_newest.new.page_tops.items i.settled (x ∷ i.alive.items)) (log ++ Record c.in-Ok.redo ∷ []))
     number new)
+
+pub returns-in-Err-clause-fault_on_log : goal.returns-in-Err-clause-fault_on_log
+returns-in-Err-clause-fault_on_log c log g =
+    let i = c.self.inside in
+    let w : WriterState = state_with i.epoch i.last i.points i.page_tops.items i.settled i.alive.items in
+    let h : Continues w log = subst (λ v. Continues v log) (sym c.self.view_is) g in
+    let back : c.number_on_top-back.result ≡ newest_number c.self.inside.settled c.self.inside.alive.items = c.number_on_top-back.ensures
+    ∙ ap (newest_number i.settled) c.reserve.ensures.items in
+    let block_back : c.top_of-block_back.result ≡ slice_index c.self.inside.page_tops.items c.args.page = c.top_of-block_back.ensures
+    ∙ ap (λ xs. slice_index xs c.args.page) (c.deref.ensures.value ∙ c.reserve_top.ensures.items) in
+    let low : newest_number c.self.inside.settled c.self.inside.alive.items ≤ c.self.inside.last = back_below w log h in
+    let order : slice_index c.self.inside.page_tops.items c.args.page ≤ newest_number c.self.inside.settled c.self.inside.alive.items = back_order w log h c.args.page in
+    let above : c.self.inside.last < c.args.number = c.if-number-self.false in
+    sym (contents_alone i.epoch c.args.number c.number_on_top-back.result c.args.page c.top_of-block_back.result c.args.init c.args.patches.items
+    (omega arith) (omega arith)) ∙ c.in-Err.ensures.fault.1

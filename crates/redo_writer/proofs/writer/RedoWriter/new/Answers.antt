@@ -1,4 +1,4 @@
-use Rattle.std.proofs.Common.{◌≡◌, [], sym, ◌∙◌, ap, arith, subst, replicate}
+use Rattle.std.proofs.Common.{[], sym, subst}
 use Rattle.redo_writer.specs.State.{state_with}
 use Rattle.redo_writer.specs.Continues.{Continues}
 use Rattle.redo_writer.proofs.Continuing.{continues_nothing}

@@ -21,7 +21,7 @@ returns-in-Ok-clause-continues c log g =
     let low : least c.self.inside.points ≤ c.args.lo = let e = c.least-point.ensures.value in let l = c.if-lo-point.false in omega arith in
     let past : c.self.inside.settled ≤ least c.self.inside.points = h.past in
     let t : Tracks (λ r. IsAliveRecord log i.epoch r × (r.number ≤ c.args.lo)) i.settled c.annul_above.new.page_tops.items c.annul_above.new.alive.items =
-    c.annul_above.ensures log i.epoch i.settled (pages_linked w log h) (omega arith) h.alive in
+    c.annul_above.ensures.tracks log i.epoch i.settled (pages_linked w log h) (omega arith) h.alive in
     subst (λ n. Continues (state_with (i.epoch + 1) n i.points c.annul_above.new.page_tops.items i.settled c.annul_above.new.alive.items) (log ++ Cut c.in-Ok.cut ∷ [])) hi
     (continues_cut w log c.in-Ok.cut c.annul_above.new.page_tops.items c.annul_above.new.alive.items h (ap cut_fault c.in-Ok.ensures.ok ∙ sym c.in-Ok.ensures.fault)
     ep (omega arith)
