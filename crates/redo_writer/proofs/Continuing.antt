@@ -32,7 +32,7 @@ use Rattle.log_law.proofs.Lengthened.{record_cases, record_longer, record_last, 
 use Rattle.log_law.proofs.Repeats.{cut_eq, law1_advance}
 use Rattle.redo_writer.specs.declared.parts.AliveRecord.{AliveRecord}
 use Rattle.redo_writer.specs.Tracks.{IsAliveRecord, HasNumber, IsEntryOf, newest_number, Tracks, LinksPages, PutsTop}
-use Rattle.redo_writer.specs.State.{WriterState, state_with, empty_state}
+use Rattle.redo_writer.specs.State.{WriterState, state_with, empty_writer}
 use Rattle.redo_writer.specs.Continues.{Continues}
 use Rattle.redo_writer.proofs.Tracking.{tracked_as, entered, newest_greatest, nothing_tracked}
 
@@ -556,7 +556,7 @@ continues_settled w log settled alive g past t = record {
 }
 
 -- nothing yet
-pub continues_nothing : (roster : ℕ) → IsRoster roster → Continues (empty_state roster) []
+pub continues_nothing : (roster : ℕ) → IsRoster roster → Continues (empty_writer roster) []
 continues_nothing roster readers =
     let len : length (replicate {A = ℕ} roster 0) ≡ roster = length-replicate {A = ℕ} roster 0 in
     record {

@@ -26,12 +26,12 @@ state_with epoch last points page_tops settled alive = record {
   alive = alive;
 }
 
-abbrev pub state_of : WriterParts → WriterState
-state_of p = state_with p.epoch p.last p.points p.page_tops.items p.settled p.alive.items
+abbrev pub writer_of_parts : WriterParts → WriterState
+writer_of_parts p = state_with p.epoch p.last p.points p.page_tops.items p.settled p.alive.items
 
 -- a writer of an empty log
-abbrev pub empty_state : ℕ → WriterState
-empty_state roster = state_with 0 0 (replicate roster 0) [] 0 []
+abbrev pub empty_writer : ℕ → WriterState
+empty_writer roster = state_with 0 0 (replicate roster 0) [] 0 []
 
 -- the record that comes next, with this number, page and contents
 abbrev pub next_record : WriterState → ℕ → ℕ → Bool → List Patch → RecordData

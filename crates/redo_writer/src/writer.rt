@@ -6,7 +6,7 @@ ghost use Rattle.redo_core.specs.Roster.{least};
 ghost use Rattle.redo_core.specs.declared.facts.Fact.{Fact};
 ghost use Rattle.redo_core.specs.declared.facts.Fact.TheVariants.{Record as RecordFact, Cut as CutFact, Advance as AdvanceFact};
 ghost use Rattle.redo_writer.specs.declared.parts.AliveRecord.{AliveRecord as Entry};
-ghost use Rattle.redo_writer.specs.State.{state_of, empty_state, next_record};
+ghost use Rattle.redo_writer.specs.State.{writer_of_parts, empty_writer, next_record};
 ghost use Rattle.redo_writer.specs.Continues.{Continues};
 ghost use Rattle.redo_writer.specs.Changes.{KeepsRecord, OpensEpoch, RaisesReader, DropsSettled};
 ghost use Rattle.redo_writer.specs.Refusals.{append_refusal, RefusesRecord, RefusesOnLog, recover_refusal, advance_refusal};
@@ -41,7 +41,7 @@ impl Model for RedoWriter {
 impl RedoWriter {
     /// A writer of an empty log of a roster, in epoch 0. It fails only if memory runs out.
     pub fn new(alloc: Global, roster: Roster) -> Result<Self, AllocError>
-        ensures state { IfOk result (λ w. w ≡ empty_state roster) }
+        ensures state { IfOk result (λ w. w ≡ empty_writer roster) }
         ensures continues { IfOk result (λ w. Continues w []) }
     {
         Ok(RedoWriter {
@@ -56,7 +56,7 @@ impl RedoWriter {
 
     /// The writer that keeps these parts. It continues the logs that they continue.
     pub fn resume(parts: WriterParts) -> Self
-        ensures { result ≡ state_of parts }
+        ensures { result ≡ writer_of_parts parts }
     {
         RedoWriter {
             epoch: parts.epoch,
@@ -70,7 +70,7 @@ impl RedoWriter {
 
     /// What the writer keeps.
     pub fn into_parts(self) -> WriterParts
-        ensures { state_of result ≡ self }
+        ensures { writer_of_parts result ≡ self }
     {
         WriterParts {
             epoch: self.epoch,
