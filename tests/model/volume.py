@@ -33,6 +33,7 @@ MUTANTS = {
     "counts_a_front_of_an_older_epoch": "a front of an older epoch acknowledges a commit",
     "reader_counts_plain_fronts": "a reader counts fronts of any node",
     "skips_known_at_a_quorum": "proposes before the union is known at W nodes",
+    "replaces_the_segment_of_a_member": "a member that is asked plainly for a new segment makes one, and stays a member",
 }
 
 # Deviations from the rules that break no promise by themselves, each with the rule that makes it harmless.
@@ -605,6 +606,10 @@ class World:
             self.nodes[rest[0]] = Node(self.births)
             self.births += 1
             self.gone = self.gone or not any(node.is_member for node in self.nodes)
+        elif kind == "open_plainly":
+            node = self.nodes[rest[0]]
+            if not node.is_member or self.broken("replaces_the_segment_of_a_member"):
+                node.facts = frozenset()
         elif kind == "copy":
             self.gain(rest[0], self.nodes[rest[1]].facts)
         elif kind == "fact":

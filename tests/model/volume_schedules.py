@@ -156,6 +156,14 @@ def wiped_after_a_commit(s):
     s.open(b, [1, 2])
 
 
+def member_opened_plainly(s):
+    """A node that reported a commit gets a new segment, and the next engine recovers from it."""
+    s.committed()
+    s.do("open_plainly", 1)
+    b = s.start(3)
+    s.open(b, [1, 2])
+
+
 def last_record_alone(s):
     """A commit's last record reaches two nodes, the record before it none."""
     a = s.opened()
@@ -405,6 +413,7 @@ SCHEDULES = {
     "counts_a_front_of_an_older_epoch": front_of_an_older_epoch,
     "reader_counts_plain_fronts": plain_fronts_after_a_fence,
     "skips_known_at_a_quorum": not_known_at_a_quorum,
+    "replaces_the_segment_of_a_member": member_opened_plainly,
 }
 OPTIONS = {"creates_with_one_status_round": {"created": (0, 1)}}
 
@@ -463,6 +472,8 @@ class Random(Schedule):
         elif rng.random() < self.odds["gossip"]:
             if world.gossip and rng.random() < 0.5:
                 self.do("fact", rng.randrange(world.n), rng.choice(list(world.gossip)[-8:]))
+            elif rng.random() < 0.1:
+                self.do("open_plainly", rng.randrange(world.n))
             else:
                 self.do("copy", rng.randrange(world.n), rng.randrange(world.n))
         elif rng.random() < self.odds["old"]:
