@@ -35,13 +35,13 @@ abbrev pub IsFarEnough : Front → Admission → Type 0
 IsFarEnough front asked = (front.epoch ≡ asked.epoch) × (asked.complete ≤ front.complete)
 
 -- a member names its generation, and a fresh node its birth
-abbrev pub ReportsStanding : GuardData → Reply → Type 0
-ReportsStanding g told =
+abbrev pub NamesNode : GuardData → Reply → Type 0
+NamesNode g told =
     (IsTrue g.is_member × (told ≡ reply.Stale g.generation)) ⊎ (¬ (IsTrue g.is_member) × (told ≡ reply.Fresh g.birth))
 
 -- and the request is not executed
 abbrev pub Declines : GuardData → Reply → GuardData → Type 0
-Declines old told new = ReportsStanding old told × (new ≡ old)
+Declines old told new = NamesNode old told × (new ≡ old)
 
 -- ---- requests
 abbrev pub ReportsGuard : GuardData → Reply → GuardData → Type 0

@@ -1,7 +1,7 @@
 ghost use Rattle.std.specs.Prelude.{◌≡◌, ◌↔◌, IsTrue};
 ghost use Rattle.guard.specs.Data.{fresh_guard};
 ghost use Rattle.guard.specs.Asked.{IsGuarded, ReplacesSegment};
-ghost use Rattle.guard.specs.Guarding.{IsGuardReply, IsUnder, HasLater, ReportsStanding};
+ghost use Rattle.guard.specs.Guarding.{IsGuardReply, IsUnder, HasLater, NamesNode};
 ghost use Rattle.guard.specs.Guarding.{Fences, AsksUnder, Proposes, Admits, AsksPlainly};
 ghost use Rattle.guard.specs.Refusing.{IsGuardRefusal, IsAfterGuardRefusal};
 ghost use Rattle.replica.specs.AtSegment.{Fronts};
@@ -14,7 +14,7 @@ use replica::Replica;
 use segment_core::Front;
 use std::marker::Model;
 
-/// A replica, and what its node owes to the engines that have asked it.
+/// A replica, with the state by which its node decides which engine it answers.
 #[derive(Drop)]
 pub struct Guard {
     replica: Replica,
@@ -108,7 +108,7 @@ impl Guard {
         ensures { Fences self.old generation result self.new }
     {
         if !self.is_member || generation <= self.generation {
-            return self.standing();
+            return self.declined();
         }
         self.generation = generation;
         Reply::Fenced {
@@ -126,7 +126,7 @@ impl Guard {
             return Reply::Unguarded;
         }
         if !self.is_under(generation, birth) {
-            return self.standing();
+            return self.declined();
         }
         Reply::Headed {
             generation,
@@ -139,7 +139,7 @@ impl Guard {
         ensures { Proposes self.old generation birth cut result self.new }
     {
         if !self.is_under(generation, birth) || self.has_later(generation, cut.epoch()) {
-            return self.standing();
+            return self.declined();
         }
         self.accepted = Some(AcceptedCut { generation, cut });
         Reply::Accepted {
@@ -184,9 +184,9 @@ impl Guard {
         Reply::Plain(self.replica.step(request))
     }
 
-    /// What a guard replies that does not execute a request of an engine.
-    fn standing(&self) -> Reply
-        ensures { ReportsStanding self.now result }
+    /// The reply to an engine whose request is not executed.
+    fn declined(&self) -> Reply
+        ensures { NamesNode self.now result }
     {
         if self.is_member {
             Reply::Stale(self.generation)

@@ -7,18 +7,18 @@ pub struct AcceptedCut {
     pub cut: Cut,
 }
 
-/// How a fresh node becomes a member.
+/// What makes a fresh node a member, and what the node must be and have reached.
 #[derive(Clone, Copy, Debug, PartialEq, Eq)]
 pub struct Admission {
-    /// The generation that the node gets.
+    /// The generation of the node as a member.
     pub generation: u64,
-    /// The life of the node that is admitted.
+    /// The birth that the node must have.
     pub birth: u64,
-    /// The complete epoch that the node has.
+    /// The complete epoch that the node must have.
     pub epoch: u16,
-    /// The complete point that the node has reached.
+    /// The least complete point that the node must have reached.
     pub complete: u64,
-    /// The accepted truncation that the node gets.
+    /// The accepted truncation of the node as a member.
     pub accepted: Option<AcceptedCut>,
 }
 
@@ -31,13 +31,13 @@ pub enum Request {
     Fence {
         generation: u64,
     },
-    /// Carry out a request of the engine of this generation, at a node that this is the birth of.
+    /// Carry out a request for the engine of this generation, if this is the birth of the node.
     As {
         generation: u64,
         birth: u64,
         request: replica::Request,
     },
-    /// Accept a truncation of the engine of this generation.
+    /// Accept a truncation from the engine of this generation, if this is the birth of the node.
     Propose {
         generation: u64,
         birth: u64,
