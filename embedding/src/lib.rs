@@ -1,10 +1,11 @@
 //! One proved storage segment inside a Rust server.
 //!
 //! A [`Node`] is a segment on a thread of its own, behind a pair of pipes: the archive of the crate `node_c`, which is proved down to
-//! its two descriptors. This package is not proved. It makes requests, reads answers, and gives both types.
+//! its two descriptors. This package is not proved. What requests and answers are is in the package `client`, whose names this one has
+//! too.
 //!
 //! ```no_run
-//! use yieldcleat::{Advance, Node, Patch, Record};
+//! use yieldcleat::{Advance, Calls, Node, Patch, Record};
 //!
 //! # fn main() -> Result<(), Box<dyn std::error::Error>> {
 //! let mut node = Node::open(1)?;
@@ -20,17 +21,12 @@
 //! A node lives in memory. A [`Store`] is one that comes back after a crash: it writes the requests that have changed the node to a file
 //! before it answers. `src/bin/durable.rs` is a server with one.
 
-mod answers;
 mod crc32c;
-mod errors;
-mod facts;
-pub mod frames;
 mod node;
-pub mod requests;
 mod store;
 
-pub use answers::{Front, Gap, Held, Key, State, Taken};
-pub use errors::{Error, ReadFault, Refused, SnapshotFault, StagingFault, Status, Uncovered, WireFault};
-pub use facts::{Advance, Fact, Patch, Record, Shape, Truncation, MOST_NUMBER, PAGE_LEN};
 pub use node::Node;
-pub use store::{Recovery, Store, StoreError};
+pub use store::{Activity, Recovery, Store, StoreError};
+pub use yieldcleat_client::{frames, requests, Calls, Error, Front, Gap, Held, Key, State, Taken};
+pub use yieldcleat_client::{Advance, Fact, Patch, Record, Shape, Truncation, MOST_NUMBER, PAGE_LEN};
+pub use yieldcleat_client::{ReadFault, Refused, SnapshotFault, StagingFault, Status, Uncovered, WireFault};

@@ -1,15 +1,12 @@
-//! A segment behind a stream, and its calls.
+//! A segment behind a stream.
 
-use crate::answers::{self, Front, Gap, Held, Key, State, Taken};
-use crate::errors::{Error, Status};
-use crate::{frames, requests};
 use std::fs::File;
 use std::io::{self, BufReader, PipeReader, PipeWriter, Write};
-use std::iter::Peekable;
 use std::net::Shutdown;
 use std::os::fd::{AsRawFd, OwnedFd};
 use std::os::unix::net::UnixStream;
 use std::thread::{self, JoinHandle};
+use yieldcleat_client::{answers, frames, requests, Calls, Error, Status};
 
 extern "C" {
     /// In `crates/node_c/src/lib.rt`, and told in `include/yieldcleat.h`; nothing compares the declarations.
@@ -18,11 +15,6 @@ extern "C" {
 
 /// The stack of a segment's thread.
 const STACK: usize = 1 << 20;
-
-/// The most requests that one frame holds, and the bytes of requests behind which it holds no more. A request of so many bytes goes in a
-/// frame of its own.
-const MOST: usize = 256;
-const ENOUGH: usize = 1 << 16;
 
 /// One segment, which other threads and processes do not share.
 ///
@@ -81,7 +73,7 @@ impl Node {
         let mut node = Node::at(Ends::new(answers.0, requests.1, None));
         let named = thread::Builder::new().name("segment".into()).stack_size(STACK);
         node.thread = Some(named.spawn(serve).map_err(|error| Error::NotStarted(error.kind()))?);
-        node.put(&requests::open(readers), "opened")?;
+        answers::done(node.ask(&requests::open(readers))?, "opened")?;
         Ok(node)
     }
 
@@ -135,203 +127,12 @@ impl Node {
         self.is_waiting = false;
         Ok(&self.answer)
     }
+}
 
-    /// The bytes of the answer to the bytes of a request, whatever both are: those of `requests`, kept in a file, say.
-    ///
-    /// Its errors are `Stopped`, and `LongFrame` for 2^32 bytes or more.
-    pub fn ask(&mut self, request: &[u8]) -> Result<&[u8], Error> {
-        self.prepare(&[request])?;
+impl Calls for Node {
+    fn ask_parts(&mut self, parts: &[&[u8]]) -> Result<&[u8], Error> {
+        self.prepare(parts)?;
         self.exchange()
-    }
-
-    /// Asks requests in order, none of them a `many`, and returns the answer to each. They go many in a frame, and where the segment
-    /// lacks memory for the answers to one, that is the answer to each request in it.
-    ///
-    /// Its errors are `Stopped`, and `LongFrame` where a request has 2^32 bytes or more; some of the requests are carried out then.
-    pub fn ask_all<'a>(&mut self, requests: impl IntoIterator<Item = &'a [u8]>) -> Result<Vec<Vec<u8>>, Error> {
-        let (mut requests, mut answers) = (requests.into_iter().peekable(), Vec::new());
-        while requests.peek().is_some() {
-            self.ask_some(b"", &mut requests, |answer| answers.push(answer.to_vec()))?;
-        }
-        Ok(answers)
-    }
-
-    /// Asks the next requests, of these bytes behind a word: as many as one frame holds.
-    fn ask_some<'a, I>(&mut self, word: &[u8], requests: &mut Peekable<I>, mut heard: impl FnMut(&[u8])) -> Result<(), Error>
-    where
-        I: Iterator<Item = &'a [u8]>,
-    {
-        if let Some(request) = requests.next_if(|request| request.len() >= ENOUGH) {
-            self.prepare(&[word, request])?;
-            heard(self.exchange()?);
-            return Ok(());
-        }
-        let (mut inside, mut count) = (Vec::new(), 0);
-        while count < MOST && inside.len() < ENOUGH {
-            let Some(request) = requests.next_if(|request| request.len() < ENOUGH) else {
-                break;
-            };
-            frames::append(&mut inside, &[word, request]).map_err(|_| Error::LongFrame)?;
-            count += 1;
-        }
-        self.prepare(&[b"many ", &inside])?;
-        let answer = self.exchange()?;
-        match frames::inside(answer) {
-            Some(answers) if answers.len() == count => answers.into_iter().for_each(heard),
-            _ => (0..count).for_each(|_| heard(answer)),
-        }
-        Ok(())
-    }
-
-    fn put(&mut self, request: &[u8], done: &str) -> Result<(), Error> {
-        answers::done(self.ask(request)?, done)
-    }
-
-    // Facts
-
-    /// Takes a fact, as its bytes.
-    ///
-    /// Errors: `Refused`, and `Wire` where they are no fact.
-    pub fn take(&mut self, fact: &[u8]) -> Result<Taken, Error> {
-        self.prepare(&[b"take ", fact])?;
-        answers::taken(self.exchange()?)
-    }
-
-    /// Takes facts in order, and says of each what `take` would. They go many in a frame, and where the segment lacks memory for the
-    /// answers to one, that is said of each fact in it. If the iterator panics, the facts of the frames before are taken, and the node
-    /// serves on.
-    ///
-    /// Its errors are `Stopped`, and `LongFrame` where a fact has 2^32 bytes or more; some of the facts are taken then.
-    pub fn take_all<'a>(&mut self, facts: impl IntoIterator<Item = &'a [u8]>) -> Result<Vec<Result<Taken, Error>>, Error> {
-        let (mut facts, mut taken) = (facts.into_iter().peekable(), Vec::new());
-        while facts.peek().is_some() {
-            self.ask_some(b"take ", &mut facts, |answer| taken.push(answers::taken(answer)))?;
-        }
-        Ok(taken)
-    }
-
-    // What it knows
-
-    /// How far the segment is.
-    pub fn front(&mut self) -> Result<Front, Error> {
-        answers::front(self.ask(b"front")?)
-    }
-
-    /// What it stores, in numbers.
-    pub fn state(&mut self) -> Result<State, Error> {
-        answers::state(self.ask(b"state")?)
-    }
-
-    /// Some bytes of a page at a point: `len`, at least one, from `offset` on, within the page's 4,096.
-    ///
-    /// Errors: `Read`, `Broken` and `BadRequest`.
-    pub fn read(&mut self, page: u16, point: u64, offset: u16, len: u16) -> Result<Vec<u8>, Error> {
-        answers::bytes(self.ask(format!("read {page} {point} {offset} {len}").as_bytes())?, "page ")
-    }
-
-    /// The held record with the least key above this one; behind the least key, `Key::default()`, all come in turn.
-    pub fn next(&mut self, key: Key) -> Result<Option<Held>, Error> {
-        answers::held(self.ask(format!("next {} {}", key.epoch, key.number).as_bytes())?)
-    }
-
-    /// What the complete point waits for; nothing where no record is held above it.
-    pub fn gap(&mut self) -> Result<Option<Gap>, Error> {
-        answers::gap(self.ask(b"gap")?)
-    }
-
-    // Gossip
-
-    /// What the segment has, as bytes for any other one.
-    ///
-    /// Errors: `TooLong`.
-    pub fn summary(&mut self) -> Result<Vec<u8>, Error> {
-        answers::bytes(self.ask(b"ask")?, "summary ")
-    }
-
-    /// What the segment has beyond a summary of another one, as bytes for that one.
-    ///
-    /// Errors: `Wire` where the bytes are no summary, `Broken` and `TooLong`.
-    pub fn reply(&mut self, summary: &[u8]) -> Result<Vec<u8>, Error> {
-        answers::bytes(self.ask(&requests::answer(summary))?, "delta ")
-    }
-
-    /// The same, if the reply has at most so many bytes. Where it has more, a snapshot brings the other segment what it lacks, by `unite`.
-    ///
-    /// Errors: those of `reply`, and `Large`.
-    pub fn reply_within(&mut self, summary: &[u8], most: u32) -> Result<Vec<u8>, Error> {
-        answers::bytes(self.ask(&requests::within(summary, most))?, "delta ")
-    }
-
-    /// Takes the reply to a summary of this segment.
-    ///
-    /// Errors: `Uncovered` where the segment has lost since what the summary told, `Refused`, and `Wire`.
-    pub fn absorb(&mut self, summary: &[u8], delta: &[u8]) -> Result<(), Error> {
-        self.put(&requests::absorb(summary, delta), "absorbed")
-    }
-
-    // Room
-
-    /// Brings a page's image to the anchor.
-    ///
-    /// Errors: `Broken`.
-    pub fn fold(&mut self, page: u16) -> Result<(), Error> {
-        self.put(format!("fold {page}").as_bytes(), "folded")
-    }
-
-    /// Forgets what is folded.
-    pub fn discard(&mut self) -> Result<(), Error> {
-        self.put(b"discard", "discarded")
-    }
-
-    /// Folds each page, and forgets all that is not needed any more.
-    ///
-    /// Errors: `Broken`.
-    pub fn tidy(&mut self) -> Result<(), Error> {
-        self.put(b"tidy", "tidied")
-    }
-
-    // Snapshots
-
-    /// Keeps a snapshot until the next one, and says how many pieces it has. A name is at most 2^48 - 1.
-    ///
-    /// Errors: `Snapshot` and `BadRequest`.
-    pub fn freeze(&mut self, name: u64) -> Result<u32, Error> {
-        answers::frozen(self.ask(format!("freeze {name}").as_bytes())?)
-    }
-
-    /// A piece of the kept snapshot, from 0.
-    ///
-    /// Errors: `Snapshot` and `TooLong`.
-    pub fn piece(&mut self, index: u32) -> Result<Vec<u8>, Error> {
-        answers::bytes(self.ask(format!("piece {index}").as_bytes())?, "piece ")
-    }
-
-    /// Begins a staging for so many pieces of a snapshot of that name, in place of an older staging.
-    ///
-    /// Errors: `BadRequest`.
-    pub fn stage(&mut self, name: u64, total: u32) -> Result<(), Error> {
-        self.put(&requests::stage(name, total), "staged")
-    }
-
-    /// Adds a piece to the staging, in any order.
-    ///
-    /// Errors: `Staging`, and `Wire`.
-    pub fn add(&mut self, piece: &[u8]) -> Result<(), Error> {
-        self.put(&requests::add(piece), "added")
-    }
-
-    /// Puts the segment of the staged pieces in place of the segment.
-    ///
-    /// Errors: `Staging`.
-    pub fn finish(&mut self) -> Result<(), Error> {
-        self.put(&requests::finish(), "restored")
-    }
-
-    /// Joins the segment of the staged pieces into the segment, which so loses nothing.
-    ///
-    /// Errors: `Staging`, and `Refused`.
-    pub fn unite(&mut self) -> Result<(), Error> {
-        self.put(&requests::unite(), "united")
     }
 }
 
@@ -344,11 +145,11 @@ impl Drop for Node {
 #[cfg(test)]
 mod tests {
     use super::*;
-    use crate::{Front, Patch, Record, Refused, Taken};
     use std::os::fd::AsFd;
     use std::panic::{catch_unwind, AssertUnwindSafe};
     use std::sync::mpsc;
     use std::time::Duration;
+    use yieldcleat_client::{Front, Patch, Record, Refused, Taken, MOST};
 
     extern "C" {
         fn fcntl(descriptor: i32, command: i32, argument: i32) -> i32;

@@ -6,7 +6,7 @@ use std::io::{BufReader, Read};
 use std::os::unix::fs::symlink;
 use std::path::{Path, PathBuf};
 use std::process::{Child, ChildStdin, ChildStdout, Command, Stdio};
-use yieldcleat::{frames, requests, Advance, Node, Patch, Record};
+use yieldcleat::{frames, requests, Advance, Calls, Node, Patch, Record};
 
 /// A folder for the files of a server, which goes with the test.
 struct Folder(PathBuf);

@@ -3,7 +3,7 @@
 use std::io::Write;
 use std::os::unix::net::UnixStream;
 use std::thread;
-use yieldcleat::{frames, requests, Advance, Error, Front, Gap, Key, Node, Patch, ReadFault, Record, Refused, SnapshotFault};
+use yieldcleat::{frames, requests, Advance, Calls, Error, Front, Gap, Key, Node, Patch, ReadFault, Record, Refused, SnapshotFault};
 use yieldcleat::{StagingFault, Status, Taken, Truncation, Uncovered, WireFault};
 
 /// Record `number` of one chain over four pages, writing its number's last byte.

@@ -4,7 +4,7 @@ use std::fs;
 use std::os::unix::net::UnixStream;
 use std::path::PathBuf;
 use std::thread;
-use yieldcleat::{frames, requests, Error, Node, Patch, Record, Store, StoreError};
+use yieldcleat::{frames, requests, Calls, Error, Node, Patch, Record, Store, StoreError};
 
 /// A node behind a stream that answers a request by `memory` each time that `lacks` says so of the number of requests so far.
 fn lacking(mut lacks: impl FnMut(u64) -> bool + Send + 'static) -> Node {

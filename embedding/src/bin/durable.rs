@@ -16,7 +16,7 @@ use std::process::{Child, ChildStdin, ChildStdout, Command, Stdio};
 use std::time::Duration;
 use std::{env, thread};
 use yieldcleat::frames::{self, Next};
-use yieldcleat::{requests, Advance, Node, Patch, Record, Store, StoreError, PAGE_LEN};
+use yieldcleat::{requests, Advance, Calls, Node, Patch, Record, Store, StoreError, PAGE_LEN};
 
 type Failed = Box<dyn std::error::Error>;
 

@@ -8,7 +8,7 @@ use std::process::Command;
 use std::time::Duration;
 use std::{env, process};
 use yieldcleat::frames::{self, Next};
-use yieldcleat::{Advance, Node, Patch, Record, Truncation, PAGE_LEN};
+use yieldcleat::{Advance, Calls, Node, Patch, Record, Truncation, PAGE_LEN};
 
 type Failed = Box<dyn std::error::Error>;
 

@@ -4,7 +4,7 @@
 
 use std::env;
 use std::time::Instant;
-use yieldcleat::{Error, Node, Patch, Record, Taken};
+use yieldcleat::{Calls, Error, Node, Patch, Record, Taken};
 
 type Failed = Box<dyn std::error::Error>;
 

@@ -11,12 +11,12 @@
 
 use super::errors::StoreError;
 use crate::crc32c::crc32c;
-use crate::frames;
 use std::collections::hash_map::RandomState;
 use std::fs::File;
 use std::hash::{BuildHasher, Hasher};
 use std::io::{BufReader, Read, Seek, SeekFrom};
 use std::path::{Path, PathBuf};
+use yieldcleat_client::frames;
 
 const HEADER: usize = 36;
 const HEAD: usize = 20;

@@ -16,7 +16,16 @@ const DRAFT: &str = ".draft";
 pub struct Folder {
     path: PathBuf,
     /// Held for as long as the store is open.
-    _lock: File,
+    lock: File,
+}
+
+impl Drop for Folder {
+    /// A process that is being started has a copy of the descriptor until it runs its own program, and with it the lock: closing ours
+    /// does not free it. So it is unlocked.
+    fn drop(&mut self) {
+        // An error leaves what closing it does.
+        let _ = self.lock.unlock();
+    }
 }
 
 impl Folder {
@@ -32,7 +41,7 @@ impl Folder {
         let name = path.join("lock");
         let lock = OpenOptions::new().create(true).truncate(false).write(true).open(&name).map_err(StoreError::io(&name))?;
         match lock.try_lock() {
-            Ok(()) => Ok(Folder { path: path.to_path_buf(), _lock: lock }),
+            Ok(()) => Ok(Folder { path: path.to_path_buf(), lock }),
             Err(TryLockError::WouldBlock) => Err(StoreError::Locked { folder: path.to_path_buf() }),
             Err(TryLockError::Error(error)) => Err(StoreError::io(&name)(error)),
         }
@@ -40,6 +49,11 @@ impl Folder {
 
     pub fn path(&self, kind: Kind, generation: u64) -> PathBuf {
         self.path.join(format!("{}.{generation}", kind.name()))
+    }
+
+    /// The bytes of a file; none where there is no such file.
+    pub fn length(&self, kind: Kind, generation: u64) -> u64 {
+        fs::metadata(self.path(kind, generation)).map_or(0, |it| it.len())
     }
 
     /// The generation at which the store is, if it has one.

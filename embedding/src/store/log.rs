@@ -3,16 +3,18 @@
 use super::entries::{Entries, Header, Kind, Next};
 use super::errors::StoreError;
 use std::fs::{File, OpenOptions};
-use std::io::Write;
+use std::io::{self, Write};
 use std::path::{Path, PathBuf};
+use std::time::{Duration, Instant};
 
 /// A log whose entries are all on the disk, to which more are appended.
 pub struct Log {
     path: PathBuf,
     file: File,
     header: Header,
-    /// The place of the next entry.
+    /// The place of the next entry, and its offset.
     place: u64,
+    length: u64,
     entry: Vec<u8>,
 }
 
@@ -39,17 +41,38 @@ impl Log {
         }
         // The last entry may not be on the disk: its writer was killed before it could wait for that, and the system had the bytes.
         file.sync_all().map_err(StoreError::io(path))?;
-        let (path, header, place) = (path.to_path_buf(), entries.header(), entries.place());
-        Ok((Log { path, file, header, place, entry: Vec::new() }, torn))
+        let (path, header, place, length) = (path.to_path_buf(), entries.header(), entries.place(), entries.offset());
+        Ok((Log { path, file, header, place, length, entry: Vec::new() }, torn))
     }
 
-    /// Appends an entry of request frames. It is on the disk when this returns; after an error the log is of no use any more.
-    pub fn append(&mut self, requests: &[u8]) -> Result<(), StoreError> {
+    /// How many bytes the log has.
+    pub fn length(&self) -> u64 {
+        self.length
+    }
+
+    /// Appends an entry of request frames, and returns how long the disk took to have it. It is on the disk when this returns.
+    ///
+    /// Errors: `Full`, and the log is as it was; `Io` and `TooLong`, and the log is of no use any more.
+    pub fn append(&mut self, requests: &[u8]) -> Result<Duration, StoreError> {
         self.entry.clear();
         self.header.append_entry(&mut self.entry, self.place, requests)?;
-        self.file.write_all(&self.entry).and_then(|()| self.file.sync_data()).map_err(StoreError::io(&self.path))?;
+        if let Err(error) = self.file.write_all(&self.entry) {
+            return Err(self.take_back(error));
+        }
+        let begin = Instant::now();
+        self.file.sync_data().map_err(StoreError::io(&self.path))?;
         self.place += 1;
-        Ok(())
+        self.length += self.entry.len() as u64;
+        Ok(begin.elapsed())
+    }
+
+    /// Cuts off what a write has left that was refused. A flush that was refused is never tried again: the system may have dropped what
+    /// it could not write, and then says that all is well.
+    fn take_back(&mut self, error: io::Error) -> StoreError {
+        match self.file.set_len(self.length) {
+            Ok(()) if StoreError::is_full(&error) => StoreError::Full { path: self.path.clone(), error },
+            _ => StoreError::Io { path: self.path.clone(), error },
+        }
     }
 
     /// Hands the requests of each entry to `each` once more.
@@ -71,9 +94,9 @@ impl Log {
 #[cfg(test)]
 pub(super) mod tests {
     use super::*;
-    use crate::frames;
     use crate::store::folder::Folder;
     use std::{env, fs, process};
+    use yieldcleat_client::frames;
 
     /// A folder of a test, which goes with it.
     pub struct Place(PathBuf);

@@ -11,16 +11,18 @@ mod log;
 
 pub use errors::StoreError;
 
-use crate::requests::{self, Effect};
-use crate::{frames, Node};
+use crate::Node;
 use entries::{Entries, Header, Kind, Next};
 use folder::Folder;
 use log::Log;
 use std::path::Path;
+use std::time::Duration;
+use yieldcleat_client::requests::{self, Effect};
+use yieldcleat_client::{frames, Calls, Error};
 
 /// A node, and the folder from which it comes back.
 ///
-/// After an error of `answer` the store answers nothing more, since the node may have changes that the log does not have.
+/// After an error of `answer` but `Full` the store answers nothing more, since the node may have changes that the log does not have.
 pub struct Store {
     node: Node,
     folder: Folder,
@@ -28,6 +30,9 @@ pub struct Store {
     /// Nothing while a call changes the node and behind a call that has failed.
     log: Option<Log>,
     progress: Progress,
+    /// Frames of requests that have changed the node, for which the disk had no room.
+    unwritten: Vec<u8>,
+    activity: Activity,
     /// Whether the node keeps a snapshot that a checkpoint has made, and not one that a client asked for.
     is_displaced: bool,
 }
@@ -39,6 +44,22 @@ pub struct Recovery {
     pub requests: u64,
     /// How many bytes a crash had left of the log's last entry. Nobody was answered for what they had.
     pub torn: u64,
+}
+
+/// What a store has done with its files since it was opened, and how large they are.
+#[derive(Debug, Clone, Copy, Default, PartialEq, Eq)]
+pub struct Activity {
+    /// How many entries the log has had, and so flushes, and their bytes.
+    pub flushes: u64,
+    pub written: u64,
+    /// How long the last flush has taken.
+    pub last_flush: Duration,
+    /// How many snapshots have taken the place of a log.
+    pub snapshots: u64,
+    /// The bytes of the present log, and of the snapshot before it.
+    pub log: u64,
+    pub snapshot: u64,
+    pub generation: u64,
 }
 
 /// How far the log is.
@@ -83,7 +104,15 @@ impl Store {
         folder.sync()?;
         folder.remove_others(generation)?;
         let recovery = Recovery { requests: snapshot + progress.logged, torn };
-        Ok((Store { node, folder, generation, log: Some(log), progress, is_displaced: true }, recovery))
+        let activity =
+            Activity { log: log.length(), snapshot: folder.length(Kind::Snapshot, generation), generation, ..Activity::default() };
+        let (log, unwritten) = (Some(log), Vec::new());
+        Ok((Store { node, folder, generation, log, progress, unwritten, activity, is_displaced: true }, recovery))
+    }
+
+    /// What it has done with its files.
+    pub fn activity(&self) -> Activity {
+        self.activity
     }
 
     /// How many requests the log has: what is asked before the node is back, beside the snapshot.
@@ -94,18 +123,43 @@ impl Store {
     /// Asks requests in order, and returns the answer to each when all that they have changed is on the disk. A request whose first word
     /// this package does not know is a `bad request`, and so is a `many` that has one.
     ///
-    /// Errors: `Io`, `Node`, `TooLong`, and `Stopped` behind any error.
+    /// Errors: `Full`, and the node is asked nothing until there is room for what it has changed; `Io`, `Node`, `TooLong`, and `Stopped`
+    /// behind any of these three.
     pub fn answer<R: AsRef<[u8]>>(&mut self, batch: &[R]) -> Result<Vec<Vec<u8>>, StoreError> {
-        let mut log = self.log.take().ok_or(StoreError::Stopped)?;
+        self.write(Vec::new())?;
+        let log = self.log.take().ok_or(StoreError::Stopped)?;
         let (mut answers, mut changes) = (Vec::new(), Vec::new());
         for request in batch {
             answers.push(self.ask(request.as_ref(), &mut changes)?);
         }
-        if !changes.is_empty() {
-            log.append(&changes)?;
+        self.log = Some(log);
+        self.write(changes)?;
+        Ok(answers)
+    }
+
+    /// Appends these changes of the node to the log, behind those for which there was no room.
+    fn write(&mut self, changes: Vec<u8>) -> Result<(), StoreError> {
+        let mut log = self.log.take().ok_or(StoreError::Stopped)?;
+        self.unwritten.extend(changes);
+        if !self.unwritten.is_empty() {
+            let before = log.length();
+            match log.append(&self.unwritten) {
+                Ok(took) => {
+                    self.activity.last_flush = took;
+                    self.activity.flushes += 1;
+                    self.activity.written += log.length() - before;
+                    self.activity.log = log.length();
+                    self.unwritten.clear();
+                }
+                Err(error @ StoreError::Full { .. }) => {
+                    self.log = Some(log);
+                    return Err(error);
+                }
+                Err(error) => return Err(error),
+            }
         }
         self.log = Some(log);
-        Ok(answers)
+        Ok(())
     }
 
     /// Asks a request, and appends what it has changed to the frames of `changes`.
@@ -153,6 +207,7 @@ impl Store {
     /// Its errors are those of `answer`. The store goes on behind an error, unless the log has become unsure: then all calls are
     /// `Stopped`.
     pub fn checkpoint(&mut self) -> Result<(), StoreError> {
+        self.write(Vec::new())?;
         let next = self.generation + 1;
         let log = self.log.as_ref().ok_or(StoreError::Stopped)?;
         let progress = begin_behind(&self.folder, next, log, self.progress)?;
@@ -163,7 +218,15 @@ impl Store {
         self.log = None;
         snapshot.rename()?;
         self.folder.sync()?;
-        self.log = Some(Log::recover(&self.folder.path(Kind::Log, next), next, |_| Ok(()))?.0);
+        let log = Log::recover(&self.folder.path(Kind::Log, next), next, |_| Ok(()))?.0;
+        self.activity = Activity {
+            snapshots: self.activity.snapshots + 1,
+            log: log.length(),
+            snapshot: self.folder.length(Kind::Snapshot, next),
+            generation: next,
+            ..self.activity
+        };
+        self.log = Some(log);
         (self.generation, self.progress) = (next, progress);
         self.folder.remove_others(next)
     }
@@ -235,7 +298,7 @@ fn begin_behind(folder: &Folder, generation: u64, log: &Log, before: Progress) -
 fn freeze(folder: &Folder, generation: u64, node: &mut Node) -> Result<folder::Whole, StoreError> {
     match node.tidy() {
         // Only a log that is not sound has a broken chain; its snapshot is larger then.
-        Ok(()) | Err(crate::Error::Broken { .. }) => {}
+        Ok(()) | Err(Error::Broken { .. }) => {}
         Err(error) => return Err(error.into()),
     }
     let total = node.freeze(generation)?;
@@ -271,7 +334,7 @@ mod tests {
     #[test]
     fn what_the_disk_refuses_is_not_answered() {
         let place = Place::new("refused");
-        let advance = |point| requests::take(&crate::Advance { epoch: 0, reader: 1, point }.encode().unwrap());
+        let advance = |point| requests::take(&yieldcleat_client::Advance { epoch: 0, reader: 1, point }.encode().unwrap());
         let mut store = Store::open(place.path(), Node::open(1).unwrap(), 1).unwrap().0;
         assert_eq!(store.answer(&[advance(1)]).unwrap(), [b"changed"]);
         store.log.as_mut().unwrap().refuse();

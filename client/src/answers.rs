@@ -1,4 +1,4 @@
-//! From the bytes of answers to values.
+//! From the bytes of answers to values. Each function reads one kind of answer, and gives the error that another answer says.
 
 use crate::errors::{Error, ReadFault, Refused, SnapshotFault, StagingFault, Uncovered, WireFault};
 
@@ -18,6 +18,14 @@ pub struct Front {
     pub complete: u64,
     /// The minimum read point.
     pub min: u64,
+}
+
+impl Front {
+    /// Whether it acknowledges a record of a sound log by its key. Only a front of the record's own epoch does: an answer `unchanged` may
+    /// be that to a dead record, and fronts of other epochs do not compare.
+    pub fn has(&self, key: Key) -> bool {
+        self.epoch == key.epoch && self.complete >= key.number
+    }
 }
 
 /// What a segment stores, in numbers.
@@ -142,6 +150,9 @@ pub fn error_of(answer: &[u8]) -> Error {
         b"too many" => Error::Snapshot(SnapshotFault::TooMany),
         b"no snapshot" => Error::Snapshot(SnapshotFault::NoSnapshot),
         b"no piece" => Error::Snapshot(SnapshotFault::NoPiece),
+        b"disk full" => Error::DiskFull,
+        b"not allowed" => Error::NotAllowed,
+        b"busy" => Error::Busy,
         _ => refused(answer)
             .map(Error::Refused)
             .or_else(|| staging(answer).map(Error::Staging))
@@ -250,8 +261,17 @@ mod tests {
     }
 
     #[test]
+    fn only_the_front_of_its_epoch_has_a_record() {
+        let front = Front { epoch: 1, complete: 5, min: 3 };
+        assert!(front.has(Key { epoch: 1, number: 5 }) && front.has(Key { epoch: 1, number: 4 }));
+        for key in [Key { epoch: 1, number: 6 }, Key { epoch: 0, number: 5 }, Key { epoch: 2, number: 5 }] {
+            assert!(!front.has(key), "{key:?}");
+        }
+    }
+
+    #[test]
     fn each_fault_has_its_error() {
-        let faults: [(&[u8], Error); 25] = [
+        let faults: [(&[u8], Error); 28] = [
             (b"memory", Error::Memory),
             (b"bad request", Error::BadRequest),
             (b"long frame", Error::LongFrame),
@@ -277,6 +297,9 @@ mod tests {
             (b"double 2", Error::Staging(StagingFault::Double { index: 2 })),
             (b"missing 0", Error::Staging(StagingFault::Missing { index: 0 })),
             (b"malformed 1", Error::Staging(StagingFault::Malformed { index: 1 })),
+            (b"disk full", Error::DiskFull),
+            (b"not allowed", Error::NotAllowed),
+            (b"busy", Error::Busy),
         ];
         for (answer, error) in faults {
             assert_eq!(error_of(answer), error);

@@ -88,7 +88,7 @@ pub enum Status {
     Other(u8),
 }
 
-/// Why a call was not carried out. Nothing has changed then, but where the segment has `Stopped` and is gone.
+/// Why a call was not carried out. Nothing has changed then, but where the segment has `Stopped` and is gone, or it is said otherwise.
 #[derive(Debug, Clone, PartialEq, Eq)]
 pub enum Error {
     Refused(Refused),
@@ -119,12 +119,25 @@ pub enum Error {
     Stopped(Option<Status>),
     /// The segment could not be started.
     NotStarted(std::io::ErrorKind),
+    /// There is no connection to the node.
+    NotConnected(std::io::ErrorKind),
+    /// The node did not answer in time. Whether the request is carried out is not known.
+    TimedOut,
+    /// The connection has ended. Whether the request is carried out is not known.
+    Lost(std::io::ErrorKind),
+    /// The node's disk is full: what the request changes is not acknowledged. The same request may succeed later.
+    DiskFull,
+    /// The node does not carry out this request for a client.
+    NotAllowed,
+    /// The node has as many connections as it takes, or it is about to end.
+    Busy,
     /// An answer that this package does not know.
     Strange(Vec<u8>),
 }
 
 impl Status {
-    pub(crate) fn of(number: u8) -> Status {
+    /// That of the archive's call.
+    pub fn of(number: u8) -> Status {
         match number {
             0 => Status::InputEnded,
             4 => Status::OutputFailed,
@@ -160,6 +173,12 @@ impl fmt::Display for Error {
             Error::Memory => f.write_str("no memory"),
             Error::Stopped(status) => write!(f, "the segment has ended: {status:?}"),
             Error::NotStarted(kind) => write!(f, "the segment was not started: {kind}"),
+            Error::NotConnected(kind) => write!(f, "no connection: {kind}"),
+            Error::TimedOut => f.write_str("no answer in time"),
+            Error::Lost(kind) => write!(f, "the connection has ended: {kind}"),
+            Error::DiskFull => f.write_str("the node's disk is full"),
+            Error::NotAllowed => f.write_str("the node does not do this for a client"),
+            Error::Busy => f.write_str("the node is busy"),
             Error::Strange(answer) => write!(f, "an unknown answer: {}", String::from_utf8_lossy(answer)),
         }
     }

@@ -78,6 +78,11 @@ pub fn absorb(summary: &[u8], delta: &[u8]) -> Vec<u8> {
     behind(&format!("absorb {} ", summary.len()), &[summary, delta])
 }
 
+/// The image of a page brought to the anchor.
+pub fn fold(page: u16) -> Vec<u8> {
+    format!("fold {page}").into_bytes()
+}
+
 /// A staging for so many pieces of the snapshot of that name.
 pub fn stage(name: u64, total: u32) -> Vec<u8> {
     format!("stage {name} {total}").into_bytes()

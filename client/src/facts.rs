@@ -1,5 +1,6 @@
 //! Facts, and their bytes by `docs/FORMATS.md`.
 
+use crate::answers::Key;
 use std::fmt;
 
 /// The greatest log sequence number, and the greatest point.
@@ -141,6 +142,11 @@ impl Patch {
 }
 
 impl Record {
+    /// Under which a segment holds it.
+    pub fn key(&self) -> Key {
+        Key { epoch: self.epoch, number: self.number }
+    }
+
     fn check(&self) -> Result<(), Shape> {
         need(self.number >= 1 && self.number <= MOST_NUMBER, Shape::Number)?;
         need(self.back < self.number && self.block_back <= self.back, Shape::Backlink)?;

@@ -1,0 +1,190 @@
+//! A connection to a node that listens.
+
+use crate::address::Address;
+use crate::calls::Calls;
+use crate::errors::Error;
+use crate::frames::{self, Next};
+use crate::stream::Stream;
+use std::io::{self, BufReader, ErrorKind, Write};
+use std::time::Duration;
+
+/// How long a connection waits, and what it takes.
+#[derive(Debug, Clone, Copy, PartialEq, Eq)]
+pub struct Limits {
+    /// Until a TCP connection is made.
+    pub connect: Duration,
+    /// For the next bytes of an answer, and for room to send.
+    pub answer: Duration,
+    /// The most bytes of an answer.
+    pub longest: u32,
+}
+
+impl Default for Limits {
+    fn default() -> Limits {
+        Limits { connect: Duration::from_secs(5), answer: Duration::from_secs(30), longest: frames::LONGEST }
+    }
+}
+
+/// One connection to a node. After `TimedOut`, `Lost` and `LongAnswer` of a frame it is closed, and each call ends in `Lost`: open
+/// another one. Whether a request that was sent is carried out is not known then.
+#[derive(Debug)]
+pub struct Connection {
+    reader: BufReader<Stream>,
+    writer: Stream,
+    longest: u32,
+    request: Vec<u8>,
+    answer: Vec<u8>,
+    is_open: bool,
+}
+
+impl Connection {
+    /// Connects to a node.
+    ///
+    /// Its error is `NotConnected`.
+    pub fn open(address: &Address, limits: Limits) -> Result<Connection, Error> {
+        let not_connected = |error: io::Error| Error::NotConnected(error.kind());
+        Connection::over(Stream::connect(address, limits.connect).map_err(not_connected)?, limits)
+    }
+
+    /// The same over a socket that is connected.
+    ///
+    /// Its error is `NotConnected`.
+    pub fn over(stream: Stream, limits: Limits) -> Result<Connection, Error> {
+        let not_connected = |error: io::Error| Error::NotConnected(error.kind());
+        stream.set_timeouts(Some(limits.answer), Some(limits.answer)).map_err(not_connected)?;
+        let writer = stream.try_clone().map_err(not_connected)?;
+        let (request, answer) = (Vec::new(), Vec::new());
+        Ok(Connection { reader: BufReader::new(stream), writer, longest: limits.longest, request, answer, is_open: true })
+    }
+
+    /// Whether the next call has a connection to go over.
+    pub fn is_open(&self) -> bool {
+        self.is_open
+    }
+
+    /// Sends a frame, and does not wait for its answer. The caller reads one answer with `receive` for each frame that was sent, and
+    /// sends no more than the node reads without being read: a few.
+    ///
+    /// Errors: `LongFrame`, `TimedOut` and `Lost`.
+    pub fn send(&mut self, parts: &[&[u8]]) -> Result<(), Error> {
+        if !self.is_open {
+            return Err(Error::Lost(ErrorKind::NotConnected));
+        }
+        self.request.clear();
+        frames::append(&mut self.request, parts).map_err(|_| Error::LongFrame)?;
+        let sent = self.writer.write_all(&self.request);
+        sent.map_err(|error| self.close(error.kind()))
+    }
+
+    /// The next answer.
+    ///
+    /// Errors: `TimedOut`, `Lost`, and `LongAnswer` where it exceeds the limit.
+    pub fn receive(&mut self) -> Result<&[u8], Error> {
+        if !self.is_open {
+            return Err(Error::Lost(ErrorKind::NotConnected));
+        }
+        match frames::read_within(&mut self.reader, &mut self.answer, self.longest) {
+            Ok(Next::Frame) => Ok(&self.answer),
+            Ok(Next::End) => Err(self.close(ErrorKind::UnexpectedEof)),
+            Ok(Next::TooLong(_)) => {
+                self.close(ErrorKind::InvalidData);
+                Err(Error::LongAnswer)
+            }
+            Err(error) => Err(self.close(error.kind())),
+        }
+    }
+
+    /// Closes the connection, since the next bytes are no answer to the next request.
+    fn close(&mut self, kind: ErrorKind) -> Error {
+        self.is_open = false;
+        // An error says that the connection has ended already.
+        let _ = self.writer.shutdown();
+        match kind {
+            ErrorKind::WouldBlock | ErrorKind::TimedOut => Error::TimedOut,
+            other => Error::Lost(other),
+        }
+    }
+}
+
+impl Calls for Connection {
+    fn ask_parts(&mut self, parts: &[&[u8]]) -> Result<&[u8], Error> {
+        self.send(parts)?;
+        self.receive()
+    }
+}
+
+#[cfg(test)]
+mod tests {
+    use super::*;
+    use crate::answers::Front;
+    use std::io::Read;
+    use std::os::unix::net::UnixStream;
+    use std::thread;
+
+    fn pair(limits: Limits) -> (Connection, UnixStream) {
+        let (own, other) = UnixStream::pair().unwrap();
+        (Connection::over(Stream::Unix(own), limits).unwrap(), other)
+    }
+
+    fn limits(milliseconds: u64, longest: u32) -> Limits {
+        Limits { answer: Duration::from_millis(milliseconds), longest, ..Limits::default() }
+    }
+
+    #[test]
+    fn requests_are_answered() {
+        let (mut connection, mut other) = pair(Limits::default());
+        let served = thread::spawn(move || {
+            let mut frame = Vec::new();
+            while frames::read(&mut other, &mut frame).unwrap() {
+                frames::write(&mut other, if frame == b"front" { b"front 1 2 3" } else { b"bad request" }).unwrap();
+            }
+        });
+        assert_eq!(connection.front(), Ok(Front { epoch: 1, complete: 2, min: 3 }));
+        assert_eq!(connection.tidy(), Err(Error::BadRequest));
+        connection.send(&[b"fro", b"nt"]).unwrap();
+        connection.send(&[b"front"]).unwrap();
+        assert_eq!(connection.receive(), Ok(&b"front 1 2 3"[..]));
+        assert_eq!(connection.receive(), Ok(&b"front 1 2 3"[..]));
+        drop(connection);
+        served.join().unwrap();
+    }
+
+    #[test]
+    fn a_silent_node_is_given_up() {
+        let (mut connection, _other) = pair(limits(20, 100));
+        assert_eq!(connection.front(), Err(Error::TimedOut));
+        assert!(!connection.is_open());
+        assert_eq!(connection.front(), Err(Error::Lost(ErrorKind::NotConnected)));
+    }
+
+    #[test]
+    fn a_node_that_reads_nothing_is_given_up() {
+        let (mut connection, _other) = pair(limits(20, 100));
+        assert_eq!(connection.take(&vec![0; 8 << 20]), Err(Error::TimedOut));
+    }
+
+    #[test]
+    fn torn_and_long_answers_end_a_connection() {
+        for (told, error) in [
+            (&b""[..], Error::Lost(ErrorKind::UnexpectedEof)),
+            (b"\0\0\0\x05fro", Error::Lost(ErrorKind::UnexpectedEof)),
+            (b"\0\0\0\x65", Error::LongAnswer),
+            (b"\xff\xff\xff\xff", Error::LongAnswer),
+        ] {
+            let (mut connection, mut other) = pair(limits(5000, 100));
+            other.write_all(told).unwrap();
+            other.shutdown(std::net::Shutdown::Write).unwrap();
+            assert_eq!(connection.front(), Err(error));
+            assert!(!connection.is_open());
+            let mut sent = Vec::new();
+            other.read_to_end(&mut sent).unwrap();
+            assert_eq!(sent, b"\0\0\0\x05front");
+        }
+    }
+
+    #[test]
+    fn nobody_listens() {
+        let address = "unix:/nowhere/at/all".parse().unwrap();
+        assert_eq!(Connection::open(&address, Limits::default()).err(), Some(Error::NotConnected(ErrorKind::NotFound)));
+    }
+}

@@ -1,0 +1,34 @@
+//! What a database says to a storage segment and hears of it: facts, requests, answers, frames, and connections to a node.
+//!
+//! It needs the standard library alone, and no archive. [`Calls`] has the calls of a segment, whatever carries them: a [`Connection`]
+//! here, and the `Node` of `embedding/`, which has its segment inside the process.
+//!
+//! ```no_run
+//! use yieldcleat_client::{Calls, Connection, Limits, Patch, Record};
+//!
+//! # fn main() -> Result<(), Box<dyn std::error::Error>> {
+//! let mut node = Connection::open(&"unix:/run/yieldcleat/1.sock".parse()?, Limits::default())?;
+//! let record = Record { epoch: 0, number: 3, back: 0, page: 7, block_back: 0, begins_anew: false, patches: vec![Patch::write(0, b"aa")] };
+//! let front = node.store([record.encode()?.as_slice()])?;
+//! assert!(front.has(record.key()), "the front alone says that a record is stored");
+//! # Ok(())
+//! # }
+//! ```
+
+mod address;
+pub mod answers;
+mod calls;
+mod connection;
+mod errors;
+mod facts;
+pub mod frames;
+pub mod requests;
+mod stream;
+
+pub use address::{Address, BadAddress};
+pub use answers::{Front, Gap, Held, Key, State, Taken};
+pub use calls::{Calls, MOST};
+pub use connection::{Connection, Limits};
+pub use errors::{Error, ReadFault, Refused, SnapshotFault, StagingFault, Status, Uncovered, WireFault};
+pub use facts::{Advance, Fact, Patch, Record, Shape, Truncation, MOST_NUMBER, PAGE_LEN};
+pub use stream::Stream;
