@@ -1,0 +1,193 @@
+//! The thread that owns the store: requests of all connections, group commit, and the work in the background.
+//!
+//! All requests that wait are one batch: they are asked in order, and one flush puts what they have changed on the disk before any of
+//! them is answered. Between two batches the thread does one slice of the background work.
+
+use crate::housekeeping::Housekeeping;
+use crate::metrics::{Metrics, Seen};
+use std::sync::atomic::Ordering::Relaxed;
+use std::sync::mpsc::{sync_channel, Receiver, RecvTimeoutError, SyncSender};
+use std::sync::Arc;
+use std::time::Duration;
+use yieldcleat::{Store, StoreError};
+use yieldcleat_client::answers;
+
+/// The most requests of one batch, and the bytes of requests after which it takes no more.
+const MOST: usize = 4096;
+const ENOUGH: usize = 8 << 20;
+/// How often the thread looks round where no request comes.
+const PACE: Duration = Duration::from_millis(20);
+
+/// Why a request is not answered by the segment.
+#[derive(Debug, Clone, Copy, PartialEq, Eq)]
+pub enum Refusal {
+    /// The disk has no room for what a request changes.
+    DiskFull,
+    /// The server is about to end.
+    Stopped,
+}
+
+pub type Answers = Result<Vec<Vec<u8>>, Refusal>;
+
+/// Requests that are asked one after the other.
+struct Job {
+    requests: Vec<Vec<u8>>,
+    reply: SyncSender<Answers>,
+}
+
+enum Message {
+    Job(Job),
+    Stop,
+}
+
+/// How other threads ask the segment. The queue has a bound: who asks waits for a place in it.
+#[derive(Clone)]
+pub struct Handle(SyncSender<Message>);
+
+impl Handle {
+    /// Asks requests in order, and waits until what they have changed is on the disk.
+    pub fn ask(&self, requests: Vec<Vec<u8>>) -> Answers {
+        let (reply, answers) = sync_channel(1);
+        self.0.send(Message::Job(Job { requests, reply })).map_err(|_| Refusal::Stopped)?;
+        answers.recv().unwrap_or(Err(Refusal::Stopped))
+    }
+
+    /// Ends the thread behind the requests that wait.
+    pub fn stop(&self) {
+        // An error says that it has ended.
+        let _ = self.0.send(Message::Stop);
+    }
+}
+
+pub struct Engine {
+    store: Store,
+    messages: Receiver<Message>,
+    metrics: Arc<Metrics>,
+    housekeeping: Housekeeping,
+}
+
+impl Engine {
+    pub fn new(store: Store, queue: usize, metrics: Arc<Metrics>, housekeeping: Housekeeping) -> (Engine, Handle) {
+        let (sender, messages) = sync_channel(queue);
+        (Engine { store, messages, metrics, housekeeping }, Handle(sender))
+    }
+
+    /// Answers until it is stopped.
+    ///
+    /// Errors: those of the store, but `Full`. No request of the last batch is answered then.
+    pub fn run(mut self) -> Result<(), StoreError> {
+        self.look()?;
+        loop {
+            let is_stopped = match self.messages.recv_timeout(PACE) {
+                Ok(Message::Job(job)) => {
+                    let (jobs, is_stopped) = self.gather(job);
+                    self.answer(jobs)?;
+                    is_stopped
+                }
+                Ok(Message::Stop) | Err(RecvTimeoutError::Disconnected) => true,
+                Err(RecvTimeoutError::Timeout) => false,
+            };
+            if is_stopped {
+                return self.drain();
+            }
+            if self.housekeeping.is_due() {
+                self.housekeeping.slice(&mut self.store, &self.metrics)?;
+                self.look()?;
+            }
+        }
+    }
+
+    /// What waits behind the first job, and whether the thread was told to stop.
+    fn gather(&self, first: Job) -> (Vec<Job>, bool) {
+        let size = |job: &Job| job.requests.iter().map(Vec::len).sum::<usize>();
+        let (mut count, mut bytes) = (first.requests.len(), size(&first));
+        let mut jobs = vec![first];
+        while count < MOST && bytes < ENOUGH {
+            match self.messages.try_recv() {
+                Ok(Message::Job(job)) => {
+                    count += job.requests.len();
+                    bytes += size(&job);
+                    jobs.push(job);
+                }
+                Ok(Message::Stop) => return (jobs, true),
+                Err(_) => break,
+            }
+        }
+        (jobs, false)
+    }
+
+    /// Answers all jobs behind one flush.
+    fn answer(&mut self, jobs: Vec<Job>) -> Result<(), StoreError> {
+        let batch: Vec<&Vec<u8>> = jobs.iter().flat_map(|job| &job.requests).collect();
+        let before = self.store.activity().flushes;
+        let answered = self.store.answer(&batch);
+        let activity = self.store.activity();
+        if activity.flushes > before {
+            self.metrics.flushes.observe(activity.last_flush);
+        }
+        self.metrics.batches.fetch_add(1, Relaxed);
+        self.note_room(&answered, batch.len());
+        match answered {
+            Ok(answers) => {
+                self.housekeeping.note(&batch);
+                let mut answers = answers.into_iter();
+                for job in &jobs {
+                    reply(job, Ok(answers.by_ref().take(job.requests.len()).collect()));
+                }
+                Ok(())
+            }
+            Err(StoreError::Full { .. }) => {
+                jobs.iter().for_each(|job| reply(job, Err(Refusal::DiskFull)));
+                Ok(())
+            }
+            Err(error) => Err(error),
+        }
+    }
+
+    fn note_room<T>(&self, answered: &Result<T, StoreError>, requests: usize) {
+        let is_full = matches!(answered, Err(StoreError::Full { .. }));
+        let was_full = self.metrics.is_full.swap(is_full, Relaxed);
+        match answered {
+            Err(error @ StoreError::Full { .. }) => {
+                self.metrics.refused_full.fetch_add(requests as u64, Relaxed);
+                if !was_full {
+                    crate::say(format_args!("warning: {error}: nothing is acknowledged until there is room"));
+                }
+            }
+            _ if was_full => crate::say(format_args!("there is room again")),
+            _ => {}
+        }
+    }
+
+    /// Publishes how far the segment is, if all of that is on the disk.
+    fn look(&mut self) -> Result<(), StoreError> {
+        let answered = self.store.answer(&[&b"front"[..], b"state"]);
+        self.note_room(&answered, 0);
+        let told = match answered {
+            Ok(told) => told,
+            Err(StoreError::Full { .. }) => return Ok(()),
+            Err(error) => return Err(error),
+        };
+        let (front, state) = (told.first().map(|it| answers::front(it)), told.get(1).map(|it| answers::state(it)));
+        if let (Some(Ok(front)), Some(Ok(state))) = (front, state) {
+            self.metrics.see(Seen { front, state, activity: self.store.activity() });
+        }
+        Ok(())
+    }
+
+    /// Answers what waits when the thread is told to stop.
+    fn drain(mut self) -> Result<(), StoreError> {
+        while let Ok(message) = self.messages.try_recv() {
+            if let Message::Job(job) = message {
+                let (jobs, _) = self.gather(job);
+                self.answer(jobs)?;
+            }
+        }
+        Ok(())
+    }
+}
+
+fn reply(job: &Job, answers: Answers) {
+    // An error says that the connection has ended meanwhile.
+    let _ = job.reply.send(answers);
+}

@@ -1,0 +1,82 @@
+//! Which requests of a client reach the segment.
+//!
+//! Guards belong here: what the volume protocol will ask of a node before a request is carried out (a generation that is not too old, a
+//! node that counts). There are none yet: each request that is not refused below reaches the segment.
+
+use yieldcleat_client::{frames, requests};
+
+/// What becomes of a request.
+#[derive(Debug, Clone, PartialEq, Eq)]
+pub enum Verdict {
+    /// The segment is asked this.
+    Ask(Vec<u8>),
+    /// The segment is not asked.
+    Answer(Vec<u8>),
+    /// The server tells of itself.
+    Status,
+    Metrics,
+}
+
+/// Requests that put another segment in place of the segment, and so forget facts that were acknowledged.
+const REPLACING: [&[u8]; 2] = [b"open", b"finish"];
+
+/// Judges a request. A delta has at most `most` bytes, whoever asks for it.
+pub fn judge(request: Vec<u8>, most: u32) -> Verdict {
+    match requests::word(&request) {
+        b"status" => Verdict::Status,
+        b"metrics" => Verdict::Metrics,
+        b"many" if has_replacing(&request) => Verdict::Answer(b"not allowed".to_vec()),
+        word if REPLACING.contains(&word) => Verdict::Answer(b"not allowed".to_vec()),
+        b"answer" | b"within" => Verdict::Ask(bounded(&request, most).unwrap_or(request)),
+        _ => Verdict::Ask(request),
+    }
+}
+
+fn has_replacing(many: &[u8]) -> bool {
+    let inside = many.strip_prefix(b"many ").and_then(frames::inside).unwrap_or_default();
+    inside.into_iter().any(|request| REPLACING.contains(&requests::word(request)))
+}
+
+/// The request for a delta with a limit; nothing where the segment will find its form bad.
+fn bounded(request: &[u8], most: u32) -> Option<Vec<u8>> {
+    if let Some(summary) = request.strip_prefix(b"answer ") {
+        return Some(requests::within(summary, most));
+    }
+    let rest = request.strip_prefix(b"within ")?;
+    let end = rest.iter().position(|byte| *byte == b' ')?;
+    let asked: u32 = std::str::from_utf8(&rest[..end]).ok()?.parse().ok()?;
+    (asked > most).then(|| requests::within(&rest[end + 1..], most))
+}
+
+#[cfg(test)]
+mod tests {
+    use super::*;
+
+    fn judged(request: &[u8]) -> Verdict {
+        judge(request.to_vec(), 100)
+    }
+
+    #[test]
+    fn nothing_replaces_the_segment() {
+        let refused = Verdict::Answer(b"not allowed".to_vec());
+        let many = requests::many([&b"front"[..], b"open 1"]).unwrap();
+        for request in [&b"open 1"[..], b"open", b"finish", b"finish 1", &many] {
+            assert_eq!(judged(request), refused);
+        }
+        let harmless = requests::many([&b"front"[..], b"take \x03"]).unwrap();
+        for request in [&b"front"[..], b"", b"opened", b"many x", &harmless, b"unite"] {
+            assert_eq!(judged(request), Verdict::Ask(request.to_vec()));
+        }
+        assert_eq!((judged(b"status"), judged(b"metrics")), (Verdict::Status, Verdict::Metrics));
+    }
+
+    #[test]
+    fn deltas_have_a_bound() {
+        let ask = |request: &[u8]| Verdict::Ask(request.to_vec());
+        assert_eq!(judged(b"answer \x10 \0"), ask(b"within 100 \x10 \0"));
+        assert_eq!(judged(b"within 101 \x10 \0"), ask(b"within 100 \x10 \0"));
+        for kept in [&b"within 99 \x10"[..], b"within 100 \x10", b"within x \x10", b"within", b"answer", b"within 5000000000 x"] {
+            assert_eq!(judged(kept), ask(kept));
+        }
+    }
+}

@@ -1,0 +1,185 @@
+//! What the server does between requests: it folds pages up to the minimum read point, discards what is folded, and puts a snapshot in
+//! place of a log that has grown.
+
+use crate::metrics::Metrics;
+use std::collections::hash_map::RandomState;
+use std::hash::{BuildHasher, Hasher};
+use std::sync::atomic::Ordering::Relaxed;
+use std::time::{Duration, Instant};
+use yieldcleat::{Store, StoreError};
+use yieldcleat_client::{answers, frames, requests};
+
+/// The most pages of a slice.
+const SLICE: usize = 256;
+const PAGES: usize = 1 << 16;
+/// For so long no snapshot is made behind a request for a piece of another one, which it would displace.
+const QUIET: Duration = Duration::from_secs(10);
+/// For so long no snapshot is tried behind one that failed.
+const AGAIN: Duration = Duration::from_secs(10);
+
+pub struct Housekeeping {
+    every: Duration,
+    next: Instant,
+    /// The pages that may have records to fold.
+    pages: Vec<bool>,
+    /// Whether there are such pages, and the page at which the next slice begins.
+    has_pages: bool,
+    place: usize,
+    /// The minimum read point up to which the pages before `place` are folded.
+    folded: u64,
+    /// The least bytes of the log before a snapshot.
+    snapshot_after: u64,
+    /// From 1 to 2: nodes with logs of one size make their snapshots at different times.
+    stagger: f64,
+    no_snapshot_until: Instant,
+}
+
+impl Housekeeping {
+    pub fn new(every: Duration, snapshot_after: u64) -> Housekeeping {
+        let (now, random) = (Instant::now(), RandomState::new().build_hasher().finish() >> 11);
+        Housekeeping {
+            every,
+            next: now + every,
+            pages: vec![true; PAGES],
+            has_pages: true,
+            place: 0,
+            folded: 0,
+            snapshot_after,
+            stagger: 1.0 + random as f64 / (1u64 << 53) as f64,
+            no_snapshot_until: now,
+        }
+    }
+
+    pub fn is_due(&self) -> bool {
+        Instant::now() >= self.next
+    }
+
+    /// Notes what requests may have left to fold.
+    pub fn note(&mut self, batch: &[&Vec<u8>]) {
+        for request in batch {
+            match request.strip_prefix(b"many ") {
+                Some(inside) => frames::inside(inside).unwrap_or_default().into_iter().for_each(|it| self.note_one(it)),
+                None => self.note_one(request),
+            }
+        }
+    }
+
+    fn note_one(&mut self, request: &[u8]) {
+        match requests::word(request) {
+            b"take" => {
+                if let Some(page) = page_of(request) {
+                    self.pages[usize::from(page)] = true;
+                    self.has_pages = true;
+                }
+            }
+            b"absorb" | b"unite" => {
+                self.pages.fill(true);
+                self.has_pages = true;
+            }
+            b"freeze" | b"piece" => self.no_snapshot_until = Instant::now() + QUIET,
+            _ => {}
+        }
+    }
+
+    /// One slice of the work, and perhaps a snapshot.
+    ///
+    /// Errors: those of the store, but `Full`.
+    pub fn slice(&mut self, store: &mut Store, metrics: &Metrics) -> Result<(), StoreError> {
+        let done = self.fold(store, metrics);
+        self.next = Instant::now() + self.every;
+        match done {
+            Ok(()) => self.snapshot(store),
+            Err(StoreError::Full { .. }) => Ok(()),
+            Err(error) => Err(error),
+        }
+    }
+
+    fn fold(&mut self, store: &mut Store, metrics: &Metrics) -> Result<(), StoreError> {
+        if !self.has_pages {
+            return Ok(());
+        }
+        let told = store.answer(&[b"front"])?;
+        let Some(Ok(front)) = told.first().map(|it| answers::front(it)) else {
+            return Ok(());
+        };
+        if front.min == self.folded {
+            return Ok(());
+        }
+        let chosen: Vec<usize> = (self.place..PAGES).filter(|page| self.pages[*page]).take(SLICE).collect();
+        let asked: Vec<Vec<u8>> = chosen.iter().map(|page| requests::fold(*page as u16)).collect();
+        let Ok(many) = requests::many(asked.iter().map(Vec::as_slice)) else {
+            return Ok(());
+        };
+        store.answer(&[&many[..], b"discard"])?;
+        metrics.folds.fetch_add(chosen.len() as u64, Relaxed);
+        self.go_on(&chosen, front.min);
+        Ok(())
+    }
+
+    /// The next slice begins behind this one. At the end of the pages all are folded up to the minimum that was seen.
+    ///
+    /// A page stays noted: its records above the anchor are folded when the minimum has grown.
+    fn go_on(&mut self, chosen: &[usize], min: u64) {
+        match chosen.last() {
+            Some(last) if chosen.len() == SLICE => self.place = last + 1,
+            _ => (self.place, self.folded) = (0, min),
+        }
+    }
+
+    fn snapshot(&mut self, store: &mut Store) -> Result<(), StoreError> {
+        let activity = store.activity();
+        let least = self.snapshot_after.max(2 * activity.snapshot) as f64 * self.stagger;
+        if (activity.log as f64) < least || Instant::now() < self.no_snapshot_until {
+            return Ok(());
+        }
+        let begin = Instant::now();
+        match store.checkpoint() {
+            Ok(()) => {
+                let activity = store.activity();
+                let (bytes, took) = (activity.snapshot, begin.elapsed().as_millis());
+                crate::say(format_args!("snapshot {} of {bytes} bytes took {took} ms", activity.generation));
+            }
+            Err(StoreError::Stopped) => return Err(StoreError::Stopped),
+            Err(error) => {
+                crate::say(format_args!("warning: no snapshot: {error}"));
+                self.no_snapshot_until = Instant::now() + AGAIN;
+            }
+        }
+        Ok(())
+    }
+}
+
+/// The page of the record that a request takes.
+fn page_of(take: &[u8]) -> Option<u16> {
+    let fact = take.strip_prefix(b"take ")?;
+    let page = fact.get(15..17)?.try_into().ok()?;
+    matches!(fact.first()?, 1 | 6).then(|| u16::from_be_bytes(page))
+}
+
+#[cfg(test)]
+mod tests {
+    use super::*;
+    use yieldcleat_client::{Advance, Patch, Record};
+
+    #[test]
+    fn records_name_their_pages() {
+        let record = Record { epoch: 1, number: 9, back: 8, page: 0x1234, block_back: 7, begins_anew: true, patches: vec![] };
+        assert_eq!(page_of(&requests::take(&record.encode().unwrap())), Some(0x1234));
+        let record = Record { begins_anew: false, patches: vec![Patch::write(0, b"a")], ..record };
+        assert_eq!(page_of(&requests::take(&record.encode().unwrap())), Some(0x1234));
+        let advance = Advance { epoch: 0, reader: 1, point: 1 };
+        assert_eq!(page_of(&requests::take(&advance.encode().unwrap())), None);
+        assert_eq!((page_of(b"take \x01"), page_of(b"front")), (None, None));
+    }
+
+    #[test]
+    fn slices_go_round() {
+        let mut it = Housekeeping::new(Duration::ZERO, 1);
+        assert!((1.0..2.0).contains(&it.stagger));
+        let slice: Vec<usize> = (0..SLICE).collect();
+        it.go_on(&slice, 5);
+        assert_eq!((it.place, it.folded), (SLICE, 0));
+        it.go_on(&slice[..3], 5);
+        assert_eq!((it.place, it.folded), (0, 5));
+    }
+}

@@ -1,0 +1,61 @@
+//! The little of HTTP that a scraper needs: GET of /metrics and /status.
+
+use crate::listener::Listener;
+use crate::metrics::Metrics;
+use std::io::{self, BufRead, BufReader, Read, Write};
+use std::time::Duration;
+use yieldcleat_client::Stream;
+
+/// The most bytes of a request's head, and how long it may take.
+const MOST: u64 = 8192;
+const PATIENCE: Duration = Duration::from_secs(5);
+
+/// Answers one connection after the other.
+pub fn serve(listener: &Listener, metrics: &Metrics) -> io::Result<()> {
+    loop {
+        let stream = listener.accept()?;
+        // An error is the scraper's: it has left, or stalls.
+        let _ = answer(stream, metrics);
+    }
+}
+
+fn answer(stream: Stream, metrics: &Metrics) -> io::Result<()> {
+    stream.set_timeouts(Some(PATIENCE), Some(PATIENCE))?;
+    let mut writer = stream.try_clone()?;
+    let mut reader = BufReader::new(stream.take(MOST));
+    let mut line = String::new();
+    reader.read_line(&mut line)?;
+    let reply = reply(&line, metrics);
+    // What is not read of a request resets the connection before the answer is read.
+    while !matches!(line.as_str(), "" | "\n" | "\r\n") {
+        line.clear();
+        reader.read_line(&mut line)?;
+    }
+    writer.write_all(reply.as_bytes())
+}
+
+fn reply(line: &str, metrics: &Metrics) -> String {
+    let (status, body) = match line.split(' ').collect::<Vec<_>>()[..] {
+        ["GET", "/metrics", ..] => ("200 OK", metrics.text()),
+        ["GET", "/status", ..] => ("200 OK", metrics.status()),
+        ["GET", ..] => ("404 Not Found", "there is /metrics and /status\n".to_string()),
+        _ => ("405 Method Not Allowed", "only GET\n".to_string()),
+    };
+    let kind = "text/plain; version=0.0.4; charset=utf-8";
+    format!("HTTP/1.1 {status}\r\nContent-Type: {kind}\r\nContent-Length: {}\r\nConnection: close\r\n\r\n{body}", body.len())
+}
+
+#[cfg(test)]
+mod tests {
+    use super::*;
+
+    #[test]
+    fn paths_have_their_texts() {
+        let metrics = Metrics::new(100, std::iter::empty());
+        assert!(reply("GET /metrics HTTP/1.1\r\n", &metrics).contains("yieldcleat_disk_full 0"));
+        assert!(reply("GET /status HTTP/1.1\r\n", &metrics).starts_with("HTTP/1.1 200 OK\r\n"));
+        assert!(reply("GET / HTTP/1.1\r\n", &metrics).starts_with("HTTP/1.1 404 "));
+        assert!(reply("POST /metrics HTTP/1.1\r\n", &metrics).starts_with("HTTP/1.1 405 "));
+        assert!(reply("", &metrics).starts_with("HTTP/1.1 405 "));
+    }
+}

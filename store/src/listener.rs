@@ -1,0 +1,101 @@
+//! Sockets that listen, and a thread for each connection.
+
+use std::fs;
+use std::io::{self, ErrorKind};
+use std::net::TcpListener;
+use std::os::unix::fs::FileTypeExt;
+use std::os::unix::net::{UnixListener, UnixStream};
+use std::path::{Path, PathBuf};
+use std::thread;
+use std::time::Duration;
+use yieldcleat_client::{Address, Stream};
+
+/// The stack of a connection's thread.
+pub const STACK: usize = 1 << 18;
+
+/// A socket that listens.
+pub enum Listener {
+    Unix(UnixListener, PathBuf),
+    Tcp(TcpListener),
+}
+
+impl Listener {
+    /// Listens at an address. A Unix socket that nobody listens at any more is replaced.
+    pub fn bind(address: &Address) -> io::Result<Listener> {
+        match address {
+            Address::Unix(path) => {
+                remove_stale(path)?;
+                Ok(Listener::Unix(UnixListener::bind(path)?, path.clone()))
+            }
+            Address::Tcp(text) => TcpListener::bind(text.as_str()).map(Listener::Tcp),
+        }
+    }
+
+    /// The address, with the port that the system has chosen for port 0.
+    pub fn address(&self) -> String {
+        match self {
+            Listener::Unix(_, path) => format!("unix:{}", path.display()),
+            Listener::Tcp(listener) => listener.local_addr().map_or_else(|error| error.to_string(), |it| it.to_string()),
+        }
+    }
+
+    /// Removes the file of a Unix socket, when the server ends.
+    pub fn remove(&self) {
+        if let Listener::Unix(_, path) = self {
+            // An error leaves a socket that the next start replaces.
+            let _ = fs::remove_file(path);
+        }
+    }
+
+    /// The next connection. A passing error, as too many open files, is waited out.
+    pub fn accept(&self) -> io::Result<Stream> {
+        loop {
+            let accepted = match self {
+                Listener::Unix(listener, _) => listener.accept().map(|it| Stream::Unix(it.0)),
+                Listener::Tcp(listener) => listener.accept().and_then(|it| it.0.set_nodelay(true).map(|()| Stream::Tcp(it.0))),
+            };
+            match accepted {
+                Err(error) if is_passing(&error) => thread::sleep(Duration::from_millis(50)),
+                other => return other,
+            }
+        }
+    }
+}
+
+fn is_passing(error: &io::Error) -> bool {
+    const TOO_MANY_FILES: [i32; 2] = [23, 24];
+    let is_of_client = matches!(error.kind(), ErrorKind::ConnectionAborted | ErrorKind::ConnectionReset | ErrorKind::Interrupted);
+    is_of_client || error.raw_os_error().is_some_and(|number| TOO_MANY_FILES.contains(&number)) || error.kind() == ErrorKind::InvalidInput
+}
+
+/// Removes the socket of a process that was killed. Any other file stays, and the bind fails.
+fn remove_stale(path: &Path) -> io::Result<()> {
+    let is_socket = fs::symlink_metadata(path).is_ok_and(|it| it.file_type().is_socket());
+    match is_socket.then(|| UnixStream::connect(path)) {
+        Some(Err(error)) if error.kind() == ErrorKind::ConnectionRefused => fs::remove_file(path),
+        _ => Ok(()),
+    }
+}
+
+#[cfg(test)]
+mod tests {
+    use super::*;
+
+    #[test]
+    fn a_stale_socket_is_replaced_and_no_other_file() {
+        let folder = std::env::temp_dir().join(format!("yieldcleat-listener-{}", std::process::id()));
+        let _ = fs::remove_dir_all(&folder);
+        fs::create_dir(&folder).unwrap();
+        let path = folder.join("node.sock");
+        drop(UnixListener::bind(&path).unwrap());
+        let address = Address::Unix(path.clone());
+        let listener = Listener::bind(&address).unwrap();
+        assert!(Listener::bind(&address).is_err(), "somebody listens");
+        listener.remove();
+        assert!(!path.exists());
+        fs::write(&path, "a file").unwrap();
+        assert!(Listener::bind(&address).is_err());
+        assert_eq!(fs::read(&path).unwrap(), b"a file");
+        fs::remove_dir_all(&folder).unwrap();
+    }
+}

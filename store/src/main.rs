@@ -1,0 +1,58 @@
+//! `yieldcleat-store`: one proved storage segment as a server.
+//!
+//! The segment is the archive of `crates/node_c`; nothing here is proved. `engine` owns the segment and its files, `session` and
+//! `listener` bring requests to it, `gossip` what it lacks, `housekeeping` folds and makes snapshots. `docs/OPERATING.md` is for whoever
+//! runs it.
+
+#![deny(unsafe_code)]
+
+mod budget;
+mod engine;
+mod gate;
+mod gossip;
+mod histogram;
+mod housekeeping;
+mod http;
+mod listener;
+mod metrics;
+mod options;
+mod server;
+mod session;
+#[allow(unsafe_code)]
+mod signals;
+
+use options::{Command, HELP};
+use std::fmt::Arguments;
+use std::io::{self, Write};
+use std::process::ExitCode;
+
+/// Writes a line of the server's log.
+fn say(what: Arguments) {
+    // A log that nobody reads stops nothing.
+    let _ = writeln!(io::stderr(), "yieldcleat-store: {what}");
+}
+
+fn main() -> ExitCode {
+    match Command::read(std::env::args().skip(1)) {
+        Ok(Command::Help) => print(HELP),
+        Ok(Command::Version) => print(concat!("yieldcleat-store ", env!("CARGO_PKG_VERSION"), "\n")),
+        Ok(Command::Serve(options)) => match server::run(&options) {
+            Ok(()) => ExitCode::SUCCESS,
+            Err(failure) => {
+                say(format_args!("error: {failure}"));
+                ExitCode::from(failure.status())
+            }
+        },
+        Err(bad) => {
+            say(format_args!("error: {bad}; --help shows the options"));
+            ExitCode::from(2)
+        }
+    }
+}
+
+fn print(text: &str) -> ExitCode {
+    match io::stdout().write_all(text.as_bytes()) {
+        Ok(()) => ExitCode::SUCCESS,
+        Err(_) => ExitCode::from(4),
+    }
+}
