@@ -67,16 +67,17 @@ pub trait Calls {
         Ok(taken)
     }
 
-    /// Takes facts, then asks for the front, which alone acknowledges records: `Front::has` says of one whether it is stored.
+    /// Takes facts, the last record of a sound log's among them, and says whether the segment acknowledges that one. Its front says so,
+    /// and no answer to a take: `unchanged` comes for a repeat and for a dead record.
     ///
     /// Errors: that of the first fact that is not taken; the facts before it and behind it may be.
-    fn store<'a, I>(&mut self, facts: I) -> Result<Front, Error>
+    fn store<'a, I>(&mut self, facts: I, last: Key) -> Result<bool, Error>
     where
         I: IntoIterator<Item = &'a [u8]>,
         Self: Sized,
     {
         self.take_all(facts)?.into_iter().try_for_each(|taken| taken.map(drop))?;
-        self.front()
+        Ok(self.front()?.has(last))
     }
 
     // What it knows

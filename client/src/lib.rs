@@ -9,8 +9,8 @@
 //! # fn main() -> Result<(), Box<dyn std::error::Error>> {
 //! let mut node = Connection::open(&"unix:/run/yieldcleat/1.sock".parse()?, Limits::default())?;
 //! let record = Record { epoch: 0, number: 3, back: 0, page: 7, block_back: 0, begins_anew: false, patches: vec![Patch::write(0, b"aa")] };
-//! let front = node.store([record.encode()?.as_slice()])?;
-//! assert!(front.has(record.key()), "the front alone says that a record is stored");
+//! let is_stored = node.store([record.encode()?.as_slice()], record.key())?;
+//! assert!(is_stored, "the record is on the disk of the node");
 //! # Ok(())
 //! # }
 //! ```

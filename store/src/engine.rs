@@ -8,7 +8,7 @@ use crate::metrics::{Metrics, Seen};
 use std::sync::atomic::Ordering::Relaxed;
 use std::sync::mpsc::{sync_channel, Receiver, RecvTimeoutError, SyncSender};
 use std::sync::Arc;
-use std::time::Duration;
+use std::time::{Duration, Instant};
 use yieldcleat::{Store, StoreError};
 use yieldcleat_client::answers;
 
@@ -17,6 +17,8 @@ const MOST: usize = 4096;
 const ENOUGH: usize = 8 << 20;
 /// How often the thread looks round where no request comes.
 const PACE: Duration = Duration::from_millis(20);
+/// How often it publishes how far the segment is, and tries whether there is room again.
+const LOOK: Duration = Duration::from_millis(50);
 
 /// Why a request is not answered by the segment.
 #[derive(Debug, Clone, Copy, PartialEq, Eq)]
@@ -64,12 +66,13 @@ pub struct Engine {
     messages: Receiver<Message>,
     metrics: Arc<Metrics>,
     housekeeping: Housekeeping,
+    next_look: Instant,
 }
 
 impl Engine {
     pub fn new(store: Store, queue: usize, metrics: Arc<Metrics>, housekeeping: Housekeeping) -> (Engine, Handle) {
         let (sender, messages) = sync_channel(queue);
-        (Engine { store, messages, metrics, housekeeping }, Handle(sender))
+        (Engine { store, messages, metrics, housekeeping, next_look: Instant::now() }, Handle(sender))
     }
 
     /// Answers until it is stopped.
@@ -92,7 +95,10 @@ impl Engine {
             }
             if self.housekeeping.is_due() {
                 self.housekeeping.slice(&mut self.store, &self.metrics)?;
+            }
+            if Instant::now() >= self.next_look {
                 self.look()?;
+                self.next_look = Instant::now() + LOOK;
             }
         }
     }

@@ -1,0 +1,64 @@
+/* What a disk does, preloaded into a program: it takes its time, forgets what was not flushed, and may be full.
+ *
+ * DISK_DELAY   microseconds that each flush takes before it begins
+ * DISK_FLUSHED a file to which a line is appended after each flush of a file: its length then, and its path
+ * DISK_FULL    while there is a file of this name, a write to a regular file writes half of the bytes, or says that there is no room
+ */
+typedef unsigned long size;
+typedef long offset;
+
+extern char *getenv(const char *name);
+extern unsigned long strtoul(const char *text, char **end, int base);
+extern int *__errno_location(void);
+extern void *dlsym(void *handle, const char *name);
+extern int usleep(unsigned microseconds);
+extern int access(const char *path, int mode);
+extern int snprintf(char *text, size most, const char *form, ...);
+extern offset lseek(int file, offset to, int from);
+extern long readlink(const char *path, char *text, size most);
+extern int open(const char *path, int flags, ...);
+extern int close(int file);
+
+enum { NO_ROOM = 28, APPEND = 02001 | 0100, AT_END = 2, FROM_HERE = 1 };
+
+static long real_write(int file, const void *bytes, size count) {
+    return ((long (*)(int, const void *, size))dlsym((void *)-1l, "write"))(file, bytes, count);
+}
+
+static int path_of(int file, char *path, size most) {
+    char name[40];
+    snprintf(name, sizeof name, "/proc/self/fd/%d", file);
+    long length = readlink(name, path, most - 1);
+    if (length < 0)
+        return 0;
+    path[length] = 0;
+    return 1;
+}
+
+static int flush(int file, const char *name) {
+    const char *delay = getenv("DISK_DELAY"), *flushed = getenv("DISK_FLUSHED");
+    char path[512], line[600];
+    if (delay)
+        usleep(strtoul(delay, 0, 10));
+    offset length = lseek(file, 0, AT_END);
+    int result = ((int (*)(int))dlsym((void *)-1l, name))(file);
+    if (result == 0 && flushed && length >= 0 && path_of(file, path, sizeof path)) {
+        int count = snprintf(line, sizeof line, "%ld %s\n", length, path), report = open(flushed, APPEND, 0600);
+        real_write(report, line, count);
+        close(report);
+    }
+    return result;
+}
+
+int fsync(int file) { return flush(file, "fsync"); }
+int fdatasync(int file) { return flush(file, "fdatasync"); }
+
+long write(int file, const void *bytes, size count) {
+    const char *full = getenv("DISK_FULL");
+    if (!full || file == 2 || access(full, 0) || lseek(file, 0, FROM_HERE) < 0)
+        return real_write(file, bytes, count);
+    if (count > 1)
+        return real_write(file, bytes, count / 2);
+    *__errno_location() = NO_ROOM;
+    return -1;
+}

@@ -1,0 +1,67 @@
+"""Faults that the tests of the storage server must find: each is put into a copy of its sources, which is built and tested."""
+
+import random
+import subprocess
+
+import pytest
+
+from harness import environment, stores
+from harness.shims import kit
+from test_store import check_answers, check_damage, check_full, check_kills
+
+pytestmark = pytest.mark.xdist_group("store_mutants")  # which share what is built
+
+
+def check_client(program, folder, _disk, _choose):
+    """The tests of what a client may take for an acknowledgement."""
+    settings = environment(CARGO_TARGET_DIR=program.parents[1], RATTLE_C=kit() / "c")
+    command = ["cargo", "test", "--offline", "--locked", "--test", "acknowledged"]
+    done = subprocess.run(command, cwd=folder.parent / "store", env=settings, capture_output=True, text=True, check=False)
+    assert "could not compile" not in done.stderr, done.stderr
+    assert done.returncode == 0, done.stdout[-1000:]
+
+
+LOG, STORE, CALLS, ANSWERS = "embedding/src/store/log.rs", "embedding/src/store/mod.rs", "client/src/calls.rs", "client/src/answers.rs"
+ENTRIES, ENGINE = "embedding/src/store/entries.rs", "store/src/engine.rs"
+MUTANTS = {
+    "acknowledges_before_the_flush": (LOG, "self.file.sync_data().map_err(StoreError::io(&self.path))?;", "", check_kills),
+    "counts_unchanged": (CALLS, "Ok(self.front()?.has(last))", "self.front().map(|front| front.epoch >= last.epoch)", check_client),
+    "compares_fronts_of_two_epochs": (ANSWERS, "self.epoch == key.epoch && self.complete >=", "self.complete + 1 >=", check_client),
+    "skips_the_checksum": (ENTRIES, "|| crc32c(&[bytes]) != head.sum", "", check_damage),
+    "ignores_an_answer": (STORE, ".find(|(request, answer)| !has_changed(request, answer))", ".find(|_| false)", check_answers),
+    "leaves_what_a_full_disk_took": (LOG, "match self.file.set_len(self.length) {", "match self.file.set_len(u64::MAX >> 20).or(Ok::<(), io::Error>(())) {", check_full),
+    "answers_on_a_full_disk": (ENGINE, "Err(Refusal::DiskFull))", "Ok(vec![b\"changed\".to_vec(); job.requests.len()]))", check_full),
+}
+
+
+@pytest.fixture(scope="module")
+def disk(tmp_path_factory):
+    return stores.disk(tmp_path_factory.mktemp("disk"))
+
+
+@pytest.fixture(scope="module")
+def target(tmp_path_factory):
+    return tmp_path_factory.mktemp("target")
+
+
+@pytest.mark.parametrize("name", [None, *MUTANTS], ids=lambda it: it or "none")
+def test_mutants(archive, target, disk, tmp_path, monkeypatch, seed, name):
+    stores.copy_of_packages(tmp_path)
+    checks = {check_kills, check_client, check_damage, check_answers, check_full}
+    if name:
+        file, old, new, check = MUTANTS[name]
+        text = (tmp_path / file).read_text()
+        assert text.count(old) == 1, f"{name}: {text.count(old)} places"
+        (tmp_path / file).write_text(text.replace(old, new))
+        checks = {check}
+    monkeypatch.setenv("YIELDCLEAT_ARCHIVE", str(archive.parent))
+    program = stores.build(archive, target, tmp_path, warnings=bool(name))
+    if not program:
+        pytest.skip("no cargo is on the path")
+    for check in checks:
+        choose, folder = random.Random(f"{seed} {name}"), tmp_path / check.__name__
+        if name:
+            with pytest.raises(AssertionError):
+                check(program, folder, disk, choose)
+        else:
+            check(program, folder, disk, choose)
