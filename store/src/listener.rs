@@ -2,7 +2,7 @@
 
 use std::fs;
 use std::io::{self, ErrorKind};
-use std::net::TcpListener;
+use std::net::{TcpListener, TcpStream};
 use std::os::unix::fs::FileTypeExt;
 use std::os::unix::net::{UnixListener, UnixStream};
 use std::path::{Path, PathBuf};
@@ -52,7 +52,7 @@ impl Listener {
         loop {
             let accepted = match self {
                 Listener::Unix(listener, _) => listener.accept().map(|it| Stream::Unix(it.0)),
-                Listener::Tcp(listener) => listener.accept().and_then(|it| it.0.set_nodelay(true).map(|()| Stream::Tcp(it.0))),
+                Listener::Tcp(listener) => listener.accept().map(|it| prompt(it.0)),
             };
             match accepted {
                 Err(error) if is_passing(&error) => thread::sleep(Duration::from_millis(50)),
@@ -65,7 +65,13 @@ impl Listener {
 fn is_passing(error: &io::Error) -> bool {
     const TOO_MANY_FILES: [i32; 2] = [23, 24];
     let is_of_client = matches!(error.kind(), ErrorKind::ConnectionAborted | ErrorKind::ConnectionReset | ErrorKind::Interrupted);
-    is_of_client || error.raw_os_error().is_some_and(|number| TOO_MANY_FILES.contains(&number)) || error.kind() == ErrorKind::InvalidInput
+    is_of_client || error.raw_os_error().is_some_and(|number| TOO_MANY_FILES.contains(&number))
+}
+
+/// A connection whose answers do not wait for one another. Where the system refuses that, they do.
+fn prompt(stream: TcpStream) -> Stream {
+    let _ = stream.set_nodelay(true);
+    Stream::Tcp(stream)
 }
 
 /// Removes the socket of a process that was killed. Any other file stays, and the bind fails.

@@ -21,6 +21,7 @@ Serves one storage segment from the files in DIR. ADDR is unix:PATH or HOST:PORT
   --memory-bytes N       the most bytes of requests held at a time (268435456)
   --queue N              the most requests of connections that wait for the segment (1024)
   --patience MS          how long a peer or a client may stall within a frame (30000)
+  --idle MS              how long a client may be silent between frames (3600000)
   --gossip-every MS      the pause between two rounds of gossip with a peer (200)
   --gossip-bytes N       the most bytes of a delta; a snapshot brings more (8000000)
   --fold-every MS        the pause between two slices of folding (50)
@@ -45,6 +46,7 @@ pub struct Options {
     pub memory_bytes: usize,
     pub queue: usize,
     pub patience: Duration,
+    pub idle: Duration,
     pub gossip_every: Duration,
     pub gossip_bytes: u32,
     pub fold_every: Duration,
@@ -87,7 +89,7 @@ struct Given {
     values: Vec<(String, String)>,
 }
 
-const NAMES: [&str; 14] = [
+const NAMES: [&str; 15] = [
     "--data",
     "--listen",
     "--peer",
@@ -98,6 +100,7 @@ const NAMES: [&str; 14] = [
     "--memory-bytes",
     "--queue",
     "--patience",
+    "--idle",
     "--gossip-every",
     "--gossip-bytes",
     "--fold-every",
@@ -176,6 +179,7 @@ impl Command {
             memory_bytes: given.number("--memory-bytes", 4 * longest, 4096, 1 << 40)? as usize,
             queue: given.number("--queue", 1024, 1, 1 << 20)? as usize,
             patience: given.milliseconds("--patience", 30_000)?,
+            idle: given.milliseconds("--idle", 3_600_000)?,
             gossip_every: given.milliseconds("--gossip-every", 200)?,
             gossip_bytes: given.number("--gossip-bytes", 8_000_000, 64, longest - 65_536)? as u32,
             fold_every: given.milliseconds("--fold-every", 50)?,

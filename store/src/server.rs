@@ -96,6 +96,7 @@ fn service(options: &Options, handle: &Handle, metrics: &Arc<Metrics>) -> Servic
         frame_bytes: options.frame_bytes,
         delta_bytes: options.gossip_bytes,
         patience: options.patience,
+        idle: options.idle,
         is_stopping: AtomicBool::new(false),
         busy: AtomicUsize::new(0),
     }

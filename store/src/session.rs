@@ -7,7 +7,7 @@ use crate::metrics::Metrics;
 use std::io::{self, BufRead, BufReader, ErrorKind, Read, Write};
 use std::sync::atomic::{AtomicBool, AtomicUsize, Ordering::Relaxed, Ordering::SeqCst};
 use std::sync::Arc;
-use std::time::Duration;
+use std::time::{Duration, Instant};
 use yieldcleat_client::{frames, Stream};
 
 /// What all connections share.
@@ -18,6 +18,8 @@ pub struct Service {
     pub delta_bytes: u32,
     /// How long a client may stall within a frame, and read no answer.
     pub patience: Duration,
+    /// How long it may be silent between frames.
+    pub idle: Duration,
     pub is_stopping: AtomicBool,
     /// How many connections have a request whose answer is not written.
     pub busy: AtomicUsize,
@@ -53,10 +55,11 @@ pub fn serve(stream: Stream, service: &Service) -> io::Result<()> {
     Ok(())
 }
 
-/// Waits for the first byte of a frame, as long as it takes. The result says whether there is one.
+/// Waits for the first byte of a frame. The result says whether there is one: the client may have left, or been silent for too long.
 fn wait(reader: &mut BufReader<Stream>, service: &Service) -> io::Result<bool> {
+    let begin = Instant::now();
     loop {
-        if service.is_stopping.load(SeqCst) {
+        if service.is_stopping.load(SeqCst) || begin.elapsed() >= service.idle {
             return Ok(false);
         }
         match reader.fill_buf() {

@@ -102,10 +102,19 @@ impl Folder {
         Ok(())
     }
 
+    /// Removes what a checkpoint to a generation has written that failed before the generation began. What cannot be removed goes with
+    /// the next one.
+    pub fn remove_drafts(&self, generation: u64) {
+        let (log, snapshot) = (self.path(Kind::Log, generation), self.path(Kind::Snapshot, generation));
+        for path in [draft_of(&snapshot), draft_of(&log), log] {
+            let _ = fs::remove_file(path);
+        }
+    }
+
     /// Begins a file of a kind, in place of an older draft of it.
     pub fn draft(&self, header: Header) -> Result<Draft, StoreError> {
         let path = self.path(header.kind, header.generation);
-        let draft = PathBuf::from(format!("{}{DRAFT}", path.display()));
+        let draft = draft_of(&path);
         let file = File::create(&draft).map_err(StoreError::io(&draft))?;
         let mut writer = BufWriter::new(file);
         writer.write_all(&header.bytes()).map_err(StoreError::io(&draft))?;
@@ -116,6 +125,13 @@ impl Folder {
     pub fn sync(&self) -> Result<(), StoreError> {
         sync(&self.path)
     }
+}
+
+/// The name under which a file is written.
+fn draft_of(path: &Path) -> PathBuf {
+    let mut name = path.as_os_str().to_owned();
+    name.push(DRAFT);
+    name.into()
 }
 
 fn sync(folder: &Path) -> Result<(), StoreError> {
@@ -179,5 +195,36 @@ pub struct Whole {
 impl Whole {
     pub fn rename(self) -> Result<(), StoreError> {
         fs::rename(&self.draft, &self.path).map_err(StoreError::io(&self.path))
+    }
+}
+
+#[cfg(test)]
+mod tests {
+    use super::super::log::tests::Place;
+    use super::*;
+
+    /// A process that is being started has a copy of each descriptor until it runs its own program.
+    #[test]
+    fn a_closed_folder_is_free_although_a_copy_of_its_lock_is_open() {
+        let place = Place::new("copies");
+        let folder = Folder::open(place.path()).unwrap();
+        let copy = folder.lock.try_clone().unwrap();
+        assert!(matches!(Folder::open(place.path()), Err(StoreError::Locked { .. })));
+        drop(folder);
+        assert!(Folder::open(place.path()).is_ok());
+        drop(copy);
+    }
+
+    #[test]
+    fn the_drafts_of_a_generation_go() {
+        let place = Place::new("drafts");
+        let folder = Folder::open(place.path()).unwrap();
+        for name in ["log.3", "log.4", "log.4.draft", "snapshot.4.draft", "other"] {
+            fs::write(place.path().join(name), "").unwrap();
+        }
+        folder.remove_drafts(4);
+        let mut names: Vec<_> = fs::read_dir(place.path()).unwrap().map(|it| it.unwrap().file_name()).collect();
+        names.sort();
+        assert_eq!(names, ["lock", "log.3", "other"]);
     }
 }

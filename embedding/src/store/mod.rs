@@ -13,7 +13,7 @@ pub use errors::StoreError;
 
 use crate::Node;
 use entries::{Entries, Header, Kind, Next};
-use folder::Folder;
+use folder::{Folder, Whole};
 use log::Log;
 use std::path::Path;
 use std::time::Duration;
@@ -204,17 +204,12 @@ impl Store {
     /// Puts a snapshot in place of the log. A crash in between leaves the older generation, whole. A snapshot that a client has frozen
     /// is lost: `piece` answers `no snapshot`.
     ///
-    /// Its errors are those of `answer`. The store goes on behind an error, unless the log has become unsure: then all calls are
-    /// `Stopped`.
+    /// Its errors are those of `answer`, but for `Full` of the new files, which is `Io`. The store goes on behind an error, and the room of
+    /// the new files is free again, unless the log has become unsure: then all calls are `Stopped`.
     pub fn checkpoint(&mut self) -> Result<(), StoreError> {
         self.write(Vec::new())?;
         let next = self.generation + 1;
-        let log = self.log.as_ref().ok_or(StoreError::Stopped)?;
-        let progress = begin_behind(&self.folder, next, log, self.progress)?;
-        self.is_displaced = true;
-        let snapshot = freeze(&self.folder, next, &mut self.node)?;
-        // The next log has its name on the disk before the snapshot has, with which the generation begins.
-        self.folder.sync()?;
+        let (snapshot, progress) = self.prepare(next).inspect_err(|_| self.folder.remove_drafts(next))?;
         self.log = None;
         snapshot.rename()?;
         self.folder.sync()?;
@@ -229,6 +224,17 @@ impl Store {
         self.log = Some(log);
         (self.generation, self.progress) = (next, progress);
         self.folder.remove_others(next)
+    }
+
+    /// Writes the files of the next generation, which begins when the snapshot has its name.
+    fn prepare(&mut self, next: u64) -> Result<(Whole, Progress), StoreError> {
+        let log = self.log.as_ref().ok_or(StoreError::Stopped)?;
+        let progress = begin_behind(&self.folder, next, log, self.progress)?;
+        self.is_displaced = true;
+        let snapshot = freeze(&self.folder, next, &mut self.node)?;
+        // The next log has its name on the disk before the snapshot has.
+        self.folder.sync()?;
+        Ok((snapshot, progress))
     }
 }
 
@@ -295,7 +301,7 @@ fn begin_behind(folder: &Folder, generation: u64, log: &Log, before: Progress) -
 }
 
 /// The snapshot with which a generation begins, as the requests that bring it back.
-fn freeze(folder: &Folder, generation: u64, node: &mut Node) -> Result<folder::Whole, StoreError> {
+fn freeze(folder: &Folder, generation: u64, node: &mut Node) -> Result<Whole, StoreError> {
     match node.tidy() {
         // Only a log that is not sound has a broken chain; its snapshot is larger then.
         Ok(()) | Err(Error::Broken { .. }) => {}
