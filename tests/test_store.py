@@ -133,6 +133,16 @@ def test_limits(store):
     assert one.ask(b"front") == b"front 0 0 0"
 
 
+def test_an_idle_client_is_left(store):
+    it = store("one", "--patience", 50, "--idle", 400).start()
+    client = it.client()
+    for _ in range(4):
+        time.sleep(0.15)
+        assert client.ask(b"front") == b"front 0 0 0"
+    assert client.answer() is None
+    assert it.ask(b"front") == b"front 0 0 0"
+
+
 def test_a_client_that_reads_nothing_stops_nobody(store):
     it = store("one", "--patience", 500).start()
     greedy, other = it.client(), it.client()

@@ -183,6 +183,22 @@ mod tests {
     }
 
     #[test]
+    fn a_node_is_reached_over_tcp() {
+        let listener = std::net::TcpListener::bind("127.0.0.1:0").unwrap();
+        let address = listener.local_addr().unwrap().to_string().parse().unwrap();
+        let served = thread::spawn(move || {
+            let (mut stream, mut frame) = (listener.accept().unwrap().0, Vec::new());
+            assert!(frames::read(&mut stream, &mut frame).unwrap());
+            frames::write(&mut stream, b"disk full").unwrap();
+            frame
+        });
+        let mut connection = Connection::open(&address, Limits::default()).unwrap();
+        assert_eq!(connection.take(&[3]), Err(Error::DiskFull));
+        assert_eq!(served.join().unwrap(), b"take \x03");
+        assert!(matches!(Connection::open(&address, Limits::default()), Err(Error::NotConnected(ErrorKind::ConnectionRefused))));
+    }
+
+    #[test]
     fn nobody_listens() {
         let address = "unix:/nowhere/at/all".parse().unwrap();
         assert_eq!(Connection::open(&address, Limits::default()).err(), Some(Error::NotConnected(ErrorKind::NotFound)));

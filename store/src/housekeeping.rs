@@ -12,8 +12,10 @@ use yieldcleat_client::{answers, frames, requests};
 /// The most pages of a slice.
 const SLICE: usize = 256;
 const PAGES: usize = 1 << 16;
-/// For so long no snapshot is made behind a request for a piece of another one, which it would displace.
+/// For so long no snapshot is made behind a request for a piece of another one, which it would displace; unless the log has this many
+/// times the bytes after which it is due.
 const QUIET: Duration = Duration::from_secs(10);
+const OVERDUE: f64 = 4.0;
 /// For so long no snapshot is tried behind one that failed.
 const AGAIN: Duration = Duration::from_secs(10);
 
@@ -22,16 +24,18 @@ pub struct Housekeeping {
     next: Instant,
     /// The pages that may have records to fold.
     pages: Vec<bool>,
-    /// Whether there are such pages, and the page at which the next slice begins.
+    /// Whether there are such pages, and the page at which the next slice begins: 0 between two rounds.
     has_pages: bool,
     place: usize,
-    /// The minimum read point up to which the pages before `place` are folded.
+    /// The anchor up to which all pages are folded, and that at which the present round over the pages began.
     folded: u64,
+    aim: u64,
     /// The least bytes of the log before a snapshot.
     snapshot_after: u64,
     /// From 1 to 2: nodes with logs of one size make their snapshots at different times.
     stagger: f64,
-    no_snapshot_until: Instant,
+    quiet_until: Instant,
+    again_at: Instant,
 }
 
 impl Housekeeping {
@@ -44,9 +48,11 @@ impl Housekeeping {
             has_pages: true,
             place: 0,
             folded: 0,
+            aim: 0,
             snapshot_after,
             stagger: 1.0 + random as f64 / (1u64 << 53) as f64,
-            no_snapshot_until: now,
+            quiet_until: now,
+            again_at: now,
         }
     }
 
@@ -76,7 +82,7 @@ impl Housekeeping {
                 self.pages.fill(true);
                 self.has_pages = true;
             }
-            b"freeze" | b"piece" => self.no_snapshot_until = Instant::now() + QUIET,
+            b"freeze" | b"piece" => self.quiet_until = Instant::now() + QUIET,
             _ => {}
         }
     }
@@ -98,11 +104,14 @@ impl Housekeeping {
         if !self.has_pages {
             return Ok(());
         }
-        let told = store.answer(&[b"front"])?;
-        let Some(Ok(front)) = told.first().map(|it| answers::front(it)) else {
+        let told = store.answer(&[b"state"])?;
+        let Some(Ok(state)) = told.first().map(|it| answers::state(it)) else {
             return Ok(());
         };
-        if front.min == self.folded {
+        if self.place == 0 {
+            self.aim = state.anchor;
+        }
+        if self.aim == self.folded {
             return Ok(());
         }
         let chosen: Vec<usize> = (self.place..PAGES).filter(|page| self.pages[*page]).take(SLICE).collect();
@@ -112,27 +121,25 @@ impl Housekeeping {
         };
         store.answer(&[&many[..], b"discard"])?;
         metrics.folds.fetch_add(chosen.len() as u64, Relaxed);
-        self.go_on(&chosen, front.min);
+        self.go_on(&chosen);
         Ok(())
     }
 
-    /// The next slice begins behind this one. At the end of the pages all are folded up to the minimum that was seen.
-    ///
-    /// A page stays noted: its records above the anchor are folded when the minimum has grown.
-    fn go_on(&mut self, chosen: &[usize], min: u64) {
+    /// The next slice begins behind this one. A page stays noted: its records above the anchor are folded in a later round.
+    fn go_on(&mut self, chosen: &[usize]) {
         match chosen.last() {
             Some(last) if chosen.len() == SLICE => self.place = last + 1,
-            _ => (self.place, self.folded) = (0, min),
+            _ => (self.place, self.folded) = (0, self.aim),
         }
     }
 
     fn snapshot(&mut self, store: &mut Store) -> Result<(), StoreError> {
         let activity = store.activity();
-        let least = self.snapshot_after.max(2 * activity.snapshot) as f64 * self.stagger;
-        if (activity.log as f64) < least || Instant::now() < self.no_snapshot_until {
+        let (least, begin) = (self.snapshot_after.max(2 * activity.snapshot) as f64 * self.stagger, Instant::now());
+        let due = if begin < self.quiet_until { OVERDUE * least } else { least };
+        if (activity.log as f64) < due || begin < self.again_at {
             return Ok(());
         }
-        let begin = Instant::now();
         match store.checkpoint() {
             Ok(()) => {
                 let activity = store.activity();
@@ -142,7 +149,7 @@ impl Housekeeping {
             Err(StoreError::Stopped) => return Err(StoreError::Stopped),
             Err(error) => {
                 crate::say(format_args!("warning: no snapshot: {error}"));
-                self.no_snapshot_until = Instant::now() + AGAIN;
+                self.again_at = Instant::now() + AGAIN;
             }
         }
         Ok(())
@@ -177,9 +184,10 @@ mod tests {
         let mut it = Housekeeping::new(Duration::ZERO, 1);
         assert!((1.0..2.0).contains(&it.stagger));
         let slice: Vec<usize> = (0..SLICE).collect();
-        it.go_on(&slice, 5);
+        it.aim = 5;
+        it.go_on(&slice);
         assert_eq!((it.place, it.folded), (SLICE, 0));
-        it.go_on(&slice[..3], 5);
+        it.go_on(&slice[..3]);
         assert_eq!((it.place, it.folded), (0, 5));
     }
 }

@@ -131,9 +131,12 @@ class Store:
 
     def refused(self):
         """The status of a start that is to fail, and the last line of its log."""
-        status = self.run().process.wait(SECONDS)
+        before = self.log().count("ready\n")
+        self.run()
+        assert until(lambda: self.process.poll() is not None or self.log().count("ready\n") > before)
+        assert self.process.poll() is not None, "it serves"
         assert "panicked" not in self.log()
-        return status, self.log().splitlines()[-1]
+        return self.process.returncode, self.log().splitlines()[-1]
 
     def close(self):
         if self.process and self.process.poll() is None:
