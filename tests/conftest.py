@@ -8,7 +8,7 @@ from pathlib import Path
 
 import pytest
 
-from harness import shims
+from harness import shims, stores
 
 ROOT = Path(__file__).resolve().parents[1]
 
@@ -122,3 +122,32 @@ def refusing(tmp_path_factory):
 def devices(tmp_path_factory):
     """Cuts reads and writes short, and has them fail."""
     return shims.Devices(tmp_path_factory.mktemp("devices"))
+
+
+# Storage servers
+
+
+@pytest.fixture(scope="session")
+def store_program(archive, tmp_path_factory):
+    made = stores.build(archive, tmp_path_factory.mktemp("store"))
+    return made or pytest.skip("no cargo is on the path")
+
+
+@pytest.fixture(scope="session")
+def disk(tmp_path_factory):
+    """Delays and reports flushes, and refuses writes."""
+    return stores.disk(tmp_path_factory.mktemp("disk"))
+
+
+@pytest.fixture
+def store(store_program, tmp_path):
+    """Makes a server of a name, with more words of its command line."""
+    made = []
+
+    def make(name="one", *words, **settings):
+        made.append(stores.Store(store_program, tmp_path / name, *words, **settings))
+        return made[-1]
+
+    yield make
+    for it in made:
+        it.close()

@@ -7,7 +7,7 @@ import pytest
 
 from harness import environment, stores
 from harness.shims import kit
-from test_store import check_answers, check_damage, check_full, check_kills
+from harness.store_checks import check_answers, check_damage, check_full, check_kills, check_lock
 
 pytestmark = pytest.mark.xdist_group("store_mutants")  # which share what is built
 
@@ -22,21 +22,17 @@ def check_client(program, folder, _disk, _choose):
 
 
 LOG, STORE, CALLS, ANSWERS = "embedding/src/store/log.rs", "embedding/src/store/mod.rs", "client/src/calls.rs", "client/src/answers.rs"
-ENTRIES, ENGINE = "embedding/src/store/entries.rs", "store/src/engine.rs"
+ENTRIES, FOLDER, ENGINE = "embedding/src/store/entries.rs", "embedding/src/store/folder.rs", "store/src/engine.rs"
 MUTANTS = {
     "acknowledges_before_the_flush": (LOG, "self.file.sync_data().map_err(StoreError::io(&self.path))?;", "", check_kills),
     "counts_unchanged": (CALLS, "Ok(self.front()?.has(last))", "self.front().map(|front| front.epoch >= last.epoch)", check_client),
     "compares_fronts_of_two_epochs": (ANSWERS, "self.epoch == key.epoch && self.complete >=", "self.complete + 1 >=", check_client),
     "skips_the_checksum": (ENTRIES, "|| crc32c(&[bytes]) != head.sum", "", check_damage),
+    "shares_a_folder": (FOLDER, "match lock.try_lock() {", "match Ok::<(), TryLockError>(()) {", check_lock),
     "ignores_an_answer": (STORE, ".find(|(request, answer)| !has_changed(request, answer))", ".find(|_| false)", check_answers),
-    "leaves_what_a_full_disk_took": (LOG, "match self.file.set_len(self.length) {", "match self.file.set_len(u64::MAX >> 20).or(Ok::<(), io::Error>(())) {", check_full),
+    "leaves_what_a_full_disk_took": (LOG, "match self.file.set_len(self.length) {", "match Ok::<(), io::Error>(()) {", check_full),
     "answers_on_a_full_disk": (ENGINE, "Err(Refusal::DiskFull))", "Ok(vec![b\"changed\".to_vec(); job.requests.len()]))", check_full),
 }
-
-
-@pytest.fixture(scope="module")
-def disk(tmp_path_factory):
-    return stores.disk(tmp_path_factory.mktemp("disk"))
 
 
 @pytest.fixture(scope="module")
@@ -47,7 +43,7 @@ def target(tmp_path_factory):
 @pytest.mark.parametrize("name", [None, *MUTANTS], ids=lambda it: it or "none")
 def test_mutants(archive, target, disk, tmp_path, monkeypatch, seed, name):
     stores.copy_of_packages(tmp_path)
-    checks = {check_kills, check_client, check_damage, check_answers, check_full}
+    checks = {check_kills, check_client, check_damage, check_answers, check_full, check_lock}
     if name:
         file, old, new, check = MUTANTS[name]
         text = (tmp_path / file).read_text()

@@ -1,0 +1,188 @@
+"""What a storage server must keep, as checks of a program: the tests run them, and run them over mutants of it, which they must find.
+
+Each check has a folder of its own, the library that plays the disk, and a generator of random numbers.
+"""
+
+import contextlib
+import threading
+import time
+
+from harness.store_files import entries, log
+from harness.stores import Store, until
+from model.facts import PAGE_LEN, Advance, Record, Write
+from model.wire import fact_bytes
+
+PAGES = 4
+
+# A log of one chain
+
+
+def written(number):
+    """What a record writes, at an offset."""
+    return 2 * (number % 500), number.to_bytes(4, "big")[2:]
+
+
+def take(number):
+    record = Record(0, number, number - 1, number % PAGES, max(0, number - PAGES), False, (Write(*written(number)),))
+    return b"take " + fact_bytes(record)
+
+
+def takes(first, last):
+    return [take(number) for number in range(first, last + 1)]
+
+
+def replayed(last, page):
+    image = bytearray(PAGE_LEN)
+    for number in range(1, last + 1):
+        if number % PAGES == page:
+            offset, data = written(number)
+            image[offset : offset + len(data)] = data
+    return b"page " + image
+
+
+def shows(client, last):
+    """Whether each page is that of a plain replay."""
+    reads = [f"read {page} {last} 0 {PAGE_LEN}".encode() for page in range(PAGES)]
+    return all(client.ask(it) == replayed(last, page) for page, it in enumerate(reads))
+
+
+def advance(point):
+    return b"take " + fact_bytes(Advance(0, 1, point))
+
+
+def told(client, requests):
+    """The answers to requests that come at once."""
+    client.send(*requests)
+    return [client.answer() for _ in requests]
+
+
+class Writer(threading.Thread):
+    """Sends records behind the acknowledged ones until its server dies, and counts what the front acknowledges."""
+
+    def __init__(self, client, last, choose):
+        super().__init__(daemon=True)
+        self.client, self.acknowledged, self.choose = client, last, choose
+
+    def run(self):
+        with contextlib.suppress(OSError):
+            while True:
+                last = self.acknowledged + self.choose.randrange(1, 30)
+                answers = told(self.client, [*takes(self.acknowledged + 1, last), advance(max(1, last // 2)), b"front"])
+                if answers[-1] is None:
+                    return
+                self.acknowledged = int(answers[-1].split()[2])
+
+
+def check_kills(program, folder, disk, choose, least=6, seconds=4):
+    """What was acknowledged is there after each kill, although all that was not flushed is gone."""
+    it = Store(program, folder, "--snapshot-after", 4096, shim=disk, DISK_DELAY=2000)
+    acknowledged, end = 0, time.monotonic() + seconds
+    try:
+        for place in range(100):
+            if place >= least and time.monotonic() > end:
+                break
+            it.start()
+            client = it.client()
+            complete = client.complete()
+            assert complete >= acknowledged, f"{acknowledged} acknowledged, {complete} there after kill {place}"
+            writer = Writer(client, complete, choose)
+            writer.start()
+            time.sleep(choose.random() * 0.2)
+            it.kill()
+            writer.join()
+            acknowledged = writer.acknowledged
+            it.lose_unflushed()
+        it.start()
+        complete = it.client().complete()
+        assert complete >= acknowledged and shows(it.client(), complete)
+        return acknowledged
+    finally:
+        it.close()
+
+
+def check_damage(program, folder, disk, choose):
+    """A byte that differs in the middle of a log is found, whichever it is, and the file stays as it is."""
+    it = Store(program, folder)
+    try:
+        it.start()
+        client = it.client()
+        for number in range(1, 6):
+            assert client.ask(take(number)) == b"changed"
+        it.kill()
+        path = it.file("log")
+        whole = path.read_bytes()
+        places = entries(whole)
+        payload = [places[3] - 1, places[4] - 2]  # bytes that the records write
+        for place in payload + choose.sample(range(places[-2]), 4):
+            text = bytearray(whole)
+            text[place] ^= 1 << choose.randrange(8)
+            path.write_bytes(text)
+            status, said = it.refused()
+            assert status == 4 and "is damaged at byte" in said, (place, status, said)
+            assert path.read_bytes() == text
+        path.write_bytes(whole)
+        it.start()
+        assert it.ask(b"front") == b"front 0 5 0"
+    finally:
+        it.close()
+
+
+def check_answers(program, folder, disk, choose):
+    """A log whose requests are not answered as they were is refused."""
+    it = Store(program, folder)
+    it.data.mkdir(parents=True)
+    try:
+        (it.data / "log.0").write_bytes(log(0, [[b"open 1"], takes(1, 3)]))
+        it.start()
+        assert it.ask(b"front") == b"front 0 3 0"
+        it.kill()
+        for wrong in (take(2), b"front", b"bogus", b"unite"):
+            text = log(0, [[b"open 1"], [*takes(1, 3), wrong], [take(4)]])
+            (it.data / "log.0").write_bytes(text)
+            status, said = it.refused()
+            assert status == 4 and "the node answers `" in said, (wrong, status, said)
+            assert (it.data / "log.0").read_bytes() == text
+    finally:
+        it.close()
+
+
+def check_full(program, folder, disk, choose):
+    """While the disk is full nothing is acknowledged; then all goes on, and what was acknowledged is there."""
+    it = Store(program, folder, shim=disk)
+    try:
+        it.start()
+        client = it.client()
+        assert told(client, takes(1, 10)) == [b"changed"] * 10
+        it.full.touch()
+        assert set(told(client, [*takes(11, 20), b"front"])) == {b"disk full"}
+        assert client.ask(b"front") == b"disk full"
+        assert b"THE DISK IS FULL" in client.ask(b"status")
+        seen = it.metrics()
+        assert seen["yieldcleat_disk_full"] == 1 and seen["yieldcleat_front_complete"] == 10
+        it.full.unlink()
+        assert until(lambda: it.metrics()["yieldcleat_disk_full"] == 0)
+        assert told(client, takes(11, 30))[-10:] == [b"changed"] * 10
+        it.full.touch()
+        assert client.ask(take(31)) == b"disk full"
+        it.kill()
+        it.full.unlink()
+        it.start()
+        assert it.client().complete() == 30 and shows(it.client(), 30)
+        assert "until there is room" in it.log() and "there is room again" in it.log()
+    finally:
+        it.close()
+
+
+def check_lock(program, folder, _disk, _choose):
+    """A second process over the same files is refused, and the first one goes on."""
+    one, other = Store(program, folder), Store(program, folder.with_name("second"))
+    try:
+        one.start()
+        assert one.ask(take(1)) == b"changed"
+        other.data = one.data
+        status, said = other.refused()
+        assert status == 3 and "is open in another store" in said
+        assert one.ask(take(2)) == b"changed" and one.ask(b"front") == b"front 0 2 0"
+    finally:
+        one.close()
+        other.close()
