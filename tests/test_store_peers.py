@@ -1,4 +1,4 @@
-"""Storage servers of `store/` that gossip with each other, and what a server tells of itself."""
+"""Storage servers of `store/` that gossip with each other, and the status and metrics of a server."""
 
 import shutil
 import signal
@@ -71,7 +71,7 @@ def test_a_stopped_peer_stops_nobody(store):
     assert equal(one, other, b"front 0 50 0")
 
 
-# What it tells
+# Status and metrics
 
 
 def test_metrics_over_http(store):

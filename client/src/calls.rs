@@ -70,7 +70,7 @@ pub trait Calls {
     /// Takes facts, the last record of a sound log's among them, and says whether the segment acknowledges that one. Its front says so,
     /// and no answer to a take: `unchanged` comes for a repeat and for a dead record.
     ///
-    /// Errors: that of the first fact that is not taken; the facts before it and behind it may be.
+    /// Errors: that of the first fact that is not taken; facts before and after it may be taken.
     fn store<'a, I>(&mut self, facts: I, last: Key) -> Result<bool, Error>
     where
         I: IntoIterator<Item = &'a [u8]>,
@@ -99,7 +99,7 @@ pub trait Calls {
         answers::bytes(self.ask(format!("read {page} {point} {offset} {len}").as_bytes())?, "page ")
     }
 
-    /// The held record with the least key above this one; behind the least key, `Key::default()`, all come in turn.
+    /// The held record with the least key above this one; from `Key::default()` on, all come in turn.
     fn next(&mut self, key: Key) -> Result<Option<Held>, Error> {
         answers::held(self.ask(format!("next {} {}", key.epoch, key.number).as_bytes())?)
     }
@@ -209,7 +209,7 @@ fn put(calls: &mut (impl Calls + ?Sized), request: &[u8], done: &str) -> Result<
     answers::done(calls.ask(request)?, done)
 }
 
-/// Asks the next requests, of these bytes behind a word: as many as one frame holds.
+/// Asks the next requests, each a word and these bytes: as many as one frame holds.
 fn ask_some<'a, I>(calls: &mut impl Calls, word: &[u8], requests: &mut Peekable<I>, mut heard: impl FnMut(&[u8])) -> Result<(), Error>
 where
     I: Iterator<Item = &'a [u8]>,

@@ -57,7 +57,7 @@ impl Connection {
         Ok(Connection { reader: BufReader::new(stream), writer, longest: limits.longest, request, answer, is_open: true })
     }
 
-    /// Whether the next call has a connection to go over.
+    /// Whether the connection can carry another call.
     pub fn is_open(&self) -> bool {
         self.is_open
     }

@@ -54,7 +54,7 @@ impl Handle {
         answers.recv().unwrap_or(Err(Refusal::Stopped))
     }
 
-    /// Ends the thread behind the requests that wait.
+    /// Ends the thread after the requests that wait.
     pub fn stop(&self) {
         // An error says that it has ended.
         let _ = self.0.send(Message::Stop);
@@ -103,7 +103,7 @@ impl Engine {
         }
     }
 
-    /// What waits behind the first job, and whether the thread was told to stop.
+    /// The first job and those that wait after it, and whether the thread has to stop.
     fn gather(&self, first: Job) -> (Vec<Job>, bool) {
         let size = |job: &Job| job.requests.iter().map(Vec::len).sum::<usize>();
         let (mut count, mut bytes) = (first.requests.len(), size(&first));
@@ -122,7 +122,7 @@ impl Engine {
         (jobs, false)
     }
 
-    /// Answers all jobs behind one flush.
+    /// Answers all jobs after one flush.
     fn answer(&mut self, jobs: Vec<Job>) -> Result<(), StoreError> {
         let batch: Vec<&Vec<u8>> = jobs.iter().flat_map(|job| &job.requests).collect();
         let before = self.store.activity().flushes;
@@ -181,7 +181,7 @@ impl Engine {
         Ok(())
     }
 
-    /// Answers what waits when the thread is told to stop.
+    /// Answers what waits when the thread has to stop.
     fn drain(mut self) -> Result<(), StoreError> {
         while let Ok(message) = self.messages.try_recv() {
             if let Message::Job(job) = message {

@@ -12,7 +12,7 @@ pub enum Verdict {
     Ask(Vec<u8>),
     /// The segment is not asked.
     Answer(Vec<u8>),
-    /// The server tells of itself.
+    /// The server reports on itself.
     Status,
     Metrics,
 }

@@ -14,20 +14,20 @@ use yieldcleat_client::{answers, frames, requests, Address, Calls, Connection, E
 
 /// How many pieces of a snapshot are on their way at a time.
 const PIECES: u32 = 16;
-/// The longest pause behind rounds that failed, and the first.
+/// The longest and the first pause after rounds that failed.
 const LONGEST_PAUSE: Duration = Duration::from_secs(5);
 const FIRST_PAUSE: Duration = Duration::from_millis(100);
 /// A delta of so many bytes at most is remembered, so that it is not absorbed twice.
 const REMEMBERED: usize = 1 << 16;
 
-/// The own segment, behind the queue of requests.
+/// The own segment, through the queue of requests.
 struct Local {
     handle: Handle,
     answer: Vec<u8>,
 }
 
 impl Local {
-    /// Asks requests behind one flush.
+    /// Asks requests that share one flush.
     fn ask_at_once(&self, requests: Vec<Vec<u8>>) -> Result<Vec<Vec<u8>>, Error> {
         self.handle.ask(requests).map_err(|refusal| match refusal {
             Refusal::DiskFull => Error::DiskFull,

@@ -12,11 +12,11 @@ use yieldcleat_client::{answers, frames, requests};
 /// The most pages of a slice.
 const SLICE: usize = 256;
 const PAGES: usize = 1 << 16;
-/// For so long no snapshot is made behind a request for a piece of another one, which it would displace; unless the log has this many
+/// For so long no snapshot is made after a request for a piece of another one, which it would displace; unless the log has this many
 /// times the bytes after which it is due.
 const QUIET: Duration = Duration::from_secs(10);
 const OVERDUE: f64 = 4.0;
-/// For so long no snapshot is tried behind one that failed.
+/// For so long no snapshot is tried after one that failed.
 const AGAIN: Duration = Duration::from_secs(10);
 
 pub struct Housekeeping {
@@ -125,7 +125,7 @@ impl Housekeeping {
         Ok(())
     }
 
-    /// The next slice begins behind this one. A page stays noted: its records above the anchor are folded in a later round.
+    /// The next slice begins after this one. A page stays noted: its records above the anchor are folded in a later round.
     fn go_on(&mut self, chosen: &[usize]) {
         match chosen.last() {
             Some(last) if chosen.len() == SLICE => self.place = last + 1,

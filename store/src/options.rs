@@ -157,7 +157,7 @@ impl Given {
 }
 
 impl Command {
-    /// Reads the words behind the program's name.
+    /// Reads the words after the program's name.
     pub fn read(words: impl Iterator<Item = String>) -> Result<Command, BadOption> {
         let words: Vec<String> = words.collect();
         if words.iter().any(|word| word == "--help" || word == "-h") {

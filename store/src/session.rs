@@ -70,7 +70,7 @@ fn wait(reader: &mut BufReader<Stream>, service: &Service) -> io::Result<bool> {
     }
 }
 
-/// The next frame, and those that have come behind it already. A connection that holds memory waits for no more of it: two of them
+/// The next frame, and those that have come with it. A connection that holds memory waits for no more of it: two of them
 /// could wait for each other.
 fn gather<'a>(reader: &mut BufReader<Stream>, service: &'a Service) -> io::Result<Vec<Frame<'a>>> {
     let mut length = [0; 4];

@@ -57,7 +57,7 @@ fn the_front_alone_acknowledges() {
         let record = record(0, number, number - 1);
         assert_eq!(node.store([record.encode().unwrap().as_slice()], record.key()), Ok(true));
     }
-    // A record behind a gap has come, and is not acknowledged until the gap is closed.
+    // A record after a gap has come, and is not acknowledged until the gap is closed.
     let (later, gap) = (record(0, 5, 4), record(0, 4, 3));
     assert_eq!(node.store([later.encode().unwrap().as_slice()], later.key()), Ok(false));
     assert_eq!(node.store([gap.encode().unwrap().as_slice()], later.key()), Ok(true));

@@ -57,7 +57,7 @@ def told(client, requests):
 
 
 class Writer(threading.Thread):
-    """Sends records behind the acknowledged ones until its server dies, and counts what the front acknowledges."""
+    """Sends records after the acknowledged ones until its server dies, and counts what the front acknowledges."""
 
     def __init__(self, client, last, choose):
         super().__init__(daemon=True)
