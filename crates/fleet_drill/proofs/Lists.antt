@@ -7,7 +7,7 @@ use Rattle.redo_core.proofs.ByPlace.{at_longer}
 use Rattle.node_threads.specs.Each.{Each}
 use Rattle.node_threads.proofs.Places.{at_more}
 
--- an item stood there before the last ones went
+-- an item was there before the last ones were removed
 pub was_at : {X : Type 0} (xs xs' ys : List X) (k : ℕ) (x : X) → xs ≡ xs' ++ ys → slice_get xs' k ≡ Some x → slice_get xs k ≡ Some x
 was_at xs xs' ys k x is e = subst (λ zs. slice_get zs k ≡ Some x) (sym is) (at_longer xs' ys k x e)
 
@@ -77,7 +77,7 @@ named_same xs n k x i is named at =
     let place : n - 1 ≡ k = omega (arith, is) in
     some_same (slice_get xs k) x i at (subst (λ m. slice_get xs m ≡ Some i) place named)
 
--- what stands in a list stands in one that is the same
+-- an item of a list is in an equal list
 pub slice_as : {X : Type 0} (xs ys : List X) (k : ℕ) (x : X) → xs ≡ ys → slice_get ys k ≡ Some x → slice_get xs k ≡ Some x
 slice_as xs ys k x same at = subst (λ zs. slice_get zs k ≡ Some x) (sym same) at
 

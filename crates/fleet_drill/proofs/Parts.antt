@@ -14,7 +14,7 @@ use Rattle.segment_core.specs.declared.answers.ReadFault.TheVariants.{Above, Bro
 use Rattle.segment_core.specs.Reading.{IsFrontAt, IsReadFault}
 use Rattle.segment_join.specs.Joining.{MeansUnion}
 use Rattle.node_lock.specs.Trail.{Entry}
-use Rattle.node_cell.specs.Kept.{KeptData, MeansTrail}
+use Rattle.node_cell.specs.Kept.{ClosedData, MeansTrail}
 use Rattle.node_cell.proofs.Places.{wider}
 use Rattle.fleet_drill.specs.Parts.{MeansPart}
 use Rattle.redo_core.proofs.ByPlace.{index_of}
@@ -58,22 +58,22 @@ never_broken roster log s page point broken number fault sound part r is =
     subst (IsReadFault part.0 part.1.0 page point) is (r roster log part.0 part.1.0 sound part.1.1)
 
 -- of the nodes so far, and of the segment's own, a part has all acknowledged facts: one node more is brought in
-pub more_kept : (roster : ℕ) (log : List Fact) (closed : List KeptData) (old new : State) (place own : ℕ) (shown : KeptData)
-    → ((n : ℕ) (c : KeptData) → ((n < place) ⊎ (n ≡ own)) → slice_get closed n ≡ Some c → MeansTrail roster log old c.trail) → shown ≡ slice_index_or closed place shown
+pub more_kept : (roster : ℕ) (log : List Fact) (closed : List ClosedData) (old new : State) (place own : ℕ) (shown : ClosedData)
+    → ((n : ℕ) (c : ClosedData) → ((n < place) ⊎ (n ≡ own)) → slice_get closed n ≡ Some c → MeansTrail roster log old c.trail) → shown ≡ slice_index_or closed place shown
     → ((trail : List Entry) → MeansTrail roster log old trail → MeansTrail roster log new trail) → MeansTrail roster log new shown.trail
-    → (n : ℕ) (c : KeptData) → ((n < place + 1) ⊎ (n ≡ own)) → slice_get closed n ≡ Some c → MeansTrail roster log new c.trail
+    → (n : ℕ) (c : ClosedData) → ((n < place + 1) ⊎ (n ≡ own)) → slice_get closed n ≡ Some c → MeansTrail roster log new c.trail
 more_kept roster log closed old new place own shown inv at keeps brings n c (inr is) e = keeps c.trail (inv n c (inr is) e)
 more_kept roster log closed old new place own shown inv at keeps brings n c (inl lt) e = ⊎_elim
     (λ (low : n < place). keeps c.trail (inv n c (inl low) e))
     (λ (high : place ≤ n).
     let is : n ≡ place = omega (arith, lt, high) in
-    subst (λ (k : KeptData). MeansTrail roster log new k.trail) (at ∙ index_of closed place c shown (subst (λ m. slice_get closed m ≡ Some c) is e)) brings)
+    subst (λ (k : ClosedData). MeansTrail roster log new k.trail) (at ∙ index_of closed place c shown (subst (λ m. slice_get closed m ≡ Some c) is e)) brings)
     (cases_lt n place)
 
 -- or it is the segment's own
-pub own_kept : (roster : ℕ) (log : List Fact) (closed : List KeptData) (old : State) (place own : ℕ)
-    → ((n : ℕ) (c : KeptData) → ((n < place) ⊎ (n ≡ own)) → slice_get closed n ≡ Some c → MeansTrail roster log old c.trail) → place ≡ own
-    → (n : ℕ) (c : KeptData) → ((n < place + 1) ⊎ (n ≡ own)) → slice_get closed n ≡ Some c → MeansTrail roster log old c.trail
+pub own_kept : (roster : ℕ) (log : List Fact) (closed : List ClosedData) (old : State) (place own : ℕ)
+    → ((n : ℕ) (c : ClosedData) → ((n < place) ⊎ (n ≡ own)) → slice_get closed n ≡ Some c → MeansTrail roster log old c.trail) → place ≡ own
+    → (n : ℕ) (c : ClosedData) → ((n < place + 1) ⊎ (n ≡ own)) → slice_get closed n ≡ Some c → MeansTrail roster log old c.trail
 own_kept roster log closed old place own inv same n c (inr is) e = inv n c (inr is) e
 own_kept roster log closed old place own inv same n c (inl lt) e = ⊎_elim
     (λ (low : n < place). inv n c (inl low) e)

@@ -1,4 +1,4 @@
--- Receipts that stand in a trail.
+-- Receipts that are in a trail.
 use Rattle.std.proofs.Common.{◌≡◌, ◌∙◌, ℕ, zero, suc, List, [], ◌∷◌, ◌++◌, map, ap, sym, subst, append_assoc, append-nil, length, arith, Option, Some, Result, Ok, Err}
 use Rattle.std.proofs.lemmas.List.{map-append}
 use Rattle.redo_core.specs.declared.refusal.Refused.{Refused}

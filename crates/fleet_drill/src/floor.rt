@@ -33,7 +33,7 @@ struct Stand<L: LogName> {
     inlet: Inlet<L>,
 }
 
-// What each stand is opened with: to how many nodes how many facts are dealt, and how many entries a trail may have.
+// The size of each stand: to how many nodes how many facts are dealt, and how many entries a trail may have.
 #[derive(Clone, Copy)]
 struct Measure {
     dealt: usize,
@@ -71,7 +71,7 @@ pub fn open_floor<L: LogName>(
     Ok(floor)
 }
 
-// A stand for each seat of the board. The floor is lent, so that no lack of memory lets it go here.
+// A stand for each seat of the board. The floor is borrowed: a path without memory then has nothing to drop here.
 fn open_stands<L: LogName>(
     alloc: Global,
     floor: &mut DrillSetup<L>,
@@ -123,7 +123,7 @@ fn open_stand<L: LogName>(
     ensures feed { IfOk result (λ s. (s.feed.inlet ≡ number) × (s.feed.sender.intake ≡ s.inlet.intake.id)) }
     ensures inlet { IfOk result (λ s. (s.inlet.node ≡ number) × (s.inlet.taker.intake ≡ s.inlet.intake.id) × (s.inlet.seat ≡ seat) × IsPassOf s.node s.inlet.pass × (s.inlet.pass.list ≡ [])) }
 {
-    // What is least to let go where memory is wanting is made first.
+    // In this order an error path has the least to drop.
     let facts = deal(alloc, number, measure.dealt, measure.facts)?;
     let (node, mut passes) = Node::<L>::open(alloc, number, 1, measure.trail)?;
     let (intake, mut senders, taker) = Intake::<L>::open(alloc, 1, measure.facts)?;

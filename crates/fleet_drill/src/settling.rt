@@ -27,7 +27,7 @@ pub fn close_all<L: LogName, R: Wait>(
     Ok(closed)
 }
 
-// Closes the nodes, the last first. They are lent, so that no lack of memory lets them go here.
+// Closes the nodes, the last first. They are borrowed: a path without memory then has nothing to drop here.
 fn close_each<L: LogName, R: Wait>(
     rt: &R,
     alloc: Global,

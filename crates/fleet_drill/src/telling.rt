@@ -10,8 +10,8 @@ use std::fmt::Write;
 /// How many bytes of a page are shown.
 const SHOWN: usize = 8;
 
-/// What is told of a drill: the number of facts, the front of each segment, the beginning of each page at the complete point of the
-/// first, and whether all mean the same. Where that point is below the first one's minimum read point, its page lines tell that.
+/// The report of a drill: the number of facts, the front of each segment, the beginning of each page at the complete point of the
+/// first, and whether all mean the same. Where that point is below the first one's minimum read point, its page lines say so.
 /// The only error is lack of memory.
 pub fn tell<L: LogName>(
     alloc: Global,
@@ -23,7 +23,7 @@ pub fn tell<L: LogName>(
     Ok(text)
 }
 
-// Appends all of it: no error path has a text to let go.
+// Appends the whole report: no error path has a text to drop.
 fn put_all<L: LogName>(
     alloc: Global,
     text: &mut String,

@@ -29,7 +29,7 @@ pub struct DrillResult<L: LogName> {
 }
 
 /// Runs the workers of a floor under a gate. It fails only if memory runs out, before the first worker starts; what is refused later
-/// stands in `refusals`.
+/// is in `refusals`.
 pub fn work<L: LogName + Send + Sync, G: Gate + Sync, R: Threads + Wait + Sync>(
     rt: &R,
     alloc: Global,

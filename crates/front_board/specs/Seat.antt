@@ -13,7 +13,7 @@ pub record SeatData : Type 0 where
 abbrev pub new_seat : TableId → ℕ → SeatData
 new_seat board nodes = record { board = board; seen = replicate nodes 0 }
 
--- A node is one of a board's nodes, which count from 1; its word stands at the place before.
+-- A node is one of a board's nodes, which count from 1; its word is at the place before.
 abbrev pub IsNode : ℕ → ℕ → Type 0
 IsNode nodes node = (0 < node) × (node ≤ nodes)
 

@@ -1,4 +1,4 @@
--- Each offer and each take keeps the rule of an intake, and what they tell where they find it full or empty.
+-- Each offer and each take keeps the rule of an intake, and what follows where they find it full or empty.
 use Rattle.std.proofs.Common.{◌≡◌, ◌≢◌, false, ℕ, ◌+◌, ◌≤◌, List, [], ◌∷◌, ◌++◌, length, ⊎_elim, refl, sym, ap, subst, ◌∙◌, arith, append_assoc, length-append, Option}
 use Rattle.std.proofs.lemmas.Grind.{common_steps}
 use Rattle.std.specs.List.{Contains}
@@ -123,7 +123,7 @@ offers n port v x is from number items views room h at =
       refl,
     )
 
--- what a refused offer tells an only sender
+-- what an only sender learns from a refused offer
 pub holds_own : (port : ℕ) (v : KnownData) → IsSender v → Learns Delivers port v (HoldsOwn v)
 holds_own port v is items views h at one =
     let fits = h.sending port v at (ap (λ u. u.sends) is) in
@@ -132,7 +132,7 @@ holds_own port v is items views h at one =
     let all : v.accepted ≡ h.taken ++ items = fits.knows ∙ (sym (h.each v.number) ∙ all_mine v.number (h.taken ++ items) mine) in
     omega (arith, ap length all, length-append h.taken items, (h.heard port v at).1)
 
--- what a take that finds nothing tells the taker
+-- what the taker learns from a take that finds nothing
 pub holds_rest : (port : ℕ) (v : KnownData) → IsTaker v → Learns Delivers port v (HoldsUntaken v)
 holds_rest port v is items views h at =
     let fits = h.taking port v at (ap (λ u. u.takes) is) in

@@ -53,7 +53,7 @@ pub numbered_first : (taken : List ParcelData) (x : ParcelData) (items : List Pa
     → x.number ≡ length (sent_by x.sender taken) + 1
 numbered_first taken x items all = search (rules, sent_by-append, mine, seam)
 
--- those that stand before others
+-- those that are before others
 pub numbered_before : (p : ℕ) (xs ys : List ParcelData) → AreNumbered (sent_by p (xs ++ ys)) → AreNumbered (sent_by p xs)
 numbered_before p xs ys all = search (rules, sent_by-append, at_longer)
 

@@ -1,4 +1,4 @@
--- Notes of what was accepted and what was taken, and what the ends of an intake can tell by what they heard.
+-- Notes of what was accepted and what was taken, and what the ends of an intake conclude from them.
 use Rattle.std.specs.Prelude.{◌≡◌, ℕ, ◌+◌, ◌≤◌, List, length}
 use Rattle.std.specs.List.{Contains}
 use Rattle.atomic_table.specs.Seated.{TableId}

@@ -3,7 +3,7 @@ use Rattle.std.specs.Prelude.{◌≡◌, ℕ, ◌+◌, ◌≤◌, ◌==◌, List
 use Rattle.std.specs.List.{Contains}
 use Rattle.named_log.specs.Places.{PlacedFact}
 
--- a fact, who sends it, and its number among that sender's parcels, from 1
+-- a fact, its sender, and its number among that sender's parcels, from 1
 pub record ParcelData : Type 0 where
   pub sender : ℕ
   pub number : ℕ

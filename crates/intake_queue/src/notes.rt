@@ -1,4 +1,4 @@
-//! Notes: what one end of an intake tells the other. A note takes no bytes.
+//! Notes: what one end of an intake learns from the other. A note has no bytes.
 ghost use Rattle.std.specs.Prelude.{◌≡◌, ◌∷◌, ◌++◌, [], length, max};
 
 use crate::intake::Intake;
@@ -51,7 +51,7 @@ impl<L: LogName> Intake<L> {
         }
     }
 
-    /// The taker hears what was accepted: from now on it finds nothing only once it has taken so much.
+    /// The taker hears what was accepted. After that it finds nothing only once it has taken so much.
     pub fn notify_taker(&self, taker: &mut TakerPass<L>, note: Note<L>)
         requires own { (taker.old.intake ≡ self.now.id) × (note.intake ≡ self.now.id) }
         ensures { taker.new ≡ record taker.old { heard = taker.old.heard ++ note.accepted } }

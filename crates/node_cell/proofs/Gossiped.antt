@@ -19,7 +19,7 @@ use Rattle.gossip_core.specs.declared.answering.Shown.{Shown}
 use Rattle.gossip_core.specs.declared.absorbing.AbsorbRefusal.{AbsorbRefusal}
 use Rattle.gossip_core.specs.declared.absorbing.AbsorbRefusal.TheVariants.{Uncovered, Refused}
 use Rattle.node_cell.specs.Kept.{MeansTrail}
-use Rattle.node_cell.specs.Gossiping.{MailData, IsSummaryOfLog, IsMail, IsFrontWithMail, IsUncoveredOfLog, RefusesMail, fault_of}
+use Rattle.node_cell.specs.Gossiping.{MailData, IsSummaryOfLog, IsMail, IsFrontWithMail, IsUncoveredThere, RefusesMail, fault_of}
 use Rattle.node_cell.proofs.Places.{wider}
 use Rattle.node_cell.proofs.Uncovering.{leaves_uncovered}
 
@@ -45,9 +45,9 @@ module _ (roster : ℕ) (log : List Fact) where
       → IsFrontWithMail roster log mail told
   front_with_mail new mail F front told own m is same = search (rules, right)
 
-  pub uncovered_of_log : (s : State) (trail : List Entry) (summary : SummaryData) (d : DeltaData) (shown : Shown) → IsSound roster log
-      → MeansTrail roster log s trail → RefusesAbsorb s summary d (Uncovered shown) → IsUncoveredOfLog roster log summary shown
-  uncovered_of_log s trail summary d shown sound k why = search (rules, leaves_uncovered)
+  pub uncovered_there : (s : State) (trail : List Entry) (summary : SummaryData) (d : DeltaData) (shown : Shown) → IsSound roster log
+      → MeansTrail roster log s trail → RefusesAbsorb s summary d (Uncovered shown) → IsUncoveredThere roster log s summary shown
+  uncovered_there s trail summary d shown sound k why = search (rules, leaves_uncovered)
 
   -- after an absorb the state means the facts that it meant and those that the mail is of
   pub both_meant : (old new : State) (trail : List Entry) (mail : MailData) (x : SummaryData) (d : DeltaData) → IsSound roster log
@@ -59,7 +59,7 @@ module _ (roster : ℕ) (log : List Fact) where
       (subst (λ e. IsAnsweredInLog roster log k.facts own.facts k.means.0 own.p old mail.summary e) (sym ed) (answered old trail mail sound k own)))
 
   pub refuses_mail : (s : State) (trail : List Entry) (mail : MailData) (x : SummaryData) (d : DeltaData) (why : AbsorbRefusal) → IsSound roster log
-      → MeansTrail roster log s trail → x ≡ mail.summary → RefusesAbsorb s x d why → RefusesMail roster log mail (fault_of why)
+      → MeansTrail roster log s trail → x ≡ mail.summary → RefusesAbsorb s x d why → RefusesMail roster log s mail (fault_of why)
   refuses_mail s trail mail x d (Uncovered shown) sound k ex why =
-      uncovered_of_log s trail mail.summary d shown sound k (subst (λ y. RefusesAbsorb s y d (Uncovered shown)) ex why)
+      uncovered_there s trail mail.summary d shown sound k (subst (λ y. RefusesAbsorb s y d (Uncovered shown)) ex why)
   refuses_mail s trail mail x d (Refused other) sound k ex why = tt

@@ -109,11 +109,11 @@ module _ (roster : ℕ) (log : List Fact) where
   keeps_still old new trail k means = record { facts = k.facts; means = means; has = k.has }
 
   pub refuses_fold : (F : List Fact) (p : Position) (s : State) (folded : Folded) (fault : CommitFault) → IsSound roster log → MeansAt roster log F p s
-      → RefusesCommit s folded fault → RefusesFold roster log folded fault
+      → RefusesCommit s folded fault → RefusesFold roster log s folded fault
   refuses_fold F p s folded (Ahead version anchor) sound means r =
       let l = log_of_sound roster log sound in (
         r.0,
         r.1,
-        record { facts = F; p = p; part = means.part; position = means.position; anchor = (anchor_law log F p s anchor l means r.2).1 },
+        record { facts = F; p = p; means = means; anchor = (anchor_law log F p s anchor l means r.2).1 },
       )
   refuses_fold F p s folded Memory sound means r = tt

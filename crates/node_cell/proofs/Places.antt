@@ -32,7 +32,7 @@ at_index log F [] i e h at = absurd cc
 at_index log F (x ∷ xs) zero e h at = let q : x ≡ e = cc in subst (λ (z : ℕ × ℕ). HasPlace log F z.1) q h.0
 at_index log F (x ∷ xs) (suc i) e h at = at_index log F xs i e h.1 at
 
--- what has the facts of a trail has those of the receipts that stand in it
+-- what has the facts of a trail has those of the receipts in it
 pub of_receipts : (log F : List Fact) (trail : List Entry) (pass : ℕ) (list : List Receipt) → HasPlaces log F trail → HasReceipts trail pass list
     → HasPlaces log F list
 of_receipts log F trail pass [] h has = tt

@@ -1,5 +1,5 @@
 -- What the calls on the state retain.
-use Rattle.std.proofs.Common.{◌≡◌, ℕ, List, [], ◌∷◌, ◌++◌, Result, Ok, Err, IfOk, OnOk, OnErr, subst, sym, ◌∙◌, append-nil}
+use Rattle.std.proofs.Common.{◌≡◌, ℕ, List, [], ◌∷◌, ◌++◌, Result, Ok, Err, IfOk, OnOk, OnErr, refl, subst, sym, ◌∙◌, append-nil}
 use Rattle.redo_core.specs.Sound.{IsSound}
 use Rattle.redo_core.specs.declared.facts.Fact.{Fact}
 use Rattle.log_theorems.proofs.Union.{left}
@@ -8,6 +8,9 @@ use Rattle.gossip_core.specs.Absorbing.{MeansBoth}
 use Rattle.segment_core.specs.Folding.{Commits}
 use Rattle.segment_core.specs.declared.fold_plan.Folded.{Folded}
 use Rattle.front_board.specs.FrontWord.{FrontData}
+use Rattle.atomic_table.specs.Seated.{TableId}
+use Rattle.node_lock.specs.Trail.{Entry}
+use Rattle.node_lock.specs.Section.{SectionData}
 use Rattle.node_cell.specs.Kept.{KeptData, MeansTrail, KeepsParts}
 use Rattle.node_cell.specs.Retaining.{RetainsParts, RunsSection, retains_own}
 use Rattle.node_cell.specs.Delivering.{TakesPlace}
@@ -58,13 +61,30 @@ module _ (roster : ℕ) (log : List Fact) where
   )
   retains_absorb mail (Err e) old new sound front same facts means = retains_same old new same facts means
 
-  -- ---- from the state that was lent
+  -- ---- of the state that the holder found
 
-  pub from_lent : (lent old new : KeptData) → lent ≡ old → RetainsParts roster log old.segment new.segment
-      → RetainsParts roster log lent.segment new.segment
-  from_lent lent old new same retains = subst (λ (k : KeptData). RetainsParts roster log k.segment new.segment) (sym same) retains
+  pub from_found : (found old new : KeptData) → found ≡ old → RetainsParts roster log old.segment new.segment
+      → RetainsParts roster log found.segment new.segment
+  from_found found old new same retains = subst (λ (k : KeptData). RetainsParts roster log k.segment new.segment) (sym same) retains
 
-  pub quiet_section : (old new : KeptData) (step : State → State → Type 0) → MeansTrail roster log old.segment old.trail
-      → RetainsParts roster log old.segment new.segment → new.trail ≡ old.trail → step old.segment new.segment → RunsSection roster log [] step
-  quiet_section old new step kept retains same does =
-      record { before = old; after = new; kept = kept; retains = retains; trail = same ∙ sym (append-nil old.trail); does = does }
+  -- the section goes from the old state to the new one
+  abbrev pub IsFrom : TableId → KeptData → KeptData → SectionData KeptData → Type 0
+  IsFrom lock old new section = section ≡ record { lock = lock; before = old; after = new }
+
+  pub is_from : (at lock : TableId) (found old new : KeptData) (section : SectionData KeptData) → at ≡ lock → found ≡ old → IsFrom at found new section
+      → IsFrom lock old new section
+  is_from at lock found old new section here same is = is ∙ (λ i. record { lock = here i; before = same i; after = new })
+
+  pub runs_section : (lock : TableId) (old new : KeptData) (section : SectionData KeptData) (entries : List Entry) (step : State → State → Type 0)
+      → IsFrom lock old new section → MeansTrail roster log old.segment old.trail → RetainsParts roster log old.segment new.segment
+      → new.trail ≡ old.trail ++ entries → step old.segment new.segment → RunsSection roster log lock entries step section
+  runs_section lock old new section entries step is kept retains grown does =
+      let runs : RunsSection roster log lock entries step (record { lock = lock; before = old; after = new }) =
+      record { own = refl; kept = kept; retains = retains; trail = grown; does = does } in
+      subst (RunsSection roster log lock entries step) (sym is) runs
+
+  pub quiet_section : (lock : TableId) (old new : KeptData) (section : SectionData KeptData) (step : State → State → Type 0) → IsFrom lock old new section
+      → MeansTrail roster log old.segment old.trail → RetainsParts roster log old.segment new.segment → new.trail ≡ old.trail
+      → step old.segment new.segment → RunsSection roster log lock [] step section
+  quiet_section lock old new section step is kept retains same does =
+      runs_section lock old new section [] step is kept retains (same ∙ sym (append-nil old.trail)) does

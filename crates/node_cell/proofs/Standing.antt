@@ -1,4 +1,4 @@
--- The receipts of a pass stand in the trail.
+-- The receipts of a pass are in the trail.
 use Rattle.std.proofs.Common.{◌≡◌, ℕ, ◌-◌, ◌<◌, List, [], ◌∷◌, Some, rules}
 use Rattle.std.specs.Prelude.{slice_get}
 use Rattle.std.specs.List.{AllByRecursion}

@@ -27,12 +27,7 @@ pub record IsFrontWith (roster : ℕ) (log : List Fact) (earlier : List (ℕ × 
 abbrev pub TakesPlace : List Fact → State → ℕ → State → Type 0
 TakesPlace log old place new = (fact : Fact) × (fact_at log place ≡ Some fact) × TakesFact old fact new
 
--- why a fact does not come into a trail of so many entries: it is full, or else memory is wanting
+-- why a fact is not appended to a trail of so many entries: the trail is full, or it is not and memory ran out
 abbrev pub RefusesEntry : ℕ → ℕ → DeliverFault → Type 0
 RefusesEntry capacity count (TrailFull shown) = (shown ≡ capacity) × (capacity ≤ count)
 RefusesEntry capacity count Memory = count < capacity
-
--- why a delivery is refused: the trail is full, or memory is wanting
-abbrev pub RefusesDelivery : ℕ → DeliverFault → Type 0
-RefusesDelivery capacity (TrailFull shown) = shown ≡ capacity
-RefusesDelivery capacity Memory = Unit {0}

@@ -11,6 +11,7 @@ use Rattle.redo_core.specs.declared.facts.Fact.{Fact}
 use Rattle.messages.specs.Summaries.{SummaryData}
 use Rattle.messages.specs.Deltas.{DeltaData}
 use Rattle.segment_theorems.specs.State.{State}
+use Rattle.segment_theorems.specs.Means.{MeansAt}
 use Rattle.segment_theorems.specs.Gossip.{Fills, IsAccounted}
 use Rattle.front_board.specs.FrontWord.{FrontData}
 use Rattle.gossip_core.specs.Summarizing.{IsSummaryOf}
@@ -36,7 +37,7 @@ pub record IsSummaryOfLog (roster : ℕ) (log : List Fact) (summary : SummaryDat
   pub meaning : IsMeaning roster facts m
   pub told : IsSummaryOf m summary
 
--- the delta has what these facts, which stand at p, have beyond the summary
+-- the delta has what these facts, whose position is p, have beyond the summary
 abbrev pub IsMailOf : List Fact → Position → MailData → Type 0
 IsMailOf facts p mail = Fills facts p (listing_of mail.summary) (filling_of mail.delta)
 
@@ -62,7 +63,7 @@ pub record IsFrontWithMail (roster : ℕ) (log : List Fact) (mail : MailData) (f
   pub epoch : front.epoch ≡ p.epoch
   pub number : front.number ≡ p.complete
 
--- the summary lists a key that facts which stand at p do not account for
+-- the summary lists a key that facts of the position p do not account for
 abbrev pub LacksKey : List Fact → Position → SummaryData → Key → Type 0
 LacksKey facts p summary key = Contains summary.keys key × (IsAccounted facts p key → ⊥)
 
@@ -71,22 +72,21 @@ abbrev pub LeavesUncovered : List Fact → Position → SummaryData → Shown �
 LeavesUncovered facts p summary (OfAnchor shown) = (shown ≡ summary.anchor) × (p.anchor < shown)
 LeavesUncovered facts p summary (OfKey key) = (summary.anchor ≤ p.anchor) × IsFirst KeyBefore (LacksKey facts p summary) key
 
--- so much one part of the log does not answer for
-pub record IsUncoveredOfLog (roster : ℕ) (log : List Fact) (summary : SummaryData) (shown : Shown) : Type 0 where
+-- a part of the log that the segment means does not answer for so much of the summary
+pub record IsUncoveredThere (roster : ℕ) (log : List Fact) (segment : State) (summary : SummaryData) (shown : Shown) : Type 0 where
   pub facts : List Fact
   pub p : Position
-  pub part : IsPart facts log
-  pub position : IsPosition roster facts p
+  pub means : MeansAt roster log facts p segment
   pub leaves : LeavesUncovered facts p summary shown
 
 -- an absorb makes the segment mean what it meant and the part that the mail is of; one that is refused leaves the segment
 abbrev pub AbsorbsMail : {X E : Type 0} → MailData → Result X E → State → State → Type 0
 AbsorbsMail mail result old new = MatchResult result (λ _. MeansBoth old mail.summary mail.delta new) (λ _. new ≡ old)
 
--- why mail is not absorbed: the segment does not answer for the summary that the delta was made for, or memory is wanting
-abbrev pub RefusesMail : ℕ → List Fact → MailData → AbsorbFault → Type 0
-RefusesMail roster log mail (Uncovered shown) = IsUncoveredOfLog roster log mail.summary shown
-RefusesMail roster log mail Memory = Unit {0}
+-- why the segment does not absorb mail: it does not answer for the summary that the delta was made for, or memory ran out
+abbrev pub RefusesMail : ℕ → List Fact → State → MailData → AbsorbFault → Type 0
+RefusesMail roster log segment mail (Uncovered shown) = IsUncoveredThere roster log segment mail.summary shown
+RefusesMail roster log segment mail Memory = Unit {0}
 
 -- what a refusal of mail of the log is for the node
 abbrev pub fault_of : AbsorbRefusal → AbsorbFault

@@ -3,12 +3,19 @@ use Rattle.std.specs.Prelude.{◌≡◌, ℕ, List, [], ◌∷◌, Some}
 use Rattle.std.specs.List.{Contains}
 use Rattle.redo_core.specs.declared.facts.Fact.{Fact}
 use Rattle.named_log.specs.Places.{fact_at}
+use Rattle.atomic_table.specs.Seated.{TableId}
 use Rattle.node_lock.specs.Trail.{Entry}
 use Rattle.segment_theorems.specs.State.{State}
 use Rattle.segment_theorems.specs.Means.{Means}
 
 -- what a segment stores, and a trail: of each acknowledged fact the number of the pass that brought it, and its place in the log
 pub record KeptData : Type 0 where
+  pub segment : State
+  pub trail : List Entry
+
+-- what a node had when it was closed, and which lock it had
+pub record ClosedData : Type 0 where
+  pub lock : TableId
   pub segment : State
   pub trail : List Entry
 

@@ -1,4 +1,4 @@
--- What receipts stand for.
+-- What receipts mean.
 use Rattle.std.specs.Prelude.{ℕ, List}
 use Rattle.std.specs.List.{AllByRecursion}
 use Rattle.node_lock.specs.Trail.{Entry, Receipt, HasReceipts}
@@ -9,7 +9,7 @@ use Rattle.node_cell.specs.Settling.{Stands}
 abbrev pub receipt_of : Receipt → ReceiptData
 receipt_of r = record { place = r.0; log_place = r.1 }
 
--- The receipts of a pass stand in each trail that has them.
+-- The receipts of a pass are at their places in each trail that has them.
 abbrev pub ReceiptsStand : Type 0
 ReceiptsStand =
     (trail : List Entry) (pass : ℕ) (list : List Receipt) → HasReceipts trail pass list → AllByRecursion (λ r. Stands trail (receipt_of r)) list

@@ -30,14 +30,14 @@ pub record ReportsRead (roster : ℕ) (log : List Fact) (places : List (ℕ × �
   pub has : HasPlaces log facts places
   pub answer : IsViewResult facts p page q result
 
--- in the trail of a state that the lock may keep, no entry of the receipt's place in the log stands at its place
+-- in the trail of a state that the lock may keep, the receipt's place has no entry of its place in the log
 pub record IsStrangerThere (roster : ℕ) (log : List Fact) (r : ReceiptData) (found : Option ℕ) : Type 0 where
   pub segment : State
   pub trail : List Entry
   pub kept : MeansTrail roster log segment trail
   pub stranger : IsForeignReceipt trail r found
 
--- the receipt's entry stands in the trail, unless it is told as a stranger, by what stands at its place
+-- the receipt's entry is in the trail, unless the answer is a stranger, with what is at its place
 abbrev pub FindsReceipt : List Entry → ReceiptData → Result ViewData ReadAfterFault → Type 0
 FindsReceipt trail r (Ok view) = Stands trail r
 FindsReceipt trail r (Err (Read fault)) = Stands trail r

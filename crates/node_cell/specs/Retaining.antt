@@ -1,8 +1,10 @@
--- What a node must not lose.
+-- What a node must not lose, and its critical sections.
 use Rattle.std.specs.Prelude.{◌≡◌, ℕ, List, ◌++◌}
 use Rattle.redo_core.specs.Sets.{IsPart}
 use Rattle.redo_core.specs.declared.facts.Fact.{Fact}
+use Rattle.atomic_table.specs.Seated.{TableId}
 use Rattle.node_lock.specs.Trail.{Entry}
+use Rattle.node_lock.specs.Section.{SectionData}
 use Rattle.segment_theorems.specs.State.{State}
 use Rattle.segment_theorems.specs.Means.{Means}
 use Rattle.node_cell.specs.Kept.{KeptData, MeansTrail}
@@ -11,15 +13,14 @@ use Rattle.node_cell.specs.Kept.{KeptData, MeansTrail}
 abbrev pub RetainsParts : ℕ → List Fact → State → State → Type 0
 RetainsParts roster log old new = (facts : List Fact) → Means roster log facts old → (more : List Fact) × IsPart facts more × Means roster log more new
 
--- One critical section of a node: the lock lent `before` and took back `after`, which retains each part of the log and has these entries
--- more in its trail; the segment made this step.
-pub record RunsSection (roster : ℕ) (log : List Fact) (entries : List Entry) (step : State → State → Type 0) : Type 0 where
-  pub before : KeptData
-  pub after : KeptData
-  pub kept : MeansTrail roster log before.segment before.trail
-  pub retains : RetainsParts roster log before.segment after.segment
-  pub trail : after.trail ≡ before.trail ++ entries
-  pub does : step before.segment after.segment
+-- The section is one of this lock. The node gave back a state that retains each part of the log and has these entries more in its trail,
+-- and the segment made this step.
+pub record RunsSection (roster : ℕ) (log : List Fact) (lock : TableId) (entries : List Entry) (step : State → State → Type 0) (section : SectionData KeptData) : Type 0 where
+  pub own : section.lock ≡ lock
+  pub kept : MeansTrail roster log section.before.segment section.before.trail
+  pub retains : RetainsParts roster log section.before.segment section.after.segment
+  pub trail : section.after.trail ≡ section.before.trail ++ entries
+  pub does : step section.before.segment section.after.segment
 
 -- each segment retains its own parts, and what the one after the next retains
 pub retains_own : (roster : ℕ) (log : List Fact) (s : State) → RetainsParts roster log s s

@@ -5,14 +5,14 @@ use thiserror::Error;
 /// Why a delivered fact is not acknowledged.
 #[derive(Clone, Copy, Debug, PartialEq, Eq, Error)]
 pub enum DeliverFault {
-    /// The trail has as many entries as it may have.
+    /// The trail has as many entries as its capacity allows.
     #[error("the trail has its {capacity} entries")]
     TrailFull { capacity: u64 },
     #[error("out of memory")]
     Memory,
 }
 
-/// A receipt's fact does not stand at the receipt's place in the trail: another place of the log stands there, or none.
+/// A receipt's fact is not at the receipt's place in the trail: the entry there has another place in the log, or there is no entry.
 #[derive(Clone, Copy, Debug, PartialEq, Eq, Error)]
 #[error("the receipt is not of this node")]
 pub struct Stranger {

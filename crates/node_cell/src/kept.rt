@@ -144,7 +144,7 @@ impl<L: LogName> Kept<L> {
         }
     }
 
-    /// The page at a read point, where the fact of a receipt stands at its place in the trail.
+    /// The page at a read point, where the fact of a receipt is at its place in the trail.
     pub(crate) fn read_after(
         &mut self,
         receipt: &Receipt<L>,
@@ -186,7 +186,7 @@ impl<L: LogName> Kept<L> {
         ensures keeps { MeansTrail L.roster L.log self.new.segment self.new.trail }
         ensures meaning { OnOk result (KeepsParts L.roster L.log self.old.segment self.new.segment) }
         ensures commits { OnOk result (Commits self.old.segment folded self.new.segment) }
-        ensures refused { IfErr result (λ e. RefusesFold L.roster L.log folded e.fault) }
+        ensures refused { IfErr result (λ e. RefusesFold L.roster L.log self.old.segment folded e.fault) }
         ensures back { IfErr result (λ e. e.value ≡ folded) }
         ensures unchanged { OnErr result (self.new ≡ self.old) }
     {
@@ -199,7 +199,7 @@ impl<L: LogName> Kept<L> {
         }
     }
 
-    /// Forgets what is folded up to the anchor.
+    /// Drops the records that are folded up to the anchor.
     pub(crate) fn discard(&mut self)
         ensures meaning { KeepsParts L.roster L.log self.old.segment self.new.segment }
         ensures discards { DiscardsJust self.old.segment self.new.segment }
@@ -209,7 +209,7 @@ impl<L: LogName> Kept<L> {
         self.segment.discard();
     }
 
-    /// What the segment tells of itself. It fails only if memory runs out.
+    /// The segment's summary. It fails only if memory runs out.
     pub(crate) fn summary(&self) -> Result<Summary, AllocError>
         ensures told { IfOk result (IsSummaryOfLog L.roster L.log) }
         ensures keeps { MeansTrail L.roster L.log self.now.segment self.now.trail }
@@ -243,7 +243,7 @@ impl<L: LogName> Kept<L> {
         ensures keeps { MeansTrail L.roster L.log self.new.segment self.new.trail }
         ensures meaning { OnOk result (MeansBoth self.old.segment mail.summary mail.delta self.new.segment) }
         ensures front { IfOk result (IsFrontWithMail L.roster L.log mail) }
-        ensures refused { IfErr result (λ e. RefusesMail L.roster L.log mail e.fault) }
+        ensures refused { IfErr result (λ e. RefusesMail L.roster L.log self.old.segment mail e.fault) }
         ensures back { IfErr result (λ e. e.value ≡ mail) }
         ensures unchanged { OnErr result (self.new ≡ self.old) }
     {
@@ -270,7 +270,7 @@ impl<L: LogName> Kept<L> {
         self.trail.as_slice()
     }
 
-    /// Whether the fact of a receipt stands at its place in the trail; else what stands there.
+    /// Whether the fact of a receipt is at its place in the trail; else what is there.
     pub(crate) fn seek(&self, receipt: &Receipt<L>) -> Result<(), Stranger>
         ensures ok { OnOk result (Stands self.now.trail receipt.now) }
         ensures err { IfErr result (λ e. IsForeignReceipt self.now.trail receipt.now e.found) }
@@ -285,14 +285,14 @@ impl<L: LogName> Kept<L> {
     }
 }
 
-// The segment with a cache, in memory of its own: each turn at the lock hands it on several times, and it is long.
+// The segment with a cache, in memory of its own: each turn at the lock moves it several times, and it is large.
 fn boxed(alloc: Global, segment: Segment) -> Result<Box<CachedSegment>, AllocError>
     ensures { IfOk result (λ b. b.value.segment ≡ segment) }
 {
     Ok(Box::new(alloc, cached(segment)?)?)
 }
 
-// What comes back with a refusal is let go here alone, where nothing else stands beside it.
+// The segment that comes back with a refusal is dropped here, where no other value has to be dropped with it.
 fn cached(segment: Segment) -> Result<CachedSegment, AllocError>
     ensures { IfOk result (λ c. c.segment ≡ segment) }
 {

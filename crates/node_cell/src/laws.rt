@@ -1,4 +1,4 @@
-//! What views and receipts stand for.
+//! What views and receipts mean.
 ghost use Rattle.std.specs.Prelude.{◌≡◌};
 ghost use Rattle.node_cell.specs.Laws.{ReceiptsStand};
 
@@ -6,7 +6,7 @@ use crate::views::View;
 use log_theorems::one_page;
 use named_log::LogName;
 
-/// The receipts of a pass stand in the trail of the closed node, so they settle.
+/// The receipts of a pass are in the trail of the closed node, so they settle.
 pub fn receipts_stand()
     ensures { ReceiptsStand }
 {}

@@ -7,8 +7,9 @@
 //! log's own page, so any two views of one epoch, page and point are equal, whichever nodes and threads gave them. A fold is the log's
 //! page at an anchor, and mail has what some part of the log has, so both fit every node of the log.
 //!
-//! A call that is refused leaves the node as it was and hands back what it was given. Each call but `open` waits for the lock; nothing
-//! is promised of when, and none holds two locks.
+//! A call that changes the node returns its answer with a `Section`: evidence of the state that it found under the lock and of the one
+//! that it left. A call that is refused leaves that state as it was and hands back its argument. Each call but `open` waits for the lock;
+//! nothing promises when, and no call has two locks.
 #![tactic(auto)]
 
 mod answers;
@@ -26,6 +27,6 @@ pub use closed::{Closed, settle};
 pub use folds::{FoldPlan, Folded};
 pub use kept::Kept;
 pub use mail::Mail;
-pub use node::{Node, Pass};
+pub use node::{Node, Pass, Section};
 pub use receipts::{Ack, Receipt};
 pub use views::View;

@@ -7,7 +7,7 @@ ghost use Rattle.node_cell.specs.Retaining.{RunsSection};
 ghost use Rattle.node_cell.specs.Reading.{ReportsRead, ReportsReadAfter};
 ghost use Rattle.node_cell.specs.Folding.{IsFoldOfLog, RefusesFold, CommitsInto, DiscardsInto};
 ghost use Rattle.node_cell.specs.Gossiping.{IsSummaryOfLog, IsMail, IsFrontWithMail, RefusesMail, AbsorbsMail};
-ghost use Rattle.node_cell.specs.Delivering.{IsFrontWith, RefusesDelivery, TakesPlace};
+ghost use Rattle.node_cell.specs.Delivering.{IsFrontWith, RefusesEntry, TakesPlace};
 
 use crate::answers::{AbsorbFault, DeliverFault, ReadAfterFault};
 use crate::closed::Closed;
@@ -26,9 +26,13 @@ use std::alloc::{AllocError, Global};
 use std::marker::Model;
 use std::sync::Wait;
 
-/// Who may deliver to a node, under its number. Contracts see the list of its receipts: of each the place in the trail and the
-/// place in the log.
+/// The right to deliver to a node, under the pass's number. Contracts see the list of its receipts: of each the place in the trail and
+/// the place in the log.
 pub type Pass<L> = node_lock::Pass<Kept<L>>;
+
+/// One critical section of a node: its state before and after. Only the node's lock makes one, so what a clause says of a section is
+/// true of the node.
+pub type Section<L> = node_lock::Section<Kept<L>>;
 
 /// A node of a log: a segment and its trail under a lock. Contracts see its number on boards, how many entries its trail may have,
 /// which lock it has and with how many passes it was opened.
@@ -78,7 +82,7 @@ impl<L: LogName> Node<L> {
     /// Takes a fact and appends it to the trail in one critical section, and then publishes the front that the node has with it.
     /// A fact that was delivered before is acknowledged with a new place.
     ///
-    /// Errors: `TrailFull` only where the trail is full; `Memory`. The fact comes back.
+    /// Errors: `TrailFull` only where the trail is full; `Memory` only where it is not. The fact comes back, and the node is as it was.
     pub fn deliver<R: Wait>(
         &self,
         rt: &R,
@@ -86,24 +90,27 @@ impl<L: LogName> Node<L> {
         board: &Board<L>,
         seat: &mut Seat<L>,
         fact: LogFact<L>,
-    ) -> Result<Ack<L>, Refused<LogFact<L>, DeliverFault>>
+    ) -> (
+        Result<Ack<L>, Refused<LogFact<L>, DeliverFault>>,
+        Section<L>,
+    )
         requires pass { IsPassOf self.now pass.old }
         requires seat { seat.old.board ≡ board.now }
         requires number { IsNode board.now.words self.now.number }
         // The receipt is for the fact's place in the log, and joins the pass's list.
-        ensures place { IfOk result (λ a. a.receipt.log_place ≡ fact.place) }
-        ensures list { IfOk result (λ a. pass.new ≡ record pass.old { list = pass.old.list ++ (a.receipt.place, a.receipt.log_place) ∷ [] }) }
-        ensures section { MatchResult result
-            (λ a. RunsSection L.roster L.log ((pass.old.number, fact.place) ∷ []) (λ old new. TakesPlace L.log old fact.place new))
-            (λ e. RunsSection L.roster L.log [] (λ old new. new ≡ old)) }
+        ensures place { IfOk result.0 (λ a. (a.receipt.log_place ≡ fact.place) × (a.receipt.place ≡ length result.1.after.trail)) }
+        ensures list { IfOk result.0 (λ a. pass.new ≡ record pass.old { list = pass.old.list ++ (a.receipt.place, a.receipt.log_place) ∷ [] }) }
+        ensures section { MatchResult result.0
+            (λ a. RunsSection L.roster L.log self.now.lock ((pass.old.number, fact.place) ∷ []) (λ old new. TakesPlace L.log old fact.place new) result.1)
+            (λ e. RunsSection L.roster L.log self.now.lock [] (λ old new. new ≡ old) result.1) }
         // The front is that of one part of the log, which has the fact and those of the pass's earlier receipts.
-        ensures front { IfOk result (λ a. IsFrontWith L.roster L.log pass.old.list fact.place a.front) }
-        ensures publishes { IfOk result (λ a. Publishes L.log seat.old.seen seat.new.seen self.now.number (word_of a.front)) }
-        ensures reached { IfOk result (λ a. word_of a.front ≤ seen_of seat.new.seen self.now.number) }
+        ensures front { IfOk result.0 (λ a. IsFrontWith L.roster L.log pass.old.list fact.place a.front) }
+        ensures publishes { IfOk result.0 (λ a. Publishes L.log seat.old.seen seat.new.seen self.now.number (word_of a.front)) }
+        ensures reached { IfOk result.0 (λ a. word_of a.front ≤ seen_of seat.new.seen self.now.number) }
         ensures board { seat.new.board ≡ seat.old.board }
-        ensures refused { IfErr result (λ e. RefusesDelivery self.now.capacity e.fault) }
-        ensures back { IfErr result (λ e. e.value ≡ fact) }
-        ensures unchanged { OnErr result ((pass.new ≡ pass.old) × (seat.new ≡ seat.old)) }
+        ensures refused { IfErr result.0 (λ e. RefusesEntry self.now.capacity (length result.1.before.trail) e.fault) }
+        ensures back { IfErr result.0 (λ e. e.value ≡ fact) }
+        ensures unchanged { OnErr result.0 ((pass.new ≡ pass.old) × (seat.new ≡ seat.old)) }
     {
         let log_place = fact.place();
         let number = pass.number();
@@ -113,14 +120,14 @@ impl<L: LogName> Node<L> {
         turn.state = kept;
         match answer {
             Ok((place, front)) => {
-                turn.post(log_place);
+                let section = turn.post(log_place);
                 board.publish(seat, self.number, front);
                 let receipt = Receipt::new(place, log_place);
-                Ok(Ack { receipt, front })
+                (Ok(Ack { receipt, front }), section)
             }
             Err(refused) => {
-                turn.give();
-                Err(refused)
+                let section = turn.give();
+                (Err(refused), section)
             }
         }
     }
@@ -150,7 +157,7 @@ impl<L: LogName> Node<L> {
 
     /// The page at a read point, from a state that has the fact of a receipt.
     ///
-    /// Errors: `Stranger` where the receipt's fact does not stand at its place in the trail; then those of a read.
+    /// Errors: `Stranger` where the receipt's fact is not at its place in the trail; then those of a read.
     pub fn read_after<R: Wait>(
         &self,
         rt: &R,
@@ -166,7 +173,7 @@ impl<L: LogName> Node<L> {
         answer
     }
 
-    /// What the node tells of itself, for another node to answer. It fails only if memory runs out.
+    /// The node's summary, for another node to answer. It fails only if memory runs out.
     pub fn summary<R: Wait>(&self, rt: &R) -> Result<Summary, AllocError>
         ensures { IfOk result (IsSummaryOfLog L.roster L.log) }
     {
@@ -200,16 +207,19 @@ impl<L: LogName> Node<L> {
         &self,
         rt: &R,
         mail: Mail<L>,
-    ) -> Result<LogFront<L>, Refused<Mail<L>, AbsorbFault>>
-        ensures section { RunsSection L.roster L.log [] (λ old new. AbsorbsMail mail result old new) }
-        ensures front { IfOk result (IsFrontWithMail L.roster L.log mail) }
-        ensures refused { IfErr result (λ e. RefusesMail L.roster L.log mail e.fault) }
-        ensures back { IfErr result (λ e. e.value ≡ mail) }
+    ) -> (
+        Result<LogFront<L>, Refused<Mail<L>, AbsorbFault>>,
+        Section<L>,
+    )
+        ensures section { RunsSection L.roster L.log self.now.lock [] (λ old new. AbsorbsMail mail result.0 old new) result.1 }
+        ensures front { IfOk result.0 (IsFrontWithMail L.roster L.log mail) }
+        ensures refused { IfErr result.0 (λ e. RefusesMail L.roster L.log result.1.before.segment mail e.fault) }
+        ensures back { IfErr result.0 (λ e. e.value ≡ mail) }
     {
         let mut visit = self.lock.visit(rt);
         let answer = visit.state.absorb(mail);
-        visit.leave();
-        answer
+        let section = visit.leave();
+        (answer, section)
     }
 
     /// A plan to fold a page to the anchor, to be carried out apart from the node. It fails only if memory runs out.
@@ -231,30 +241,31 @@ impl<L: LogName> Node<L> {
         &self,
         rt: &R,
         folded: Folded<L>,
-    ) -> Result<(), Refused<Folded<L>, CommitFault>>
-        ensures section { RunsSection L.roster L.log [] (λ old new. CommitsInto L.roster L.log folded result old new) }
-        ensures refused { IfErr result (λ e. RefusesFold L.roster L.log folded e.fault) }
-        ensures back { IfErr result (λ e. e.value ≡ folded) }
+    ) -> (Result<(), Refused<Folded<L>, CommitFault>>, Section<L>)
+        ensures section { RunsSection L.roster L.log self.now.lock [] (λ old new. CommitsInto L.roster L.log folded result.0 old new) result.1 }
+        ensures refused { IfErr result.0 (λ e. RefusesFold L.roster L.log result.1.before.segment folded e.fault) }
+        ensures back { IfErr result.0 (λ e. e.value ≡ folded) }
     {
         let mut visit = self.lock.visit(rt);
         let answer = visit.state.commit(folded);
-        visit.leave();
-        answer
+        let section = visit.leave();
+        (answer, section)
     }
 
     /// Drops each record at or below the anchor that its page's base image has. What the node means stays as it is. It takes no memory.
-    pub fn discard<R: Wait>(&self, rt: &R)
-        ensures { RunsSection L.roster L.log [] (λ old new. DiscardsInto L.roster L.log old new) }
+    pub fn discard<R: Wait>(&self, rt: &R) -> Section<L>
+        ensures { RunsSection L.roster L.log self.now.lock [] (λ old new. DiscardsInto L.roster L.log old new) result }
     {
         let mut visit = self.lock.visit(rt);
         visit.state.discard();
-        visit.leave();
+        visit.leave()
     }
 
     /// Closes the node. Each pass that is handed in has its entries of the trail, in order, and with all passes their receipts are the
     /// whole trail.
     pub fn close<R: Wait>(self, rt: &R, passes: Vec<Pass<L>>) -> Closed<L>
         requires { AreIdle self.lock passes.items }
+        ensures lock { result.lock ≡ self.lock }
         ensures lists { AreTrue result.trail passes.items }
         ensures all { length passes.items ≡ self.passes → receipt_count passes.items ≡ length result.trail }
     {

@@ -57,7 +57,7 @@ module _ {T : Type 0} (trail_of : T → List Entry) (good : T → Type 0) (passe
   abbrev with_views : St → List Known → St
   with_views s vs = record { words = s.words; homes = s.homes; views = vs }
 
-  -- nothing changes but views, of which the holder's stays, and all together stand for what they stood for
+  -- only views change, the holder's stays, and together they represent the same passes
   views_change : (s : St) (r : Rule s) (vs : List Known) → (word s ≢ 0 → (v : Known) × (get_elem? vs r.holder ≡ some v) × (v.holds ≡ true))
       → ((j : ℕ) (d : Known) → get_elem? vs j ≡ some d → Fits passes r.trail r.holder (word s) j d)
       → ((f : Part → ℕ) → total f vs ≡ total f s.views) → Rule (with_views s vs)

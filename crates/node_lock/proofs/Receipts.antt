@@ -48,7 +48,7 @@ are_rest ps trail a = search rules
 pub are_first : (ps : List Part) (trail : List Entry) → ListsAreTrue ps trail → ListsAreTrue (first_part ps) trail
 are_first ps trail a = search rules
 
--- what stands behind other entries
+-- what follows other entries
 get_behind : (before : List Entry) (e : Entry) (es : List Entry) → slice_get (before ++ (e ∷ es)) (length before) ≡ Some e
 get_behind [] e es = refl
 get_behind (b ∷ before) e es = get_behind before e es

@@ -52,7 +52,7 @@ no_total : (vs : List Known) → total one vs ≡ 0 → total weight vs ≡ 0
 no_total [] none = refl
 no_total (x ∷ xs) none = omega (arith, no_weight x.parts (omega (arith, none)), no_total xs (omega (arith, none)))
 
--- who stands for all passes has all receipts
+-- a seat that represents all passes has all receipts
 pub total_alone : (vs : List Known) (i : ℕ) (v : Known) → get_elem? vs i ≡ some v → tally one v.parts ≡ total one vs → tally weight v.parts ≡ total weight vs
 total_alone [] i v at all = absurd (some-ne-none v (sym at))
 total_alone (x ∷ xs) zero v at all = omega (arith, like weight x v at, no_total xs (omega (arith, like one x v at, all)))

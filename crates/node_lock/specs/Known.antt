@@ -4,15 +4,15 @@ use Rattle.node_lock.specs.declared.rule.Known.{Known}
 use Rattle.node_lock.specs.Trail.{Entry, Receipt, receipts_of}
 use Rattle.node_lock.specs.Passes.{PassData}
 
--- a pass that a seat stands for: its number, and its receipts
+-- a pass that a seat represents: its number, and its receipts
 abbrev pub Part : Type 0
 Part = ℕ × List Receipt
 
--- a seat that stands for these passes, and does not hold the slot
+-- a seat that represents these passes, and does not have the slot
 abbrev pub standing_for : ℕ → List Part → Known
 standing_for passes parts = record { passes = passes; parts = parts; holds = false; noted = [] }
 
--- the same, holding the slot, whose state had this trail when it was taken
+-- the same, with the slot, whose state had this trail when it was taken
 abbrev pub holding : ℕ → List Part → List Entry → Known
 holding passes parts trail = record { passes = passes; parts = parts; holds = true; noted = trail }
 

@@ -3,6 +3,7 @@ pub mod Passes
 pub mod Known
 pub mod Rule
 pub mod Steps
+pub mod Section
 pub mod Turn
 pub mod Visit
 pub mod Reading

@@ -14,7 +14,7 @@ pub record Fits (passes : ℕ) (trail : List Entry) (holder word seat : ℕ) (v 
   pub lists : ListsAreTrue v.parts trail
   pub holds : v.holds ≡ true → (holder ≡ seat) × (v.noted ≡ trail) × (word ≡ 1)
 
--- There is one trail: that of the state at home, else the one that the holder noted. Each of the passes stands in one view, and all
+-- There is one trail: that of the state at home, else the one that the holder noted. Each of the passes is in one view, and all
 -- lists together are as long as the trail.
 pub record KeepsLockRule {S : Type 0} (trail_of : S → List Entry) (keeps : S → Type 0) (passes : ℕ) (s : State (Option S) Known) : Type 0 where
   pub trail : List Entry

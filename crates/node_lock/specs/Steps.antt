@@ -1,4 +1,4 @@
--- What each atomic step tells the seat that makes it: a load, a compare-exchange of 0 to 1, a swap to 0.
+-- What the seat that makes an atomic step learns: a load, a compare-exchange of 0 to 1, a swap to 0.
 use Rattle.std.specs.Prelude.{◌≡◌, ◌≢◌, ℕ, suc, ◌<◌, true, false, List, [], ◌∷◌, ◌++◌, length, Option, Some, None}
 use Rattle.atomic_table.specs.Table.{Me, Step}
 use Rattle.node_lock.specs.declared.rule.Known.{Known}
@@ -19,7 +19,7 @@ module _ {S : Type 0} where
   IsHolding me trail = (me.0.holds ≡ true) × (me.0.noted ≡ trail) × (me.1 ≡ (0, None) ∷ [])
 
 module _ {S : Type 0} (trail_of : S → List Entry) (keeps : S → Type 0) where
-  -- a load makes a seat that stands for no pass
+  -- a load makes a seat that represents no pass
   abbrev pub IsSeated : Step (Option S) → Me (Option S) Known → ℕ → Me (Option S) Known → Type 0
   IsSeated step me found new = new ≡ (standing_for me.0.passes [], [])
 

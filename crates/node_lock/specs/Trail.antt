@@ -9,7 +9,7 @@ Entry = ℕ × ℕ
 abbrev pub Receipt : Type 0
 Receipt = ℕ × ℕ
 
--- the entries of the pass, where the first of the list stands at `place`
+-- the entries of the pass, where the first of the list is at `place`
 abbrev pub receipts_from : ℕ → ℕ → List Entry → List Receipt
 receipts_from place pass [] = []
 receipts_from place pass (e ∷ es) = if e.0 == pass then (place, e.1) ∷ receipts_from (suc place) pass es else receipts_from (suc place) pass es
@@ -18,7 +18,7 @@ receipts_from place pass (e ∷ es) = if e.0 == pass then (place, e.1) ∷ recei
 abbrev pub receipts_of : ℕ → List Entry → List Receipt
 receipts_of pass trail = receipts_from 1 pass trail
 
--- each of these receipts of the pass stands in the trail, at its place
+-- each of these receipts of the pass is in the trail, at its place
 abbrev pub HasReceipts : List Entry → ℕ → List Receipt → Type 0
 HasReceipts trail pass [] = Unit {0}
 HasReceipts trail pass (r ∷ rs) = ((0 < r.0) × (slice_get trail (r.0 - 1) ≡ Some (pass, r.1))) × HasReceipts trail pass rs

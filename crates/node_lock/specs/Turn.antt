@@ -1,6 +1,6 @@
 -- A pass that has the state.
 use Rattle.node_lock.specs.declared.turn.Turn.{Turn}
 
--- the state that the turn was lent
-abbrev pub lent_to_turn : {S : Type 0} → Turn S → S
-lent_to_turn turn = turn.lent.value
+-- the state as the turn found it
+abbrev pub found_by_turn : {S : Type 0} → Turn S → S
+found_by_turn turn = turn.found.value

@@ -1,5 +1,6 @@
 -- A visit without a pass.
 use Rattle.std.specs.Prelude.{List}
+use Rattle.atomic_table.specs.Seated.{TableId}
 use Rattle.node_lock.specs.declared.visit.Visit.{Visit}
 use Rattle.node_lock.specs.Trail.{Entry}
 
@@ -7,6 +8,10 @@ use Rattle.node_lock.specs.Trail.{Entry}
 abbrev pub taken_by : {S : Type 0} → Visit S → List Entry
 taken_by visit = visit.held.seat.me.0.noted
 
--- the state that the visit was lent
-abbrev pub lent_to_visit : {S : Type 0} → Visit S → S
-lent_to_visit visit = visit.lent.value
+-- the state as the visit found it
+abbrev pub found_by_visit : {S : Type 0} → Visit S → S
+found_by_visit visit = visit.found.value
+
+-- the lock whose state the visit has
+abbrev pub lock_of_visit : {S : Type 0} → Visit S → TableId
+lock_of_visit visit = visit.held.seat.table_id

@@ -7,7 +7,7 @@ use crate::sleepers::Sleepers;
 use crate::steps;
 use std::sync::Wait;
 
-// A seat without a pass that holds the slot. It is not `Drop`, in this crate too: only `give` takes it apart.
+// A seat without a pass that has the slot. It is not `Drop`, in this crate either: only `give` takes it apart.
 pub(crate) struct Held<S> {
     seat: Token<S>,
     ghost holds: { IsHolding seat.me seat.me.0.noted },

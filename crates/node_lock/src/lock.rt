@@ -1,10 +1,11 @@
 ghost use Rattle.std.specs.Prelude.{◌≡◌, ◌<◌, ◌≤◌, [], map, length, IfOk, IfErr, Some, None};
 ghost use Rattle.node_lock.specs.Trail.{receipts_of, HasReceipts};
 ghost use Rattle.node_lock.specs.Passes.{IsIdlePass, AreIdle, AreNew, AreTrue, receipt_count};
-ghost use Rattle.node_lock.specs.Turn.{lent_to_turn};
-ghost use Rattle.node_lock.specs.Visit.{taken_by, lent_to_visit};
+ghost use Rattle.node_lock.specs.Turn.{found_by_turn};
+ghost use Rattle.node_lock.specs.Visit.{taken_by, found_by_visit, lock_of_visit};
 ghost use Rattle.node_lock.specs.Known.{standing_for, new_parts, part_of};
 
+use crate::final_state::FinalState;
 use crate::held::Held;
 use crate::pass::Pass;
 use crate::rule::{StateTable, Steps, Token, Trailed};
@@ -79,16 +80,16 @@ impl<S: Trailed + Drop> Lock<S> {
         ensures same_pass { result.pass.ghost_name ≡ pass.entry.ghost_name }
         ensures pass { result.pass.now ≡ record pass.old { out = Some (S.trail result.state) } }
         ensures state { S.keeps result.state }
-        ensures lent { lent_to_turn result ≡ result.state }
+        ensures found { found_by_turn result ≡ result.state }
         ensures list { pass.old.list ≡ receipts_of pass.old.number (S.trail result.state) }
         ensures has { HasReceipts (S.trail result.state) pass.old.number pass.old.list }
     {
         let state = pass.take(rt, &self.table.shared, &self.sleepers);
-        let lent = Snapshot::of(&state);
+        let found = Snapshot::of(&state);
         Turn {
             pass,
             state,
-            lent,
+            found,
             lock: self,
         }
     }
@@ -97,14 +98,15 @@ impl<S: Trailed + Drop> Lock<S> {
     pub fn visit<R: Wait>(&self, rt: &R) -> Visit<'_, S>
         ensures trail { taken_by result ≡ S.trail result.state }
         ensures state { S.keeps result.state }
-        ensures lent { lent_to_visit result ≡ result.state }
+        ensures found { found_by_visit result ≡ result.state }
+        ensures lock { lock_of_visit result ≡ self.now.id }
     {
         let mut seat = steps::new_seat(&self.table.shared);
         let state = steps::take(rt, &self.table.shared, &self.sleepers, &mut seat);
-        let lent = Snapshot::of(&state);
+        let found = Snapshot::of(&state);
         Visit {
             state,
-            lent,
+            found,
             lock: self,
             held: Held::new(seat),
         }
@@ -112,18 +114,20 @@ impl<S: Trailed + Drop> Lock<S> {
 
     /// Takes the state out for good. Each pass that is handed in has its entries of the trail, in order, and with all passes their
     /// receipts are the whole trail.
-    pub fn close<R: Wait>(self, rt: &R, passes: Vec<Pass<S>>) -> S
+    pub fn close<R: Wait>(self, rt: &R, passes: Vec<Pass<S>>) -> FinalState<S>
         requires { AreIdle self.id passes.items }
-        ensures state { S.keeps result }
-        ensures lists { AreTrue (S.trail result) passes.items }
-        ensures all { length passes.items ≡ self.passes → receipt_count passes.items ≡ length (S.trail result) }
+        ensures lock { result.lock ≡ self.id }
+        ensures state { S.keeps result.state }
+        ensures lists { AreTrue (S.trail result.state) passes.items }
+        ensures all { length passes.items ≡ self.passes → receipt_count passes.items ≡ length (S.trail result.state) }
     {
         let mut seat = join_all(&self.table.shared, passes);
-        steps::take(rt, &self.table.shared, &self.sleepers, &mut seat)
+        let state = steps::take(rt, &self.table.shared, &self.sleepers, &mut seat);
+        FinalState::new(Snapshot::of(&self), state)
     }
 }
 
-// A seat that stands for these passes.
+// A seat that represents these passes.
 fn join_all<S: Trailed + Drop>(table: &Steps<S>, passes: Vec<Pass<S>>) -> Token<S>
     requires words { 0 < table.now.table_id.words }
     requires idle { AreIdle table.now.table_id passes.items }
@@ -140,7 +144,7 @@ fn join_all<S: Trailed + Drop>(table: &Steps<S>, passes: Vec<Pass<S>>) -> Token<
     seat
 }
 
-// The table with the state, and a seat that stands for all passes.
+// The table with the state, and a seat that represents all passes.
 fn new_table<S: Trailed + Drop>(
     alloc: Global,
     state: S,

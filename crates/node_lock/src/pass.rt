@@ -8,8 +8,8 @@ use crate::steps;
 use std::marker::Model;
 use std::sync::Wait;
 
-/// Who may append to the trail of a lock, under its number. Contracts see its receipts: of each the place in the trail, from 1, and
-/// the place in the log.
+/// The right to append to the trail of a lock, under the pass's number. Contracts see its receipts: of each the place in the trail,
+/// from 1, and the place in the log.
 #[derive(Drop)]
 pub struct Pass<S> {
     pub(crate) seat: Token<S>,

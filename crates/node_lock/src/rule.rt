@@ -14,7 +14,7 @@ pub trait Trailed {
     /// What the type keeps of each of its values.
     ghost keeps: { Self → Type 0 };
 
-    /// The second state has all that the first one has. Each holder owes it of the state that it was lent and the one that it gives back.
+    /// The second state has all that the first one has. Each holder proves it of the state that it found and the one that it gives back.
     ghost retains: { Self → Self → Type 0 };
 
     /// With the next law: what any holder finds retains what each earlier one found.
@@ -27,7 +27,7 @@ pub trait Trailed {
 pub struct Known {
     /// How many passes the lock has.
     pub passes: u64,
-    /// The passes that the seat stands for, each with its receipts.
+    /// The passes that the seat represents, each with its receipts.
     pub parts: LinkedList<(u64, LinkedList<(u64, u64)>)>,
     /// It holds the slot.
     pub holds: bool,

@@ -11,10 +11,10 @@ const LOOKS: u32 = 6;
 
 // The takers that sleep, or are about to. Nothing of it is proved: a wake that is lost would leave a taker asleep.
 //
-// Who is about to sleep reads the rings, then asks to be woken, and then looks once more whether the state is out. Who gives the state
-// back sets the word to 0 and then takes the request, if there is one, rings and wakes one. So a giver whose state the sleeper saw to be
-// out finds the request, and its ring ends the sleep, or keeps it from beginning. The others that sleep are left to who was woken: it
-// asks for them, at its next sleep or once it has the state.
+// A taker that is about to sleep reads the rings, then asks to be woken, and then looks once more whether the state is out. A giver sets
+// the word to 0 and then takes the request, if there is one, rings and wakes one taker. So a giver whose state the sleeper saw to be out
+// finds the request, and its ring ends the sleep, or keeps it from beginning. The taker that was woken asks for the other sleepers, at
+// its next sleep or once it has the state.
 #[derive(Drop)]
 pub(crate) struct Sleepers {
     rings: AtomicU64,
@@ -49,12 +49,12 @@ impl Sleepers {
         true
     }
 
-    // Whoever gives the state back next wakes one that sleeps.
+    // The next giver wakes one taker that sleeps.
     pub(crate) fn ask(&self) {
         self.asks.store(1, Ordering::SeqCst);
     }
 
-    // After the word is 0: wakes one that sleeps, where one is asked for.
+    // After the word is 0: wakes one taker that sleeps, if one asked.
     pub(crate) fn wake(&self) {
         if self.asks.load(Ordering::SeqCst) != 0 && self.asks.swap(0, Ordering::SeqCst) != 0 {
             self.rings.fetch_add(1, Ordering::SeqCst);

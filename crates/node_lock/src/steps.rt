@@ -8,7 +8,7 @@ use crate::rule::{DealsFirst, Gives, Posts, Seats, StandsForBoth, Steps, Takes, 
 use crate::sleepers::Sleepers;
 use std::sync::Wait;
 
-// A seat that stands for no pass.
+// A seat that represents no pass.
 pub(crate) fn new_seat<S: Trailed + Drop>(steps: &Steps<S>) -> Token<S>
     requires { 0 < steps.now.table_id.words }
     ensures { (result.table_id ≡ steps.now.table_id) × (result.me ≡ (standing_for steps.now.key [], [])) }
@@ -92,7 +92,7 @@ pub(crate) fn deal<S: Trailed + Drop>(steps: &Steps<S>, seat: &mut Token<S>) -> 
     steps.split_seat::<DealsFirst>(seat)
 }
 
-// The seat stands for the other's passes too.
+// The seat represents the other's passes too.
 pub(crate) fn join<S: Trailed + Drop>(steps: &Steps<S>, seat: &mut Token<S>, other: Token<S>)
     requires table { (seat.old.table_id ≡ steps.now.table_id) × (other.table_id ≡ steps.now.table_id) × (0 < steps.now.table_id.words) }
     requires idle { IsIdle seat.old.me × IsIdle other.me }

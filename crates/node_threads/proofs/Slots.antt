@@ -49,6 +49,6 @@ changed_map (x ∷ xs) (y ∷ ys) f h len e =
     let tail = changed_map xs ys f h (omega (arith, len)) (λ i d lt. e (suc i) d (omega (arith, lt))) in
     ap (λ z. z ∷ map f ys) head ∙ ap (λ zs. h x ∷ zs) tail
 
--- the same of a list that stands at the front of another
+-- the same of a list that is a prefix of another
 pub front_map : {X Z : Type 0} (xs rest : List X) (n : ℕ) (f : X → Z) (zs : List Z) → length xs ≡ n → map f xs ≡ zs → map f (take n (xs ++ rest)) ≡ zs
 front_map xs rest n f zs len is = ap (λ ys. map f ys) (take_at xs rest n len) ∙ is

@@ -137,7 +137,8 @@ fn deliver<L: LogName, R: Wait>(
     ensures answer { (a : _) × (hold.new.answers.items ≡ hold.old.answers.items ++ a ∷ []) × (answered_place a ≡ parcel.fact.place) × (hold.new.pass ≡ record hold.old.pass { list = hold.old.pass.list ++ receipt_in a }) }
 {
     let fact = parcel.into_fact();
-    let answer = match node.deliver(rt, &mut hold.pass, board, &mut hold.seat, fact) {
+    let (delivered, _) = node.deliver(rt, &mut hold.pass, board, &mut hold.seat, fact);
+    let answer = match delivered {
         Ok(ack) => Ok(ack.receipt),
         Err(refused) => Err(refused),
     };

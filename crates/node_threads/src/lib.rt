@@ -1,7 +1,7 @@
 //! Workers in threads round the nodes of a log: feeders, drainers, folders and gossipers.
 //!
 //! A feeder offers facts to an intake, a drainer takes parcels and delivers them, a folder folds pages (`fold_many`: by many threads,
-//! what each plan gives alone, in the order given), a gossiper has one node tell another what it lacks. Each ends with its work, or
+//! the result of each plan alone, in the order given), a gossiper sends one node what it lacks of another. Each ends with its work, or
 //! sooner where it would have to wait and the stop flag says that a worker could not be started.
 //!
 //! `serve` runs them all and gives back what they were handed. Where every worker was started, the facts of each feed that names an

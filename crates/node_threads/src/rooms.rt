@@ -1,4 +1,4 @@
-//! Lists that are reserved before the first start, with room for all that comes.
+//! Lists that are reserved before the first start, with room for everything that the workers bring back.
 ghost use Rattle.std.specs.Prelude.{◌≡◌, ◌+◌, ◌≤◌, [], length, sum_by, vec_len, vec_capacity, IfOk, IfSome};
 
 use crate::drain::DrainerState;

@@ -170,7 +170,8 @@ fn commit_all<L: LogName, R: Wait>(
     ensures room { (vec_len refusals.new ≤ vec_len refusals.old + vec_len folds) × (vec_capacity refusals.new ≡ vec_capacity refusals.old) }
 {
     for folded in folds {
-        if let Err(refused) = node.fold_commit(rt, folded) {
+        let (committed, _) = node.fold_commit(rt, folded);
+        if let Err(refused) = committed {
             let fault = refused.fault;
             refusals.push_reserved(Refusal::Commit { worker, fault });
         }
@@ -255,7 +256,8 @@ fn exchange<L: LogName, G: Gate, R: Wait>(
         return Err(Refusal::Memory { worker });
     };
     gate.between(job);
-    match asker.absorb(rt, mail) {
+    let (absorbed, _) = asker.absorb(rt, mail);
+    match absorbed {
         Ok(_) => Ok(()),
         Err(refused) => Err(Refusal::Absorb {
             worker,

@@ -39,7 +39,7 @@ pub struct ServeInput<L: LogName> {
     pub plan: Plan,
 }
 
-// Lists with room for all that comes.
+// Lists with room for everything that the workers bring back.
 #[derive(Drop)]
 struct Space<L: LogName> {
     answers: Vec<Vec<Answer<L>>>,

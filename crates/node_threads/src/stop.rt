@@ -5,10 +5,10 @@ use std::sync::{OnceLock, OnceToken};
 /// Whether a worker could not be started: set once, to its number, or to 0 where all were started.
 pub type StopSignal = OnceLock<u64>;
 
-/// That a worker could not be started.
+/// Evidence that a worker could not be started.
 pub type StopToken<'s> = OnceToken<'s, u64>;
 
-/// Whether the others are told to stop.
+/// Whether the other workers have to stop.
 pub(crate) fn told<'s>(stop: &'s StopSignal) -> Option<StopToken<'s>>
     ensures { IfSome result (λ t. (t.of ≡ stop.now.id) × (t.value ≢ 0)) }
 {

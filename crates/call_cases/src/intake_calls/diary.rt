@@ -178,7 +178,8 @@ pub fn look_by_pass<R: Wait>(rt: &R, diaries: &mut Diaries, row: &Row) -> io::Re
 pub fn look_in_a_call<R: Wait>(rt: &R, diaries: &mut Diaries, row: &Row) -> io::Result<()> {
     let looks = diaries
         .lock
-        .read(rt, &mut diaries.one, |diary| diary.look());
+        .read(rt, &mut diaries.one, |diary| diary.look())
+        .0;
     row.one("Looks", &looks)
 }
 
@@ -201,7 +202,7 @@ fn closed_by_one<R: Wait>(rt: &R, diaries: Diaries, mut passes: Vec<Pass<Diary>>
         other: _,
     } = diaries;
     passes.push_reserved(one);
-    lock.close(rt, passes)
+    lock.close(rt, passes).into_state()
 }
 
 // What a pass's thread returns.
@@ -235,7 +236,7 @@ fn appended_twice<R: Threads + Wait + Sync>(rt: &R, alloc: Global) -> Result<Dia
     let Diaries { lock, one, other } = opened(alloc)?;
     let (one, other) = append_twice(rt, &lock, one, other);
     let passes = Vec::from_array(alloc, [one?, other?])?;
-    Ok(lock.close(rt, passes))
+    Ok(lock.close(rt, passes).into_state())
 }
 
 /// Prints how many entries the trail has, and whether those of each pass are in order.

@@ -85,7 +85,7 @@ pub fn deliver_at<R: Wait>(
     let Ok(Some(fact)) = LogFact::at(alloc, place) else {
         return Err(DeliverFault::Memory);
     };
-    or_fault(node.deliver(rt, pass, board, seat, fact))
+    or_fault(node.deliver(rt, pass, board, seat, fact).0)
 }
 
 fn deliver_once<R: Wait>(
@@ -153,7 +153,7 @@ pub fn absorb<R: Wait>(
     let Ok(sent) = mail_for(rt, asker, answerer) else {
         return Err(AbsorbFault::Memory);
     };
-    or_fault(node.absorb(rt, sent))
+    or_fault(node.absorb(rt, sent).0)
 }
 
 /// A fold of a page.
@@ -171,7 +171,7 @@ pub fn commit<R: Wait>(rt: &R, node: &Node<Log>, folded: &Folded<Log>) -> Result
     let Ok(copy) = folded.copy() else {
         return Err(CommitFault::Memory);
     };
-    or_fault(node.fold_commit(rt, copy))
+    or_fault(node.fold_commit(rt, copy).0)
 }
 
 /// Closes a node with its pass.

@@ -99,7 +99,8 @@ fn deliver_all<L: LogName, R: Wait>(rt: &R, hand: Hand<L>) -> u64 {
     } = hand;
     let mut count = 0u64;
     for fact in share {
-        if node.deliver(rt, &mut pass, board, &mut seat, fact).is_ok() {
+        let (delivered, _) = node.deliver(rt, &mut pass, board, &mut seat, fact);
+        if delivered.is_ok() {
             count = count.saturating_add(1);
         }
     }

@@ -1,5 +1,8 @@
-use Rattle.std.proofs.Common.{rules}
-use Rattle.node_cell.proofs.Retaining.{absorbs_mail, retains_absorb, from_lent, quiet_section}
+use Rattle.std.proofs.Common.{IfErr, subst, sym, ap, ◌∙◌}
+use Rattle.node_lock.specs.Section.{SectionData}
+use Rattle.node_cell.specs.Kept.{KeptData}
+use Rattle.node_cell.specs.Gossiping.{RefusesMail}
+use Rattle.node_cell.proofs.Retaining.{absorbs_mail, retains_absorb, from_found, is_from, quiet_section}
 use Rattle.node_cell.proofs.node.Node.absorb.Goals as goal
 
 pub leave-requires-clause-retained : goal.leave-requires-clause-retained
@@ -7,7 +10,7 @@ leave-requires-clause-retained g c =
     let roster = g.L.LogName.roster in
     let log = g.L.LogName.log in
     let told = c.absorb-answer.ensures in
-    from_lent roster log c.visit-visit.result.lent.value c.visit-visit.result.state c.absorb-answer.new.self c.visit-visit.ensures.lent
+    from_found roster log c.visit-visit.result.found.value c.visit-visit.result.state c.absorb-answer.new.self c.visit-visit.ensures.found
     (retains_absorb roster log c.args.mail c.absorb-answer.result c.visit-visit.result.state.segment c.absorb-answer.new.self.segment
     g.met.L.LogName.sound told.front
     (absorbs_mail roster log c.args.mail c.absorb-answer.result c.visit-visit.result.state c.absorb-answer.new.self told.meaning told.unchanged))
@@ -18,9 +21,12 @@ returns-clause-section g c =
     let log = g.L.LogName.log in
     let told = c.absorb-answer.ensures in
     let does = absorbs_mail roster log c.args.mail c.absorb-answer.result c.visit-visit.result.state c.absorb-answer.new.self told.meaning told.unchanged in
-    quiet_section roster log c.visit-visit.result.state c.absorb-answer.new.self _ c.visit-visit.ensures.state
+    quiet_section roster log _ c.visit-visit.result.state c.absorb-answer.new.self c.leave-section.result _
+    (is_from roster log _ _ _ _ _ _ c.visit-visit.ensures.lock c.visit-visit.ensures.found c.leave-section.ensures) c.visit-visit.ensures.state
     (retains_absorb roster log c.args.mail c.absorb-answer.result c.visit-visit.result.state.segment c.absorb-answer.new.self.segment
     g.met.L.LogName.sound told.front does) told.trail does
 
 pub returns-clause-refused : goal.returns-clause-refused
-returns-clause-refused g c = search rules
+returns-clause-refused g c =
+    subst (λ (k : KeptData). IfErr c.absorb-answer.result (λ e. RefusesMail g.L.LogName.roster g.L.LogName.log k.segment c.args.mail e.fault))
+    (sym (ap (λ (s : SectionData KeptData). s.before) c.leave-section.ensures ∙ c.visit-visit.ensures.found)) c.absorb-answer.ensures.refused

@@ -2,36 +2,34 @@ use Rattle.std.proofs.lemmas.Grind.{common_steps}
 use Rattle.std.proofs.Common.{rules, arith, ◌≡◌, ◌++◌, ◌∷◌, [], ℕ, ap, subst}
 use Rattle.node_cell.specs.Kept.{KeptData}
 use Rattle.node_cell.proofs.Keeping.{front_of_list}
-use Rattle.node_cell.proofs.Retaining.{retains_same, retains_place, from_lent, quiet_section}
+use Rattle.node_cell.proofs.Retaining.{retains_same, retains_place, from_found, is_from, runs_section, quiet_section}
 use Rattle.node_cell.proofs.node.Node.deliver.Goals as goal
 
 pub post-requires-clause-retained : goal.post-requires-clause-retained
 post-requires-clause-retained g c =
     let roster = g.L.LogName.roster in
     let log = g.L.LogName.log in
-    from_lent roster log c.take-turn.result.lent.value c.take-turn.result.state c.put-answer.new.self c.take-turn.ensures.lent
+    from_found roster log c.take-turn.result.found.value c.take-turn.result.state c.put-answer.new.self c.take-turn.ensures.found
     (retains_place roster log c.take-turn.result.state.segment c.put-answer.new.self.segment c.args.fact.place g.met.L.LogName.sound
     c.in-Ok.ensures.takes)
 
 pub returns-in-Ok-clause-section : goal.returns-in-Ok-clause-section
 returns-in-Ok-clause-section g c =
     let roster = g.L.LogName.roster in
-    let log = g.L.LogName.log in record {
-      before = c.take-turn.result.state;
-      after = c.put-answer.new.self;
-      kept = c.take-turn.ensures.state;
-      retains = retains_place roster log c.take-turn.result.state.segment c.put-answer.new.self.segment c.args.fact.place g.met.L.LogName.sound
-          c.in-Ok.ensures.takes;
-      trail = subst (λ (n : ℕ). c.put-answer.new.self.trail ≡ c.take-turn.result.state.trail ++ (n, c.args.fact.place) ∷ []) c.number-number.ensures
-          c.in-Ok.ensures.trail.0;
-      does = c.in-Ok.ensures.takes;
-    }
+    let log = g.L.LogName.log in
+    runs_section roster log _ c.take-turn.result.state c.put-answer.new.self c.post-section.result _ _
+    (is_from roster log _ _ _ _ _ _ (search rules) c.take-turn.ensures.found c.post-section.ensures.section) c.take-turn.ensures.state
+    (retains_place roster log c.take-turn.result.state.segment c.put-answer.new.self.segment c.args.fact.place g.met.L.LogName.sound
+    c.in-Ok.ensures.takes)
+    (subst (λ (n : ℕ). c.put-answer.new.self.trail ≡ c.take-turn.result.state.trail ++ (n, c.args.fact.place) ∷ []) c.number-number.ensures
+    c.in-Ok.ensures.trail.0)
+    c.in-Ok.ensures.takes
 
 pub give-requires-clause-retained : goal.give-requires-clause-retained
 give-requires-clause-retained g c =
     let roster = g.L.LogName.roster in
     let log = g.L.LogName.log in
-    from_lent roster log c.take-turn.result.lent.value c.take-turn.result.state c.put-answer.new.self c.take-turn.ensures.lent
+    from_found roster log c.take-turn.result.found.value c.take-turn.result.state c.put-answer.new.self c.take-turn.ensures.found
     (retains_same roster log c.take-turn.result.state.segment c.put-answer.new.self.segment
     (ap (λ (k : KeptData). k.segment) c.in-Err.ensures.unchanged))
 
@@ -40,7 +38,8 @@ returns-in-Err-clause-section g c =
     let roster = g.L.LogName.roster in
     let log = g.L.LogName.log in
     let same = ap (λ (k : KeptData). k.segment) c.in-Err.ensures.unchanged in
-    quiet_section roster log c.take-turn.result.state c.put-answer.new.self _ c.take-turn.ensures.state
+    quiet_section roster log _ c.take-turn.result.state c.put-answer.new.self c.give-section.result _
+    (is_from roster log _ _ _ _ _ _ (search rules) c.take-turn.ensures.found c.give-section.ensures.section) c.take-turn.ensures.state
     (retains_same roster log c.take-turn.result.state.segment c.put-answer.new.self.segment same)
     (ap (λ (k : KeptData). k.trail) c.in-Err.ensures.unchanged) same
 
