@@ -8,7 +8,7 @@ loop-receipt-preserved g c =
     let item = c.receipt-item.result in
     one_more (Stands c.args.closed.now.trail) c.args.receipts.now c.loop-receipt.receipt-index item c.loop-receipt-test.true c.receipt-item.is
     c.loop-receipt.invariant
-    (subst (λ k. Stands k.trail item) c.closed.view_is c.in_ok-seek.ensures.ok)
+    (subst (λ k. Stands k.trail item) c.closed.view_is (subst (λ k. Stands k.trail item) c.state.ensures c.in_ok-seek.ensures.ok))
 
 pub returns-clause-ok : goal.returns-clause-ok
 returns-clause-ok g c = search (rules, whole)

@@ -73,7 +73,7 @@ returns-in-Err-clause-refused g c =
     let trail = c.self.inside.trail.items in
     let old = c.deref_mut.result.now.segment in
     let k : MeansTrail roster log old trail = subst (λ x. MeansTrail roster log x.segment trail) (sym c.deref_mut.ensures.value) c.self.invariant in
-    subst (λ s. RefusesMail roster log s c.args.mail _) (ap (λ x. x.segment) c.deref_mut.ensures.value ∙ ap (λ k. k.segment) c.self.view_is)
+    subst (λ s. RefusesMail roster log s c.args.mail c.absorb_fault.result) (ap (λ x. x.segment) c.deref_mut.ensures.value ∙ ap (λ k. k.segment) c.self.view_is)
     (subst (λ f. RefusesMail roster log old c.args.mail f) (sym c.absorb_fault.ensures)
     (refuses_mail roster log old trail c.args.mail c.summary.result.now c.delta.result.now c.in-Err.why g.met.L.LogName.sound k
     c.summary.ensures.value c.in-Err.ensures.refused))

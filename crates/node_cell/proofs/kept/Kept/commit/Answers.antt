@@ -27,7 +27,7 @@ returns-clause-refused g c =
     let old = c.deref_mut.result.now.segment in
     let k : MeansTrail roster log c.deref_mut.result.now.segment c.self.inside.trail.items =
     subst (λ x. MeansTrail roster log x.segment c.self.inside.trail.items) (sym c.deref_mut.ensures.value) c.self.invariant in
-    subst (λ s. IfErr c.result (λ e. RefusesFold roster log s c.args.folded e.fault))
+    subst (λ s. IfErr c.match-commit_fold.result (λ e. RefusesFold roster log s c.args.folded e.fault))
     (ap (λ x. x.segment) c.deref_mut.ensures.value ∙ ap (λ k. k.segment) c.self.view_is)
     elim c.match-commit_fold.branch [
       | in-Ok w ↦ subst (λ r. IfErr r (λ e. RefusesFold roster log old c.args.folded e.fault)) (sym w.result-is) tt

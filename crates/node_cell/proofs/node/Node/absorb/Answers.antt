@@ -1,12 +1,14 @@
-use Rattle.std.proofs.Common.{IfErr, subst, sym, ap, ◌∙◌}
+use Rattle.std.proofs.Common.{[], IfErr, subst, sym, ap, ◌∙◌}
 use Rattle.node_lock.specs.Section.{SectionData}
 use Rattle.node_cell.specs.Kept.{KeptData}
-use Rattle.node_cell.specs.Gossiping.{RefusesMail}
+use Rattle.node_cell.specs.Node.{NodeData}
+use Rattle.node_cell.specs.Retaining.{RunsSection}
+use Rattle.node_cell.specs.Gossiping.{RefusesMail, AbsorbsMail}
 use Rattle.node_cell.proofs.Retaining.{absorbs_mail, retains_absorb, from_found, is_from, quiet_section}
 use Rattle.node_cell.proofs.node.Node.absorb.Goals as goal
 
-pub leave-requires-clause-retained : goal.leave-requires-clause-retained
-leave-requires-clause-retained g c =
+pub leave-section-requires-clause-retained : goal.leave-section-requires-clause-retained
+leave-section-requires-clause-retained g c =
     let roster = g.L.LogName.roster in
     let log = g.L.LogName.log in
     let told = c.absorb-answer.ensures in
@@ -21,10 +23,12 @@ returns-clause-section g c =
     let log = g.L.LogName.log in
     let told = c.absorb-answer.ensures in
     let does = absorbs_mail roster log c.args.mail c.absorb-answer.result c.visit-visit.result.state c.absorb-answer.new.self told.meaning told.unchanged in
-    quiet_section roster log _ c.visit-visit.result.state c.absorb-answer.new.self c.leave-section.result _
+    subst (λ l. RunsSection roster log l [] (λ old new. AbsorbsMail c.args.mail c.absorb-answer.result old new) c.leave-section.result)
+    (ap (λ (n : NodeData). n.lock) c.self.view_is)
+    (quiet_section roster log _ c.visit-visit.result.state c.absorb-answer.new.self c.leave-section.result _
     (is_from roster log _ _ _ _ _ _ c.visit-visit.ensures.lock c.visit-visit.ensures.found c.leave-section.ensures) c.visit-visit.ensures.state
     (retains_absorb roster log c.args.mail c.absorb-answer.result c.visit-visit.result.state.segment c.absorb-answer.new.self.segment
-    g.met.L.LogName.sound told.front does) told.trail does
+    g.met.L.LogName.sound told.front does) told.trail does)
 
 pub returns-clause-refused : goal.returns-clause-refused
 returns-clause-refused g c =

@@ -5,8 +5,8 @@ use Rattle.node_cell.proofs.Keeping.{front_of_list}
 use Rattle.node_cell.proofs.Retaining.{retains_same, retains_place, from_found, is_from, runs_section, quiet_section}
 use Rattle.node_cell.proofs.node.Node.deliver.Goals as goal
 
-pub post-requires-clause-retained : goal.post-requires-clause-retained
-post-requires-clause-retained g c =
+pub post-section-requires-clause-retained : goal.post-section-requires-clause-retained
+post-section-requires-clause-retained g c =
     let roster = g.L.LogName.roster in
     let log = g.L.LogName.log in
     from_found roster log c.take-turn.result.found.value c.take-turn.result.state c.put-answer.new.self c.take-turn.ensures.found
@@ -25,8 +25,8 @@ returns-in-Ok-clause-section g c =
     c.in-Ok.ensures.trail.0)
     c.in-Ok.ensures.takes
 
-pub give-requires-clause-retained : goal.give-requires-clause-retained
-give-requires-clause-retained g c =
+pub give-section-requires-clause-retained : goal.give-section-requires-clause-retained
+give-section-requires-clause-retained g c =
     let roster = g.L.LogName.roster in
     let log = g.L.LogName.log in
     from_found roster log c.take-turn.result.found.value c.take-turn.result.state c.put-answer.new.self c.take-turn.ensures.found
@@ -81,11 +81,11 @@ returns-in-Ok-clause-board g c = grind (arith, common_steps)
 pub returns-in-Err-clause-back : goal.returns-in-Err-clause-back
 returns-in-Err-clause-back g c = grind (arith, common_steps)
 
-pub post-requires-clause-trail : goal.post-requires-clause-trail
-post-requires-clause-trail g c = grind (arith, common_steps)
+pub post-section-requires-clause-trail : goal.post-section-requires-clause-trail
+post-section-requires-clause-trail g c = grind (arith, common_steps)
 
-pub give-requires-clause-trail : goal.give-requires-clause-trail
-give-requires-clause-trail g c = grind (arith, common_steps)
+pub give-section-requires-clause-trail : goal.give-section-requires-clause-trail
+give-section-requires-clause-trail g c = grind (arith, common_steps)
 
 pub returns-in-Ok-clause-publishes : goal.returns-in-Ok-clause-publishes
 returns-in-Ok-clause-publishes g c = grind (arith, common_steps)
