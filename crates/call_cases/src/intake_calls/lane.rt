@@ -145,13 +145,22 @@ pub fn take_next<R: Wait>(rt: &R, lane: &mut SharedFixture, row: &Row) -> io::Re
 /// Closes the intake, and opens one. The answer is the remaining parcels, in order.
 pub fn end<R: Wait>(rt: &R, lane: &mut Box<SharedFixture>, row: &Row) -> io::Result<()> {
     let ended = mem::replace(lane, open_lane(row.alloc, 1, 1)?);
+    let left = left_in(rt, row.alloc, Box::into_inner(ended))?;
+    print_parcels(row, left.as_slice())
+}
+
+// The parcels that remain in a fixture's intake, in order.
+fn left_in<R: Wait>(
+    rt: &R,
+    alloc: Global,
+    lane: SharedFixture,
+) -> Result<Vec<Parcel<Log>>, AllocError> {
     let SharedFixture {
         intake,
         senders,
         taker,
-    } = Box::into_inner(ended);
-    let left = left_at_end(rt, row.alloc, intake, senders, taker)?;
-    print_parcels(row, left.as_slice())
+    } = lane;
+    left_at_end(rt, alloc, intake, senders, taker)
 }
 
 /// The parcels that remain in an intake that is closed.
