@@ -11,7 +11,7 @@ use Rattle.guard.specs.declared.requests.Request.TheVariants as request
 use Rattle.guard.specs.declared.replies.Reply.{Reply}
 use Rattle.guard.specs.Data.{GuardData, fresh_guard, fenced_to, accepting, admitted_by, around}
 use Rattle.guard.specs.Guarding.{IsGuardReply, HasLater}
-use Rattle.guard.specs.Keeping.{IsLaterGuard, IsUpTo, IsBelow, IsGuard, AdmitsInOrder, StepsKeep, StepsRise, GuardTurn, GuardRuns, IsOrderlyTurn, RunsKeep, RunsRise}
+use Rattle.guard.specs.Keeping.{IsLaterGuard, IsUpTo, IsBelow, IsGuard, AdmitsInOrder, StepsKeep, StepsRise, GuardTurn, GuardRuns, IsOrderlyTurn, RunsKeep, RunsRise, FreshStays}
 
 -- what a request leaves, where an admission that it is keeps to its order
 pub record Leaves (old new : GuardData) (in_order : Type 0) : Type 0 where
@@ -159,6 +159,9 @@ rises old (t ∷ ts) new order runs is =
 fresh_is_guard : (replica : ReplicaData) (birth : ℕ) → IsGuard (fresh_guard replica birth)
 fresh_is_guard replica birth = record { generation = λ out. refl; accepted = λ out. refl; below = tt }
 
+pub fresh_stays : FreshStays
+fresh_stays replica birth turns new order runs = stays_guard (fresh_guard replica birth) turns new order runs (fresh_is_guard replica birth)
+
 pub runs_rise : RunsRise
 runs_rise replica birth before after old new one two runs goes_on =
-    rises old after new two goes_on (stays_guard (fresh_guard replica birth) before old one runs (fresh_is_guard replica birth))
+    rises old after new two goes_on (fresh_stays replica birth before old one runs)

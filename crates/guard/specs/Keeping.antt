@@ -66,7 +66,13 @@ RunsKeep = (old : GuardData) (turns : List GuardTurn) (new : GuardData) → Guar
 abbrev pub IsOrderlyTurn : GuardTurn → Type 0
 IsOrderlyTurn t = AdmitsInOrder t.asked
 
--- Of a guard that was fresh once, where each admission keeps to its order.
+-- A guard that was fresh once, where each admission keeps to its order, has nothing of an engine before one admits it.
+abbrev pub FreshStays : Type 0
+FreshStays =
+    (replica : ReplicaData) (birth : ℕ) (turns : List GuardTurn) (new : GuardData)
+    → AllByRecursion IsOrderlyTurn turns → GuardRuns (fresh_guard replica birth) turns new → IsGuard new
+
+-- And its accepted truncation rises.
 abbrev pub RunsRise : Type 0
 RunsRise =
     (replica : ReplicaData) (birth : ℕ) (before after : List GuardTurn) (old new : GuardData)
