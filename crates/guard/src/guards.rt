@@ -178,10 +178,17 @@ impl Guard {
         ensures replies { AsksPlainly self.old request result self.new }
         ensures refused { IsGuardRefusal result → IsAfterGuardRefusal (Request.Plain request) self.old self.new }
     {
-        if self.is_member && replaces_segment(&request) {
+        if self.loses_segment(&request) {
             return Reply::Member;
         }
         Reply::Plain(self.replica.step(request))
+    }
+
+    /// Whether the request would take its segment from a member.
+    fn loses_segment(&self, request: &replica::Request) -> bool
+        ensures { IsTrue result ↔ (IsTrue self.now.is_member × ReplacesSegment request.now) }
+    {
+        self.is_member && replaces_segment(request)
     }
 
     /// The reply to an engine whose request is not executed.
