@@ -1,0 +1,18 @@
+use Rattle.std.proofs.Common.{◌≡◌, inr, IsTrue, false, ap, subst, refl}
+use Rattle.replica.specs.Machine.{IsReply}
+use Rattle.guard.specs.Data.{GuardData, around}
+use Rattle.guard.proofs.guards.Guard.ask_plainly.Goals as goal
+
+pub returns-clause-replies : goal.returns-clause-replies
+returns-clause-replies c =
+    inr (
+      (λ both.
+          let yes : IsTrue c.loses_segment.result = c.loses_segment.ensures.1 both in
+          let no : c.loses_segment.result ≡ false = c.if-loses_segment.false in absurd cc),
+      ap (λ (g : GuardData). around g c.step.new.self) c.self.view_is,
+      (
+        c.step.result,
+        subst (λ (g : GuardData). IsReply g.replica c.args.request c.step.result c.step.new.self) c.self.view_is c.step.ensures.replies,
+        refl,
+      ),
+    )
