@@ -1,4 +1,4 @@
-use Rattle.std.proofs.Common.{◌≡◌, inr, IsTrue, false, ap, subst, refl}
+use Rattle.std.proofs.Common.{◌≡◌, inr, IsTrue, ap, subst, refl}
 use Rattle.replica.specs.Machine.{IsReply}
 use Rattle.guard.specs.Data.{GuardData, around}
 use Rattle.guard.proofs.guards.Guard.ask_plainly.Goals as goal
@@ -7,8 +7,7 @@ pub returns-clause-replies : goal.returns-clause-replies
 returns-clause-replies c =
     inr (
       (λ both.
-          let yes : IsTrue c.loses_segment.result = c.loses_segment.ensures.1 both in
-          let no : c.loses_segment.result ≡ false = c.if-loses_segment.false in absurd cc),
+          absurd (subst (λ b. IsTrue b) c.if-loses_segment.false (c.loses_segment.ensures.1 both))),
       ap (λ (g : GuardData). around g c.step.new.self) c.self.view_is,
       (
         c.step.result,
