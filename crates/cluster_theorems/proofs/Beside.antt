@@ -126,15 +126,15 @@ finish_goes old None after told new says =
     inl (stays_by request.Finish told reply.NoStaging None after says.0 says.2 (λ x y. refl) (λ x. refl))
 finish_goes old (Some st) after told new says = finish_by old st says.answer told new after says.stands
 
-joined_goes : {X Y : Type 0} (st : StagingData) (after : Option StagingData) (told : Reply) (answer : Result (Unit {0}) Refusal)
+joined_goes : (X Y : Type 0) (st : StagingData) (after : Option StagingData) (told : Reply) (answer : Result (Unit {0}) Refusal)
     → OnOk answer (X × (after ≡ None)) → OnErr answer (Y × (after ≡ Some st)) → told ≡ united_reply answer → StagingGoes (Some st) after request.Unite told
-joined_goes st after told (Ok done) gone stays is =
+joined_goes X Y st after told (Ok done) gone stays is =
     inr (inl (gone_by request.Unite told reply.United after is gone.1 (λ x y. refl) (λ x. refl)))
-joined_goes st after told (Err why) gone stays is = inl (refused_stays why told (Some st) after is stays.1)
+joined_goes X Y st after told (Err why) gone stays is = inl (refused_stays why told (Some st) after is stays.1)
 
 unite_by : (old : Cached) (st : StagingData) (answer : Result State FinishFault) (told : Reply) (new : Cached) (after : Option StagingData)
     → UnitesMade old st answer told new after → StagingGoes (Some st) after request.Unite told
-unite_by old st (Ok made) told new after says = joined_goes st after told says.answer says.gone says.unchanged says.is
+unite_by old st (Ok made) told new after says = joined_goes _ _ st after told says.answer says.gone says.unchanged says.is
 unite_by old st (Err why) told new after says = inl (not_united_stays why told (Some st) after says.0 says.2)
 
 unite_goes : (old : Cached) (before after : Option StagingData) (told : Reply) (new : Cached) → EndsInUnion old before told new after
