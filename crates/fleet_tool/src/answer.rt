@@ -12,7 +12,7 @@ ghost use Rattle.fleet_tool.specs.Output.{SaysBadLine, SaysUnsound, SaysReplies,
 
 use crate::inspect::inspected;
 use crate::job::TextTask;
-use crate::script_steps::answers;
+use crate::placed_steps::answers;
 use fleet_core::Fleet;
 use log_law::{CheckFault, check_log};
 use redo_core::LawFault;

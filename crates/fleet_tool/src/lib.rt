@@ -21,9 +21,9 @@ mod inspect;
 mod job;
 pub mod laws;
 mod lines;
+mod placed_steps;
 mod program;
 mod run;
-mod script_steps;
 
 pub use answer::Verdict;
 pub use drill_line::DrillTask;

@@ -1,6 +1,6 @@
 use Rattle.std.proofs.Common.{◌++◌, ℕ, List, drop, string_bytes}
 use Rattle.fleet_tool.specs.ScriptSteps.{AnswersSteps}
-use Rattle.fleet_tool.proofs.script_steps.answers.Given as goal
+use Rattle.fleet_tool.proofs.placed_steps.answers.Given as goal
 
 -- with the answers to the steps that are left, the text is the answers to all
 abbrev pub invariant-loop-step : goal.invariant-loop-step

@@ -3,7 +3,7 @@ use Rattle.std.proofs.lemmas.List.{drop_all}
 use Rattle.script_steps.specs.declared.steps.Step.{Step}
 use Rattle.fleet_tool.specs.ScriptSteps.{AnswersSteps}
 use Rattle.fleet_tool.proofs.Steps.{none_left, answered_more}
-use Rattle.fleet_tool.proofs.script_steps.answers.Goals as goal
+use Rattle.fleet_tool.proofs.placed_steps.answers.Goals as goal
 
 pub loop-step-preserved : goal.loop-step-preserved
 loop-step-preserved c =

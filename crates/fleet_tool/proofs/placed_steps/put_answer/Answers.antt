@@ -3,7 +3,7 @@ use Rattle.fleet_core.specs.Replies.{HasCome}
 use Rattle.fleet_tool.specs.Lines.{line_of}
 use Rattle.fleet_tool.specs.ScriptSteps.{AnswersStep}
 use Rattle.fleet_tool.proofs.Steps.{answers_first, pushed}
-use Rattle.fleet_tool.proofs.script_steps.put_answer.Goals as goal
+use Rattle.fleet_tool.proofs.placed_steps.put_answer.Goals as goal
 
 pub returns : goal.returns
 returns c =
