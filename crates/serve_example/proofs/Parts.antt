@@ -1,5 +1,5 @@
 -- Lists of one, and their item.
-use Rattle.std.proofs.Common.{◌≡◌, List, [], ◌∷◌, length, sym, ap, ◌∙◌, arith, Option, Some}
+use Rattle.std.proofs.Common.{◌≡◌, List, [], ◌∷◌, length, sym, ap, ◌∙◌, arith, Some}
 use Rattle.std.specs.Prelude.{slice_get}
 use Rattle.redo_core.proofs.Members.{none_in}
 use Rattle.node_threads.specs.declared.refusal.Refusal.{Refusal}
@@ -12,10 +12,6 @@ at_first xs x is = ap (λ zs. slice_get zs 0) is
 -- two lists of one that are the same have the same item
 pub the_only : {X : Type 0} (xs : List X) (x y : X) → xs ≡ x ∷ [] → xs ≡ y ∷ [] → x ≡ y
 the_only xs x y is also = let at : Some x ≡ Some y = sym (at_first xs x is) ∙ at_first xs y also in cc
-
--- an option has one item
-pub same_item : {X : Type 0} (o : Option X) (x y : X) → o ≡ Some x → o ≡ Some y → x ≡ y
-same_item o x y is also = let at : Some x ≡ Some y = sym is ∙ also in cc
 
 -- where nothing is refused, all workers were started
 pub none_refused : (refusals : List Refusal) → length refusals ≡ 0 → AllStarted refusals
