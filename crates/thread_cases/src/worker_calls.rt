@@ -11,7 +11,7 @@ mod rounds;
 use crate::worker_calls::floors::{print_ends, print_plan};
 use crate::worker_calls::folds::print_folds;
 use crate::worker_calls::gates::{Order, Turnstile};
-use crate::worker_calls::jobs::{print_deliveries, print_jobs, print_rounds};
+use crate::worker_calls::jobs::{print_jobs, print_rounds};
 use crate::worker_calls::rounds::{apart, exchange_and_fold, strangers};
 use case_io::Row;
 use fleet_drill::{MAX_NODES, MAX_WORKERS, Open};
@@ -30,7 +30,6 @@ pub fn answer<R: Threads + Wait + Sync>(rt: &R, row: &Row) -> io::Result<()> {
         "apart" => apart(rt, row),
         "folds" => print_folds(rt, row),
         "jobs" => print_jobs(rt, row),
-        "deliveries" => print_deliveries(rt, row),
         "rounds" => print_rounds(rt, row),
         _ => of_floors(rt, row),
     }

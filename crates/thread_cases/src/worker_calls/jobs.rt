@@ -2,12 +2,12 @@
 ghost use Rattle.std.specs.Prelude.{◌<◌, ◌≤◌};
 
 use crate::Log;
-use crate::worker_calls::diaries::{Call, Diary, print_calls, print_seen};
+use crate::worker_calls::diaries::{Diary, print_calls, print_seen};
 use crate::worker_calls::rounds::{early_at_the_first, print_nodes, work_again};
 use case_io::Row;
-use fleet_drill::{DrillResult, DrillSetup, MAX_NODES, open_floor};
+use fleet_drill::{DrillResult, DrillSetup, MAX_NODES, open_floor, work};
 use node_cell::Node;
-use node_threads::{Plan, Refusal, serve};
+use node_threads::Plan;
 use std::alloc::{AllocError, Global};
 use std::io;
 use std::sync::Wait;
@@ -31,51 +31,16 @@ fn small_floor(alloc: Global, nodes: usize) -> Result<DrillSetup<Log>, AllocErro
     open_floor(alloc, nodes, nodes, 3 * nodes, 3)
 }
 
-// How many nodes and inlets of a setup remain.
-#[derive(Clone, Copy)]
-struct Kept {
-    nodes: usize,
-    inlets: usize,
-}
-
-// Runs a plan on what remains of a setup, under a diary that watches the first node if `is_watched`: the calls, and the refusals.
-fn run_floor<R: Threads + Wait + Sync>(
-    rt: &R,
-    alloc: Global,
-    floor: DrillSetup<Log>,
-    kept: Kept,
-    plan: Plan,
-    is_watched: bool,
-) -> Result<(Vec<Call>, Vec<Refusal>), AllocError> {
-    let DrillSetup {
-        board,
-        mut nodes,
-        feeds,
-        mut inlets,
-    } = floor;
-    nodes.truncate(kept.nodes);
-    inlets.truncate(kept.inlets);
-    let shared = nodes.as_slice();
-    let watched = if is_watched { shared.first() } else { None };
-    let diary = Diary::open(rt, alloc, watched)?;
-    match serve(rt, alloc, shared, feeds, inlets, &board, plan, &diary) {
-        Ok(served) => Ok((diary.into_calls(), served.refusals)),
-        Err(_) => Err(AllocError),
-    }
-}
-
-/// Prints the calls of the gate of a run, by workers, and the refusals. Of four nodes, each with a feed and an inlet, the last two nodes
-/// and the last inlet are left out: so one drainer has no node, and one feeder no inlet.
+/// Prints the calls of the gate of a run, by workers, and what was refused. Four nodes have a feed and an inlet each. One drainer takes
+/// nothing, and some rounds name no node.
 pub fn print_jobs<R: Threads + Wait + Sync>(rt: &R, row: &Row) -> io::Result<()> {
-    let floor = small_floor(row.alloc, 4)?;
-    let kept = Kept {
-        nodes: 2,
-        inlets: 3,
-    };
+    let setup = small_floor(row.alloc, 4)?;
     let plan = jobs_plan(row.alloc)?;
-    let (calls, refusals) = run_floor(rt, row.alloc, floor, kept, plan, false)?;
-    print_calls(row, calls.as_slice(), 10)?;
-    row.one("Refused", &refusals)
+    let diary = Diary::open(rt, row.alloc, None)?;
+    let worked = work(rt, row.alloc, setup, plan, &diary)?;
+    let calls = diary.into_calls();
+    print_calls(row, calls.as_slice(), 11)?;
+    row.one("Refused", &worked.refusals)
 }
 
 // Three drainers, two folders and a gossiper.
@@ -93,23 +58,6 @@ fn jobs_plan(alloc: Global) -> Result<Plan, AllocError> {
         folds,
         gossip,
     })
-}
-
-/// Prints each call of the gate of a run in which one drainer delivers three facts, and how many keys its node had then.
-pub fn print_deliveries<R: Threads + Wait + Sync>(rt: &R, row: &Row) -> io::Result<()> {
-    let floor = small_floor(row.alloc, 1)?;
-    let kept = Kept {
-        nodes: 1,
-        inlets: 1,
-    };
-    let plan = Plan {
-        parcels: [3].to_vec(row.alloc)?,
-        folds: Vec::new(row.alloc),
-        gossip: Vec::new(row.alloc),
-    };
-    let (calls, refusals) = run_floor(rt, row.alloc, floor, kept, plan, true)?;
-    print_seen(row, calls.as_slice())?;
-    row.one("Refused", &refusals)
 }
 
 /// Prints each call of the gate of two runs, how many keys a node had then, and the refusals: the second node asks the first, which
