@@ -73,18 +73,12 @@ MOST_WORDS_TOGETHER = 40000  # of README.md and docs, with their blocks of code
 
 # Crates whose docstrings use such words. The list only gets shorter.
 NOT_YET = (
-    "cluster_theorems",
     "fleet_core",
     "fleet_drill",
     "front_board",
     "hot_log",
-    "intake_queue",
     "line_reasons",
-    "node_c",
-    "node_cell",
-    "node_lock",
     "node_stream",
-    "node_threads",
     "script_text",
     "snapshot",
 )
