@@ -114,7 +114,7 @@ def test_a_round_that_lacks_memory_is_listed(thread_cases, refusing, rng):
     assert rounds_of(ample[1]) == ([], [], True, 8)
     assert None not in answers.values()
     ended = {number: told for number, (status, told, _) in answers.items() if status == 0}
-    assert 2 * len(ended) > len(answers)
+    assert 4 * len(ended) > len(answers)
     listed = set()
     for number, told in ended.items():
         asked, folded, has_asked, pages = rounds_of(told)
