@@ -1,5 +1,6 @@
 """The programs where memory runs out and stays out, and where one request for memory is refused: every run ends, and says so."""
 
+import re
 import time
 from concurrent.futures import ThreadPoolExecutor
 
@@ -10,6 +11,7 @@ from harness import ROOT, answer
 BUDGET = 45  # seconds for the runs of a test
 AT_ONCE = 4  # runs at the same time
 ENDED = "fleet: out of memory\n"
+ROWS = b"== end of threads\nrounds\n"
 FOR_EVER = 2**63
 
 
@@ -91,3 +93,36 @@ def test_a_node_whose_memory_stays_out(fleet_node, refusing, rng):
 
     assert bad(answers, is_good) == {}
     assert any("memory" in told for _, told, _ in answers.values())
+
+
+# Of the rounds of workers
+
+
+def rounds_of(told):
+    """What was refused of the gossip round and of the batch of eight folds, whether the asker has what it asked for, and how many pages
+    are folded: each fold takes four of the 64 keys away."""
+    asked, folded = (re.findall(r"(\w+) \{ worker: (\d+)(?:, fault: (\w+))?", it) for it in re.findall(r"Refusals\((.*)\)", told))
+    fronts = re.findall(r"Front\((.*)\)", told)
+    keys = int(re.findall(r"Stored\(\d+, (\d+)\)", told)[0])
+    return asked, folded, fronts[1] == "0, 64, 32", (64 - keys) // 4
+
+
+def test_a_round_that_lacks_memory_is_listed(thread_cases, refusing, rng):
+    """One request is refused. A round that was not carried out is listed with its worker, and no other; where the program itself lacked
+    memory, it ends."""
+    ample, answers = sweep(refusing, [thread_cases], ROWS, rng, False)
+    assert rounds_of(ample[1]) == ([], [], True, 8)
+    assert None not in answers.values()
+    ended = {number: told for number, (status, told, _) in answers.items() if status == 0}
+    assert 4 * len(ended) > len(answers)
+    listed = set()
+    for number, told in ended.items():
+        asked, folded, has_asked, pages = rounds_of(told)
+        listed |= {(kind, fault) for kind, _, fault in asked + folded}
+        # The other worker of each run has no round: that it was not started changes nothing.
+        assert has_asked == all(worker != "2" for _, worker, _ in asked), (number, told)
+        assert (pages == 8) == all(worker != "1" for _, worker, _ in folded), (number, told)
+        if "NotStarted" not in told:
+            assert {worker for _, worker, _ in asked} <= {"2"} and {worker for _, worker, _ in folded} <= {"1"}, (number, told)
+            assert len(folded) == 8 - pages or (len(folded), pages) == (1, 0), (number, told)
+    assert {("Memory", ""), ("Commit", "Memory"), ("Absorb", "Memory")} <= listed
