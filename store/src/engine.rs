@@ -93,7 +93,7 @@ impl Engine {
             if is_stopped {
                 return self.drain();
             }
-            if self.housekeeping.is_due() {
+            if self.housekeeping.is_scheduled() {
                 self.housekeeping.slice(&mut self.store, &self.metrics)?;
             }
             if Instant::now() >= self.next_look {

@@ -25,16 +25,26 @@ pub fn judge(request: Vec<u8>, most: u32) -> Verdict {
     match requests::word(&request) {
         b"status" => Verdict::Status,
         b"metrics" => Verdict::Metrics,
-        b"many" if has_replacing(&request) => Verdict::Answer(b"not allowed".to_vec()),
+        b"many" => judge_many(request, most),
         word if REPLACING.contains(&word) => Verdict::Answer(b"not allowed".to_vec()),
         b"answer" | b"within" => Verdict::Ask(bounded(&request, most).unwrap_or(request)),
         _ => Verdict::Ask(request),
     }
 }
 
-fn has_replacing(many: &[u8]) -> bool {
-    let inside = many.strip_prefix(b"many ").and_then(frames::inside).unwrap_or_default();
-    inside.into_iter().any(|request| REPLACING.contains(&requests::word(request)))
+/// Judges the requests in a `many`. If one of them is refused, all are.
+fn judge_many(request: Vec<u8>, most: u32) -> Verdict {
+    let inside = request.strip_prefix(b"many ").and_then(frames::inside).unwrap_or_default();
+    if inside.iter().any(|it| REPLACING.contains(&requests::word(it))) {
+        return Verdict::Answer(b"not allowed".to_vec());
+    }
+    let limited: Vec<_> = inside.iter().map(|it| bounded(it, most)).collect();
+    if limited.iter().all(Option::is_none) {
+        return Verdict::Ask(request);
+    }
+    let asked = inside.iter().zip(&limited).map(|(it, limited)| limited.as_deref().unwrap_or(it));
+    // The request is too long only where the limits make it longer than 4 GiB.
+    requests::many(asked).map_or_else(|_| Verdict::Answer(b"long frame".to_vec()), Verdict::Ask)
 }
 
 /// The request for a delta with a limit; nothing where the segment will find its form bad.
@@ -75,6 +85,9 @@ mod tests {
         let ask = |request: &[u8]| Verdict::Ask(request.to_vec());
         assert_eq!(judged(b"answer \x10 \0"), ask(b"within 100 \x10 \0"));
         assert_eq!(judged(b"within 101 \x10 \0"), ask(b"within 100 \x10 \0"));
+        let many = requests::many([&b"front"[..], b"answer \x10", b"within 99 \x10"]).unwrap();
+        let limited = requests::many([&b"front"[..], b"within 100 \x10", b"within 99 \x10"]).unwrap();
+        assert_eq!(judged(&many), ask(&limited));
         for kept in [&b"within 99 \x10"[..], b"within 100 \x10", b"within x \x10", b"within", b"answer", b"within 5000000000 x"] {
             assert_eq!(judged(kept), ask(kept));
         }

@@ -12,11 +12,11 @@ use yieldcleat_client::{answers, frames, requests};
 /// The most pages of a slice.
 const SLICE: usize = 256;
 const PAGES: usize = 1 << 16;
-/// For so long no snapshot is made after a request for a piece of another one, which it would displace; unless the log has this many
-/// times the bytes after which it is due.
+/// No snapshot is made within this time after a request for a piece of another one, which it would displace, unless the log has
+/// `OVERDUE` times the bytes at which one is scheduled.
 const QUIET: Duration = Duration::from_secs(10);
 const OVERDUE: f64 = 4.0;
-/// For so long no snapshot is tried after one that failed.
+/// No snapshot is tried within this time after one that failed.
 const AGAIN: Duration = Duration::from_secs(10);
 
 pub struct Housekeeping {
@@ -56,7 +56,7 @@ impl Housekeeping {
         }
     }
 
-    pub fn is_due(&self) -> bool {
+    pub fn is_scheduled(&self) -> bool {
         Instant::now() >= self.next
     }
 
@@ -136,8 +136,8 @@ impl Housekeeping {
     fn snapshot(&mut self, store: &mut Store) -> Result<(), StoreError> {
         let activity = store.activity();
         let (least, begin) = (self.snapshot_after.max(2 * activity.snapshot) as f64 * self.stagger, Instant::now());
-        let due = if begin < self.quiet_until { OVERDUE * least } else { least };
-        if (activity.log as f64) < due || begin < self.again_at {
+        let enough = if begin < self.quiet_until { OVERDUE * least } else { least };
+        if (activity.log as f64) < enough || begin < self.again_at {
             return Ok(());
         }
         match store.checkpoint() {
