@@ -1,8 +1,9 @@
 #!/usr/bin/env python3
-"""Draws a log, or a script after some of its steps, as SVG on standard output.
+"""Draws a log, a script after some of its steps, or a run of a volume, as SVG on standard output.
 
     draw.py FILE                a log (as `fleet check` reads it), or a script (as `fleet run` does) at its end
     draw.py FILE --after N      the script after its first N steps
+    draw.py --volume NAME       the messages of a run of a volume (`volume_pictures.py`)
     draw.py --documents         makes each picture that a document has a command for, in its place
 
 From the top: the chain of the segment, with a lane for each epoch and what each truncation annuls; the chain of each page; the
@@ -23,6 +24,7 @@ ROOT = pathlib.Path(__file__).resolve().parents[1]
 sys.path.insert(0, str(ROOT / "tests"))
 
 import svg_forms as forms
+import volume_pictures
 from model import oracle
 from model.facts import Advance, Cut, Record, of_kind
 from model.rules import Meaning, counted, first_fault, is_alive
@@ -404,13 +406,19 @@ def picture_of(path, after=None):
     return drawn(log, fleet.nodes, title, f"after {len(steps)} of {len(reader.steps)} steps{last}")
 
 
-COMMAND = re.compile(r"^    tools/draw\.py (examples/[a-z]+\.txt)(?: --after ([0-9]+))? > (docs/pictures/[a-z]+\.svg)$", re.M)
+SUBJECT = r"(?:(examples/[a-z]+\.txt)(?: --after ([0-9]+))?|--volume ([a-z]+))"
+COMMAND = re.compile(rf"^    tools/draw\.py {SUBJECT} > (docs/pictures/[a-z]+\.svg)$", re.M)
+
+
+def picture_by(text, after, run):
+    """The picture of what a command names: a file, perhaps with a number of steps, or a run of a volume."""
+    return volume_pictures.drawn(run) if run else picture_of(ROOT / text, int(after) if after else None)
 
 
 def pictures():
     """The bytes of each picture, as the command makes it that a document has for it."""
     commands = [found for page in sorted(ROOT.glob("docs/*.md")) for found in COMMAND.findall(page.read_text())]
-    return {ROOT / name: picture_of(ROOT / text, int(after) if after else None).encode() for text, after, name in commands}
+    return {ROOT / name: picture_by(*subject).encode() for *subject, name in commands}
 
 
 class Parser(argparse.ArgumentParser):
@@ -425,12 +433,16 @@ def main():
     parser.add_argument("file", type=pathlib.Path, nargs="?", help="the text of a log or of a script")
     parser.add_argument("--documents", action="store_true", help="make the pictures of the documents")
     parser.add_argument("--after", type=int, metavar="N", help="how many steps of the script go before")
+    parser.add_argument("--volume", choices=sorted(volume_pictures.RUNS), help="a run of a volume")
     given = parser.parse_args()
-    if given.documents == (given.file is not None):
-        parser.error("a file, or --documents")
+    if [given.documents, given.file is not None, given.volume is not None].count(True) != 1:
+        parser.error("a file, --volume, or --documents")
     if given.documents:
         for path, content in pictures().items():
             path.write_bytes(content)
+        return
+    if given.volume:
+        sys.stdout.write(volume_pictures.drawn(given.volume))
         return
     try:
         picture = picture_of(given.file, given.after)
