@@ -6,12 +6,14 @@ mod floors;
 mod folds;
 mod gates;
 mod jobs;
+mod missing;
 mod rounds;
 
 use crate::worker_calls::floors::{print_ends, print_plan};
 use crate::worker_calls::folds::print_folds;
 use crate::worker_calls::gates::{Order, Turnstile};
 use crate::worker_calls::jobs::{print_jobs, print_rounds};
+use crate::worker_calls::missing::{print_fewer_inlets, print_fewer_nodes};
 use crate::worker_calls::rounds::{apart, exchange_and_fold, strangers};
 use case_io::Row;
 use fleet_drill::{MAX_NODES, MAX_WORKERS, Open};
@@ -31,6 +33,8 @@ pub fn answer<R: Threads + Wait + Sync>(rt: &R, row: &Row) -> io::Result<()> {
         "folds" => print_folds(rt, row),
         "jobs" => print_jobs(rt, row),
         "rounds" => print_rounds(rt, row),
+        "fewer_inlets" => print_fewer_inlets(rt, row),
+        "fewer_nodes" => print_fewer_nodes(rt, row),
         _ => of_floors(rt, row),
     }
 }

@@ -82,6 +82,26 @@ impl Progress {
     }
 }
 
+/// Hands each request of the log in a folder to `each`, in order, and changes nothing. The result says whether the log begins with an
+/// empty segment; otherwise a snapshot has what came before.
+///
+/// Errors: `Locked` while a store has the folder open, `Io`, `Missing` and `Damaged`.
+pub fn read_log(folder: &Path, mut each: impl FnMut(&[u8])) -> Result<bool, StoreError> {
+    if !folder.is_dir() {
+        return Err(StoreError::Missing { path: folder.to_path_buf() });
+    }
+    let folder = Folder::open(folder)?;
+    let generation = folder.generation()?.ok_or_else(|| StoreError::Missing { path: folder.path(Kind::Log, 0) })?;
+    let (mut entries, mut bytes) = (Entries::open(&folder.path(Kind::Log, generation), Kind::Log, generation)?, Vec::new());
+    loop {
+        match entries.next(&mut bytes)? {
+            Next::Entry => entries.requests(&bytes)?.into_iter().for_each(&mut each),
+            Next::End => return Ok(generation == 0),
+            Next::Spoiled => return entries.torn().map(|_| generation == 0),
+        }
+    }
+}
+
 impl Store {
     /// Brings a new node to what a folder has, or makes the folder for an empty segment of so many readers.
     ///

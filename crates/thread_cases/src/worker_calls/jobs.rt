@@ -24,8 +24,8 @@ fn lists(alloc: Global, workers: &[&[Round]]) -> Result<Vec<Vec<Round>>, AllocEr
     Ok(lists)
 }
 
-// The setup of a drill of so many nodes to which three facts each are dealt.
-fn small_floor(alloc: Global, nodes: usize) -> Result<DrillSetup<Log>, AllocError>
+/// The setup of a drill of so many nodes to which three facts each are dealt.
+pub fn small_floor(alloc: Global, nodes: usize) -> Result<DrillSetup<Log>, AllocError>
     requires { (0 < nodes) × (nodes ≤ MAX_NODES) }
 {
     open_floor(alloc, nodes, nodes, 3 * nodes, 3)
