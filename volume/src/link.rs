@@ -1,0 +1,179 @@
+//! The connection to one node, in a thread of its own: it connects, sends what is queued, and hands the answers on.
+
+use crate::options::Options;
+use std::sync::mpsc::{Receiver, Sender};
+use std::sync::{mpsc, Arc, Mutex, MutexGuard, PoisonError};
+use std::thread::{self, JoinHandle};
+use std::time::{Duration, Instant};
+use std::{io, mem};
+use yieldcleat_client::{frames, requests, Address, Calls, Connection, Error, Limits, Stream};
+
+/// The most requests of one frame, and the bytes after which no other one is added to it.
+const MOST: usize = 256;
+const ENOUGH: usize = 1 << 18;
+
+/// What a link says.
+pub enum Heard {
+    /// The node is connected. Requests go into this queue; those of the queue before are lost, unless they were answered.
+    Up {
+        node: u8,
+        queue: Sender<Vec<u8>>,
+    },
+    /// The node is not connected any more.
+    Down {
+        node: u8,
+    },
+    Answered {
+        node: u8,
+        request: Vec<u8>,
+        answer: Vec<u8>,
+    },
+}
+
+/// The socket of a link, so that another thread can end it, and whether the link is to end.
+#[derive(Default)]
+struct Shared {
+    stream: Option<Stream>,
+    is_stopped: bool,
+}
+
+/// A thread with the connection to one node. Dropping it ends the thread.
+pub struct Link {
+    shared: Arc<Mutex<Shared>>,
+    thread: Option<JoinHandle<()>>,
+}
+
+fn lock(shared: &Mutex<Shared>) -> MutexGuard<'_, Shared> {
+    shared.lock().unwrap_or_else(PoisonError::into_inner)
+}
+
+impl Link {
+    /// Starts the thread for a node; what it hears goes to `heard`, until that refuses.
+    pub fn start<H>(node: u8, options: &Options, heard: H) -> io::Result<Link>
+    where
+        H: Fn(Heard) -> Option<()> + Send + 'static,
+    {
+        let shared = Arc::new(Mutex::new(Shared::default()));
+        let worker = Worker {
+            node,
+            address: options.nodes[usize::from(node)].clone(),
+            limits: options.limits,
+            retry: options.retry,
+            shared: shared.clone(),
+            heard,
+        };
+        let thread = thread::Builder::new().name(format!("node {node}")).spawn(move || worker.run())?;
+        Ok(Link { shared, thread: Some(thread) })
+    }
+}
+
+impl Drop for Link {
+    fn drop(&mut self) {
+        let mut shared = lock(&self.shared);
+        shared.is_stopped = true;
+        if let Some(stream) = &shared.stream {
+            // An error says that the connection has ended already.
+            let _ = stream.shutdown();
+        }
+        drop(shared);
+        if let Some(thread) = self.thread.take() {
+            thread.thread().unpark();
+            // A link that has panicked has said so; the others go on.
+            let _ = thread.join();
+        }
+    }
+}
+
+struct Worker<H> {
+    node: u8,
+    address: Address,
+    limits: Limits,
+    retry: Duration,
+    shared: Arc<Mutex<Shared>>,
+    heard: H,
+}
+
+impl<H: Fn(Heard) -> Option<()>> Worker<H> {
+    fn run(&self) {
+        while let Some(connection) = self.connect() {
+            let Some(answered) = self.serve(connection) else {
+                return;
+            };
+            if (self.heard)(Heard::Down { node: self.node }).is_none() {
+                return;
+            }
+            if answered == 0 {
+                // It takes connections and no requests.
+                thread::park_timeout(self.retry);
+            }
+        }
+    }
+
+    /// Connects, however long it takes; nothing where the link is to end.
+    fn connect(&self) -> Option<Connection> {
+        let begun = Instant::now();
+        loop {
+            if let Ok(stream) = Stream::connect(&self.address, self.limits.connect) {
+                let own = stream.try_clone().ok();
+                let mut shared = lock(&self.shared);
+                shared.stream = own;
+                if shared.is_stopped {
+                    return None;
+                }
+                if let Ok(connection) = Connection::over(stream, self.limits) {
+                    return Some(connection);
+                }
+            }
+            if lock(&self.shared).is_stopped {
+                return None;
+            }
+            // A node that is away for long is tried less often.
+            thread::park_timeout(self.retry.max(begun.elapsed() / 8).min(self.retry * 10));
+        }
+    }
+
+    /// Sends what is queued until the connection fails or the queue is dropped, and returns how many requests were answered; nothing where
+    /// nobody listens.
+    fn serve(&self, mut connection: Connection) -> Option<usize> {
+        let (mut answered, (queue, queued)) = (0, mpsc::channel());
+        (self.heard)(Heard::Up { node: self.node, queue })?;
+        while let Ok(first) = queued.recv() {
+            let batch = gather(first, &queued);
+            let Ok(answers) = ask(&mut connection, &batch) else {
+                break;
+            };
+            answered += answers.len();
+            for (request, answer) in batch.into_iter().zip(answers) {
+                (self.heard)(Heard::Answered { node: self.node, request, answer })?;
+            }
+        }
+        Some(answered)
+    }
+}
+
+/// The requests of the next frame: what is queued, as far as one frame holds it.
+fn gather(first: Vec<u8>, queued: &Receiver<Vec<u8>>) -> Vec<Vec<u8>> {
+    let (mut bytes, mut batch) = (first.len(), vec![first]);
+    while batch.len() < MOST && bytes < ENOUGH {
+        let Ok(request) = queued.try_recv() else {
+            break;
+        };
+        bytes += request.len();
+        batch.push(request);
+    }
+    batch
+}
+
+/// The answer to each request.
+fn ask(connection: &mut Connection, batch: &[Vec<u8>]) -> Result<Vec<Vec<u8>>, Error> {
+    if let [request] = batch {
+        return connection.ask(request).map(|answer| vec![answer.to_vec()]);
+    }
+    let request = requests::many(batch.iter().map(Vec::as_slice)).map_err(|_| Error::LongFrame)?;
+    let answer = mem::take(&mut connection.ask(&request)?.to_vec());
+    match frames::inside(&answer) {
+        Some(answers) if answers.len() == batch.len() => Ok(answers.into_iter().map(<[u8]>::to_vec).collect()),
+        // The node says it of the whole frame: that its disk is full, say.
+        _ => Ok(vec![answer; batch.len()]),
+    }
+}

@@ -1,0 +1,101 @@
+//! How a volume is reached, and for how long its calls wait.
+
+use std::fmt;
+use std::time::Duration;
+use yieldcleat_client::{Address, Limits};
+
+/// The most nodes of a volume.
+const MOST_NODES: usize = 15;
+
+/// The nodes of a volume, and how long calls wait.
+#[derive(Debug, Clone, PartialEq, Eq)]
+pub struct Options {
+    /// Where each node listens, by its number from 0. It is the same list in each process that uses the volume.
+    pub nodes: Vec<Address>,
+    /// How many nodes make a write quorum: more than half of them.
+    pub quorum: u8,
+    /// How long opening, a commit and a read may take.
+    pub patience: Duration,
+    /// How long a connection waits for one answer before it counts as lost.
+    pub limits: Limits,
+    /// The pause before a node that cannot be reached is tried again.
+    pub retry: Duration,
+    /// How long nodes are left alone while a commit waits for them; then they are asked again.
+    pub remind: Duration,
+    /// The most bytes of mini-transactions that are not durable. A commit beyond that waits.
+    pub in_flight: usize,
+}
+
+/// Why options are no volume.
+#[derive(Debug, Clone, Copy, PartialEq, Eq)]
+pub enum BadOptions {
+    /// There are 1 to 15 nodes.
+    Nodes { count: usize },
+    /// A quorum is more than half of the nodes, and at most all.
+    Quorum { quorum: u8, nodes: usize },
+}
+
+impl fmt::Display for BadOptions {
+    fn fmt(&self, f: &mut fmt::Formatter<'_>) -> fmt::Result {
+        match self {
+            BadOptions::Nodes { count } => write!(f, "{count} nodes are not 1 to {MOST_NODES}"),
+            BadOptions::Quorum { quorum, nodes } => write!(f, "{quorum} of {nodes} nodes are no write quorum"),
+        }
+    }
+}
+
+impl std::error::Error for BadOptions {}
+
+impl Options {
+    /// These nodes, with a quorum of two thirds of them (four of six) and usual times.
+    pub fn new(nodes: Vec<Address>) -> Options {
+        let quorum = (nodes.len() * 2).div_ceil(3).max(nodes.len() / 2 + 1);
+        Options {
+            quorum: u8::try_from(quorum).unwrap_or(u8::MAX),
+            nodes,
+            patience: Duration::from_secs(10),
+            limits: Limits { connect: Duration::from_secs(1), answer: Duration::from_secs(5), ..Limits::default() },
+            retry: Duration::from_millis(100),
+            remind: Duration::from_millis(30),
+            in_flight: 8 << 20,
+        }
+    }
+
+    /// Whether they are those of a volume.
+    pub fn check(&self) -> Result<(), BadOptions> {
+        let (nodes, quorum) = (self.nodes.len(), self.quorum);
+        if nodes == 0 || nodes > MOST_NODES {
+            return Err(BadOptions::Nodes { count: nodes });
+        }
+        if usize::from(quorum) > nodes || 2 * usize::from(quorum) <= nodes {
+            return Err(BadOptions::Quorum { quorum, nodes });
+        }
+        Ok(())
+    }
+}
+
+#[cfg(test)]
+mod tests {
+    use super::*;
+
+    fn of(nodes: usize) -> Options {
+        Options::new((0..nodes).map(|place| Address::Unix(format!("node{place}").into())).collect())
+    }
+
+    #[test]
+    fn usual_quorums_intersect() {
+        for nodes in 1..=15 {
+            assert_eq!(of(nodes).check(), Ok(()), "{nodes}");
+        }
+        assert_eq!((of(6).quorum, of(3).quorum, of(1).quorum), (4, 2, 1));
+    }
+
+    #[test]
+    fn what_is_no_volume() {
+        assert_eq!(of(0).check(), Err(BadOptions::Nodes { count: 0 }));
+        assert_eq!(of(16).check(), Err(BadOptions::Nodes { count: 16 }));
+        for quorum in [0, 3, 7] {
+            assert_eq!(Options { quorum, ..of(6) }.check(), Err(BadOptions::Quorum { quorum, nodes: 6 }));
+        }
+    }
+}

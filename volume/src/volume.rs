@@ -1,0 +1,238 @@
+//! The engine's handle of a volume.
+
+use crate::driver::{Call, Driver, Input};
+use crate::errors::VolumeError;
+use crate::link::Link;
+use crate::machine::{Fault, Machine};
+use crate::options::Options;
+use crate::progress::{Progress, Standing};
+use crate::reading::{Range, Readers};
+use std::sync::mpsc::{self, Sender};
+use std::sync::Arc;
+use std::thread::{self, JoinHandle};
+use std::time::{Duration, Instant};
+use yieldcleat_client::{Patch, PAGE_LEN};
+
+/// The last bytes of each page, which are the volume's own.
+const RESERVED: usize = 8;
+const MOST_HEADER: usize = 1024;
+const MOST_PATCHES: usize = 64;
+const MOST_WRITTEN: usize = 8192 - RESERVED;
+
+/// What a mini-transaction does to one page.
+#[derive(Debug, Clone, PartialEq, Eq)]
+pub struct PageWrite {
+    /// From 1.
+    pub page: u16,
+    /// Whether the page is all zeros before the patches.
+    pub init: bool,
+    /// At most 63 within the page's first 4,088 bytes, whose writes have at most 8,184 bytes together.
+    pub patches: Vec<Patch>,
+}
+
+impl PageWrite {
+    /// How many bytes it sends, about.
+    pub(crate) fn bytes(&self) -> usize {
+        40 + self.patches.iter().map(|patch| 5 + written(patch)).sum::<usize>()
+    }
+
+    fn check(&self) -> Result<(), VolumeError> {
+        let is_inside = |patch: &Patch| {
+            let (offset, length) = match patch {
+                Patch::Write { offset, bytes } => (*offset, bytes.len()),
+                Patch::Fill { offset, count, .. } => (*offset, usize::from(*count)),
+            };
+            length > 0 && usize::from(offset) + length <= PAGE_LEN - RESERVED
+        };
+        let total: usize = self.patches.iter().map(written).sum();
+        match self.page > 0 && self.patches.len() < MOST_PATCHES && total <= MOST_WRITTEN && self.patches.iter().all(is_inside) {
+            true => Ok(()),
+            false => Err(VolumeError::Argument("a page or a patch")),
+        }
+    }
+}
+
+fn written(patch: &Patch) -> usize {
+    match patch {
+        Patch::Write { bytes, .. } => bytes.len(),
+        Patch::Fill { .. } => 0,
+    }
+}
+
+/// A volume that this process writes to. Its calls may come from many threads. Dropping it closes it: what is not durable then is in doubt.
+pub struct Volume {
+    options: Options,
+    inputs: Sender<Input>,
+    progress: Arc<Progress>,
+    readers: Readers,
+    /// Ended before the driver.
+    links: Vec<Link>,
+    driver: Option<JoinHandle<()>>,
+}
+
+impl Volume {
+    /// Makes a new volume of nodes that are all fresh, and opens it.
+    ///
+    /// Errors: those of `open`, and `Refused` with `NotFresh`, where nothing was promised: start all nodes afresh.
+    pub fn create<M: Machine + 'static>(machine: M, options: Options) -> Result<Volume, VolumeError> {
+        let (volume, deadline) = Volume::start(machine, options)?;
+        let created = volume.call(|done| Call::Create { done }, deadline);
+        match created {
+            // The admissions are on their way, and an opening waits for them.
+            None | Some(Ok(())) => {}
+            Some(Err(error)) => return Err(error),
+        }
+        volume.open_until(deadline)?;
+        Ok(volume)
+    }
+
+    /// Opens the volume for writing, and fences each engine that has it open.
+    ///
+    /// Errors: `Options`, `Thread`, `NotOpened`, `Refused`.
+    pub fn open<M: Machine + 'static>(machine: M, options: Options) -> Result<Volume, VolumeError> {
+        let (volume, deadline) = Volume::start(machine, options)?;
+        volume.open_until(deadline)?;
+        Ok(volume)
+    }
+
+    /// Starts the threads of a volume.
+    fn start<M: Machine + 'static>(machine: M, options: Options) -> Result<(Volume, Instant), VolumeError> {
+        options.check().map_err(VolumeError::Options)?;
+        let deadline = Instant::now() + options.patience;
+        let (inputs, received) = mpsc::channel();
+        let progress = Arc::new(Progress::default());
+        let driver = Driver::new(machine, &options, progress.clone());
+        let thread = |error: std::io::Error| VolumeError::Thread(error.kind());
+        let driver = thread::Builder::new().name("volume".into()).spawn(move || driver.run(&received)).map_err(thread)?;
+        let readers = Readers::new(&options);
+        let mut volume = Volume { inputs, progress, readers, links: Vec::new(), driver: Some(driver), options };
+        for node in 0..volume.options.nodes.len() {
+            let inputs = volume.inputs.clone();
+            let link = Link::start(node as u8, &volume.options, move |heard| inputs.send(Input::Heard(heard)).ok());
+            volume.links.push(link.map_err(thread)?);
+        }
+        Ok((volume, deadline))
+    }
+
+    /// Opens under ever greater generations, until it succeeds or the time is up.
+    fn open_until(&self, deadline: Instant) -> Result<(), VolumeError> {
+        let mut generation = self.next_generation();
+        loop {
+            match self.call(|done| Call::Open { generation, done }, deadline) {
+                Some(Ok(())) => return Ok(()),
+                Some(Err(VolumeError::Fenced { generation: later })) => generation = later.saturating_add(1),
+                Some(Err(VolumeError::Refused(Fault::NoQuorum { .. }))) => generation = generation.saturating_add(1),
+                Some(Err(error)) => return Err(error),
+                None => return Err(self.not_opened()),
+            }
+            if Instant::now() >= deadline {
+                return Err(self.not_opened());
+            }
+            // Two engines that open at the same time fence each other; they must not go on in step.
+            thread::sleep(self.options.retry.mul_f64(0.5 + jitter()));
+        }
+    }
+
+    fn not_opened(&self) -> VolumeError {
+        VolumeError::NotOpened { have: self.progress.count_answering(), need: self.options.quorum }
+    }
+
+    /// One above the greatest generation that a node shows.
+    fn next_generation(&self) -> u64 {
+        let answers = self.readers.ask_all(b"status");
+        answers.iter().filter_map(|answer| generation_of(answer)).max().unwrap_or(0).saturating_add(1)
+    }
+
+    /// Sends a call to the driver, and waits for its result; nothing where it does not come before the deadline.
+    fn call<T>(&self, call: impl FnOnce(Sender<Result<T, VolumeError>>) -> Call, deadline: Instant) -> Option<Result<T, VolumeError>> {
+        let (done, result) = mpsc::channel();
+        if self.inputs.send(Input::Call(call(done))).is_err() {
+            return Some(Err(VolumeError::Closed));
+        }
+        result.recv_timeout(deadline.saturating_duration_since(Instant::now())).ok()
+    }
+
+    /// How far the volume is.
+    ///
+    /// Errors: the one that has ended it.
+    pub fn standing(&self) -> Result<Standing, VolumeError> {
+        self.progress.standing()
+    }
+
+    /// Writes a mini-transaction with up to 1,024 bytes of the engine's own, and returns its commit point. It is sent, and not yet
+    /// durable: `wait` says when it is. Where too much is not durable it waits first.
+    ///
+    /// Errors: `Argument`, and `Busy` after the time allowed, where nothing was written; `Fenced` and what else has ended the volume.
+    pub fn write(&self, writes: Vec<PageWrite>, header: Vec<u8>) -> Result<u64, VolumeError> {
+        writes.iter().try_for_each(PageWrite::check)?;
+        if header.len() > MOST_HEADER {
+            return Err(VolumeError::Argument("a header"));
+        }
+        let deadline = Instant::now() + self.options.patience;
+        match self.progress.wait_room(self.options.in_flight, deadline) {
+            Some(room) => room?,
+            None => return Err(VolumeError::Busy { have: self.progress.count_answering(), need: self.options.quorum }),
+        }
+        // The driver waits for no node, so it answers.
+        self.call(|done| Call::Commit { writes, header, done }, deadline + self.options.patience).unwrap_or(Err(VolumeError::Closed))
+    }
+
+    /// Waits until a commit point is durable.
+    ///
+    /// Errors: `InDoubt` after the time allowed, and then it may be waited for again; `Fenced` and what else has ended the volume.
+    pub fn wait(&self, commit_point: u64, patience: Duration) -> Result<(), VolumeError> {
+        let in_doubt = || VolumeError::InDoubt { commit_point, have: self.progress.count_answering(), need: self.options.quorum };
+        self.progress.wait_durable(commit_point, Instant::now() + patience).unwrap_or_else(|| Err(in_doubt()))
+    }
+
+    /// Writes a mini-transaction and waits until it is durable.
+    ///
+    /// Errors: those of `write` and of `wait`.
+    pub fn commit(&self, writes: Vec<PageWrite>, header: Vec<u8>) -> Result<u64, VolumeError> {
+        let commit_point = self.write(writes, header)?;
+        self.wait(commit_point, self.options.patience)?;
+        Ok(commit_point)
+    }
+
+    /// `length` bytes of a page from `offset` on, at a durable commit point.
+    ///
+    /// Errors: `Argument`, `Below`, `NotRead`.
+    pub fn read(&self, page: u16, point: u64, offset: u16, length: u16) -> Result<Vec<u8>, VolumeError> {
+        if length == 0 || usize::from(offset) + usize::from(length) > PAGE_LEN {
+            return Err(VolumeError::Argument("a range of a page"));
+        }
+        let epoch = self.progress.standing()?.epoch;
+        self.readers.read(Range { epoch, page, point, offset, length }, Instant::now() + self.options.patience)
+    }
+
+    /// Says that a reader, from 1, reads nothing below a durable commit point any more.
+    ///
+    /// Errors: `Refused` with `Ahead`, and what has ended the volume.
+    pub fn advance(&self, reader: u8, point: u64) -> Result<(), VolumeError> {
+        let deadline = Instant::now() + self.options.patience;
+        self.call(|done| Call::Advance { reader, point, done }, deadline).unwrap_or(Err(VolumeError::Closed))
+    }
+}
+
+impl Drop for Volume {
+    fn drop(&mut self) {
+        // A driver that has ended needs no word.
+        let _ = self.inputs.send(Input::Close);
+        self.links.clear();
+        if let Some(driver) = self.driver.take() {
+            let _ = driver.join();
+        }
+    }
+}
+
+/// The generation in an answer to `status`.
+fn generation_of(answer: &[u8]) -> Option<u64> {
+    std::str::from_utf8(answer).ok()?.strip_prefix("status ")?.split(' ').next()?.parse().ok()
+}
+
+/// A number from 0 to 1 that differs between processes.
+fn jitter() -> f64 {
+    use std::collections::hash_map::RandomState;
+    use std::hash::{BuildHasher, Hasher};
+    (RandomState::new().build_hasher().finish() % 1000) as f64 / 1000.0
+}

@@ -1,0 +1,398 @@
+//! The driver over a machine that only counts fronts, and nodes that keep one chain of records: connections that break, nodes that are
+//! away, slow or fenced. The proved machine has tests of its own; this one opens nothing again and recovers nothing.
+
+use std::collections::{BTreeMap, BTreeSet};
+use std::os::unix::net::{UnixListener, UnixStream};
+use std::path::{Path, PathBuf};
+use std::sync::atomic::{AtomicU32, Ordering};
+use std::sync::{Arc, Mutex};
+use std::time::{Duration, Instant};
+use std::{env, fs, process, thread};
+use yieldcleat_client::{frames, Address, Limits, Patch, Record, PAGE_LEN};
+use yieldcleat_volume::{Action, Event, Fault, Machine, Options, OutOfMemory, PageWrite, Volume, VolumeError};
+
+// A machine that counts fronts
+
+#[derive(Default)]
+struct Counting {
+    nodes: u8,
+    quorum: usize,
+    last: u64,
+    pages: BTreeMap<u16, u64>,
+    /// The records that are not durable, and which of them are commit points.
+    kept: BTreeMap<u64, Vec<u8>>,
+    commits: BTreeSet<u64>,
+    fronts: BTreeMap<u8, u64>,
+    durable: u64,
+    is_opening: bool,
+}
+
+impl Counting {
+    fn all(&self, request: &[u8]) -> Vec<Action> {
+        (0..self.nodes).map(|node| Action::Ask { node, request: request.to_vec() }).collect()
+    }
+
+    fn record(&mut self, page: u16, init: bool, patches: &[Patch]) -> Vec<Action> {
+        let number = self.last + 1;
+        let block_back = self.pages.insert(page, number).unwrap_or(0);
+        let record = Record { epoch: 0, number, back: self.last, page, block_back, begins_anew: init, patches: patches.to_vec() };
+        self.last = number;
+        let request = [b"take ".to_vec(), record.encode().unwrap()].concat();
+        self.kept.insert(number, request.clone());
+        self.all(&request)
+    }
+
+    fn hear(&mut self, node: u8, answer: &str) -> Vec<Action> {
+        if let Some(generation) = answer.strip_prefix("stale ") {
+            return vec![Action::Refused(Fault::Fenced { generation: generation.parse().unwrap() })];
+        }
+        let Some(complete) = answer.strip_prefix("front 0 ").and_then(|rest| rest.split(' ').next()?.parse().ok()) else {
+            return Vec::new();
+        };
+        self.fronts.insert(node, complete);
+        let mut fronts: Vec<_> = self.fronts.values().copied().collect();
+        fronts.sort_unstable();
+        let Some(reached) = fronts.len().checked_sub(self.quorum).map(|place| fronts[place]) else {
+            return Vec::new();
+        };
+        if self.is_opening {
+            self.is_opening = false;
+            return vec![Action::Opened { epoch: 0, commit_point: 0, header: Vec::new() }];
+        }
+        match self.commits.range(..=reached).next_back().copied().filter(|point| *point > self.durable) {
+            Some(commit_point) => {
+                self.durable = commit_point;
+                self.kept.retain(|number, _| *number > commit_point);
+                vec![Action::Durable { commit_point }]
+            }
+            None => Vec::new(),
+        }
+    }
+}
+
+impl Machine for Counting {
+    fn step(&mut self, event: Event<'_>) -> Result<Vec<Action>, OutOfMemory> {
+        Ok(match event {
+            Event::Create => Vec::new(),
+            Event::Open { .. } => {
+                self.is_opening = true;
+                self.all(b"front")
+            }
+            Event::Write { page, init, patches } => self.record(page, init, patches),
+            Event::Commit { .. } => {
+                let mut actions = self.record(0, false, &[]);
+                self.commits.insert(self.last);
+                actions.extend(self.all(b"front"));
+                actions.push(Action::Committed { commit_point: self.last });
+                actions
+            }
+            Event::Advance { point, .. } if point > self.durable => vec![Action::Refused(Fault::Ahead { durable: self.durable })],
+            Event::Advance { .. } => Vec::new(),
+            Event::Answered { node, answer, .. } => self.hear(node, &String::from_utf8_lossy(answer)),
+            Event::Failed { node } => {
+                let kept = self.kept.values().map(Vec::as_slice).chain([&b"front"[..]]);
+                kept.map(|request| Action::Ask { node, request: request.to_vec() }).collect()
+            }
+        })
+    }
+}
+
+// Nodes with one chain of records
+
+#[derive(Default)]
+struct State {
+    records: BTreeMap<u64, (u16, Vec<(usize, Vec<u8>)>)>,
+    is_away: bool,
+    /// Each connection ends after so many frames.
+    frames: Option<usize>,
+    delay: Duration,
+    stale: Option<u64>,
+    connections: Vec<UnixStream>,
+}
+
+struct Node {
+    path: PathBuf,
+    state: Arc<Mutex<State>>,
+}
+
+fn number(bytes: &[u8]) -> u64 {
+    bytes.iter().fold(0, |number, byte| number << 8 | u64::from(*byte))
+}
+
+impl State {
+    fn complete(&self) -> u64 {
+        (1..).take_while(|number| self.records.contains_key(number)).last().unwrap_or(0)
+    }
+
+    /// Takes a record of plain writes.
+    fn take(&mut self, fact: &[u8]) -> Vec<u8> {
+        let (place, page) = (number(&fact[3..9]), number(&fact[15..17]) as u16);
+        let (mut rest, mut writes) = (&fact[24..], Vec::new());
+        for _ in 0..fact[23] {
+            let (offset, length) = (number(&rest[..2]) as usize, number(&rest[2..4]) as usize);
+            writes.push((offset, rest[4..4 + length].to_vec()));
+            rest = &rest[4 + length..];
+        }
+        self.records.insert(place, (page, writes));
+        b"changed".to_vec()
+    }
+
+    fn read(&self, words: &[&str]) -> Vec<u8> {
+        let [page, point, offset, length] = [1, 2, 3, 4].map(|place| words[place].parse::<usize>().unwrap());
+        if point as u64 > self.complete() {
+            return format!("above {}", self.complete()).into_bytes();
+        }
+        let mut image = vec![0; PAGE_LEN];
+        for (_, writes) in self.records.range(..=point as u64).map(|it| it.1).filter(|it| usize::from(it.0) == page) {
+            for (offset, bytes) in writes {
+                image[*offset..*offset + bytes.len()].copy_from_slice(bytes);
+            }
+        }
+        [b"page ", &image[offset..offset + length]].concat()
+    }
+
+    fn answer(&mut self, request: &[u8]) -> Vec<u8> {
+        if let Some(inside) = request.strip_prefix(b"many ") {
+            let mut answers = Vec::new();
+            for request in frames::inside(inside).unwrap() {
+                frames::append(&mut answers, &[&self.answer(request)]).unwrap();
+            }
+            return answers;
+        }
+        if let Some(generation) = self.stale {
+            return format!("stale {generation}").into_bytes();
+        }
+        if let Some(fact) = request.strip_prefix(b"take ") {
+            return self.take(fact);
+        }
+        let text = String::from_utf8_lossy(request).into_owned();
+        let words: Vec<_> = text.split(' ').collect();
+        match words[0] {
+            "front" => format!("front 0 {} 0", self.complete()).into_bytes(),
+            "read" => self.read(&words),
+            _ => b"bad request".to_vec(),
+        }
+    }
+}
+
+impl Node {
+    fn start(folder: &Path, place: usize) -> Node {
+        let node = Node { path: folder.join(format!("node{place}")), state: Arc::default() };
+        let (listener, state) = (UnixListener::bind(&node.path).unwrap(), node.state.clone());
+        thread::spawn(move || {
+            for stream in listener.incoming() {
+                let (stream, state) = (stream.unwrap(), state.clone());
+                thread::spawn(move || serve(stream, &state));
+            }
+        });
+        node
+    }
+
+    fn set(&self, change: impl FnOnce(&mut State)) {
+        change(&mut self.state.lock().unwrap());
+    }
+
+    fn go_away(&self) {
+        self.set(|state| {
+            state.is_away = true;
+            state.connections.drain(..).for_each(|stream| drop(stream.shutdown(std::net::Shutdown::Both)));
+        });
+    }
+}
+
+fn serve(mut stream: UnixStream, state: &Mutex<State>) {
+    let most = {
+        let mut state = state.lock().unwrap();
+        if state.is_away {
+            return;
+        }
+        state.connections.push(stream.try_clone().unwrap());
+        state.frames.unwrap_or(usize::MAX)
+    };
+    let mut frame = Vec::new();
+    for _ in 0..most {
+        if !frames::read(&mut stream, &mut frame).unwrap_or(false) {
+            return;
+        }
+        let delay = state.lock().unwrap().delay;
+        thread::sleep(delay);
+        let answer = state.lock().unwrap().answer(&frame);
+        if frames::write(&mut stream, &answer).is_err() {
+            return;
+        }
+    }
+    let _ = stream.shutdown(std::net::Shutdown::Both);
+}
+
+// A volume of three such nodes
+
+struct Three {
+    folder: PathBuf,
+    nodes: Vec<Node>,
+}
+
+static PLACE: AtomicU32 = AtomicU32::new(0);
+
+impl Three {
+    fn new() -> Three {
+        let folder = env::temp_dir().join(format!("yieldcleat-volume-{}-{}", process::id(), PLACE.fetch_add(1, Ordering::Relaxed)));
+        let _ = fs::remove_dir_all(&folder);
+        fs::create_dir(&folder).unwrap();
+        let nodes = (0..3).map(|place| Node::start(&folder, place)).collect();
+        Three { folder, nodes }
+    }
+
+    fn options(&self) -> Options {
+        let nodes = self.nodes.iter().map(|node| Address::Unix(node.path.clone())).collect();
+        Options {
+            patience: Duration::from_secs(5),
+            limits: Limits { answer: Duration::from_secs(2), ..Limits::default() },
+            retry: Duration::from_millis(10),
+            remind: Duration::from_millis(10),
+            ..Options::new(nodes)
+        }
+    }
+
+    fn open(&self, options: Options) -> Result<Volume, VolumeError> {
+        Volume::open(Counting { nodes: 3, quorum: 2, ..Counting::default() }, options)
+    }
+}
+
+impl Drop for Three {
+    fn drop(&mut self) {
+        let _ = fs::remove_dir_all(&self.folder);
+    }
+}
+
+/// What transaction `place` writes: eight bytes of page 1 or 2.
+fn write(place: u64) -> Vec<PageWrite> {
+    let patch = Patch::write(8 * (place % 100) as u16, &place.to_be_bytes());
+    vec![PageWrite { page: 1 + (place % 2) as u16, init: false, patches: vec![patch] }]
+}
+
+fn shows(volume: &Volume, place: u64, point: u64) -> bool {
+    volume.read(1 + (place % 2) as u16, point, 8 * (place % 100) as u16, 8).unwrap() == place.to_be_bytes()
+}
+
+#[test]
+fn commits_are_durable_and_read() {
+    let three = Three::new();
+    let volume = three.open(three.options()).unwrap();
+    let points: Vec<_> = (1..=50).map(|place| volume.commit(write(place), Vec::new()).unwrap()).collect();
+    assert_eq!(points, (1..=50).map(|place| 2 * place).collect::<Vec<_>>());
+    assert!((1..=50).all(|place| shows(&volume, place, points[place as usize - 1])));
+    let standing = volume.standing().unwrap();
+    assert_eq!((standing.durable, standing.committed), (100, 100));
+    assert_eq!(volume.advance(1, 101), Err(VolumeError::Refused(Fault::Ahead { durable: 100 })));
+    assert_eq!(volume.advance(1, 100), Ok(()));
+}
+
+#[test]
+fn many_threads_commit() {
+    let three = Three::new();
+    let volume = three.open(three.options()).unwrap();
+    thread::scope(|scope| {
+        for thread in 0..8 {
+            let volume = &volume;
+            scope.spawn(move || {
+                for place in (thread * 20 + 1)..=(thread * 20 + 20) {
+                    let point = volume.commit(write(place), Vec::new()).unwrap();
+                    assert!(volume.standing().unwrap().durable >= point);
+                }
+            });
+        }
+    });
+    assert_eq!(volume.standing().unwrap().durable, 320);
+}
+
+#[test]
+fn connections_that_break_lose_nothing() {
+    let three = Three::new();
+    three.nodes.iter().for_each(|node| node.set(|state| state.frames = Some(7)));
+    let volume = three.open(three.options()).unwrap();
+    for place in 1..=100 {
+        volume.commit(write(place), Vec::new()).unwrap();
+    }
+    assert!((60..=100).all(|place| shows(&volume, place, 2 * place)));
+}
+
+#[test]
+fn two_of_three_nodes_are_enough_and_one_is_not() {
+    let three = Three::new();
+    let volume = three.open(three.options()).unwrap();
+    volume.commit(write(1), Vec::new()).unwrap();
+    three.nodes[0].go_away();
+    let point = volume.commit(write(2), Vec::new()).unwrap();
+    assert!(shows(&volume, 2, point));
+    three.nodes[1].go_away();
+    let point = volume.write(write(3), Vec::new()).unwrap();
+    let begun = Instant::now();
+    assert_eq!(volume.wait(point, Duration::from_millis(200)), Err(VolumeError::InDoubt { commit_point: point, have: 1, need: 2 }));
+    assert!(begun.elapsed() < Duration::from_secs(2));
+    three.nodes[1].set(|state| state.is_away = false);
+    assert_eq!(volume.wait(point, Duration::from_secs(5)), Ok(()));
+    assert!(shows(&volume, 3, point));
+}
+
+#[test]
+fn what_no_quorum_has_is_bounded() {
+    let three = Three::new();
+    let volume = three.open(Options { in_flight: 500, patience: Duration::from_millis(300), ..three.options() }).unwrap();
+    three.nodes[0].go_away();
+    three.nodes[1].go_away();
+    let refused = (1..=100).find_map(|place| volume.write(write(place), Vec::new()).err());
+    assert_eq!(refused, Some(VolumeError::Busy { have: 1, need: 2 }));
+}
+
+#[test]
+fn a_slow_node_stops_nobody() {
+    let three = Three::new();
+    three.nodes[2].set(|state| state.delay = Duration::from_millis(300));
+    let volume = three.open(Options { in_flight: 4000, ..three.options() }).unwrap();
+    let begun = Instant::now();
+    for place in 1..=300 {
+        volume.commit(write(place), Vec::new()).unwrap();
+    }
+    assert!(begun.elapsed() < Duration::from_secs(5), "{:?}", begun.elapsed());
+}
+
+#[test]
+fn a_fenced_engine_ends() {
+    let three = Three::new();
+    let volume = three.open(three.options()).unwrap();
+    volume.commit(write(1), Vec::new()).unwrap();
+    three.nodes.iter().for_each(|node| node.set(|state| state.stale = Some(9)));
+    assert_eq!(volume.commit(write(2), Vec::new()), Err(VolumeError::Fenced { generation: 9 }));
+    assert_eq!(volume.commit(write(3), Vec::new()), Err(VolumeError::Fenced { generation: 9 }));
+    assert_eq!(volume.standing(), Err(VolumeError::Fenced { generation: 9 }));
+}
+
+#[test]
+fn a_volume_without_a_quorum_does_not_open() {
+    let three = Three::new();
+    three.nodes[0].go_away();
+    three.nodes[1].go_away();
+    let begun = Instant::now();
+    let opened = three.open(Options { patience: Duration::from_millis(300), ..three.options() });
+    assert_eq!(opened.err(), Some(VolumeError::NotOpened { have: 1, need: 2 }));
+    assert!(begun.elapsed() < Duration::from_secs(2), "{:?}", begun.elapsed());
+}
+
+#[test]
+fn what_is_no_mini_transaction_changes_nothing() {
+    let three = Three::new();
+    let volume = three.open(three.options()).unwrap();
+    let one = |page, patches| vec![PageWrite { page, init: false, patches }];
+    for writes in [
+        one(0, vec![]),
+        one(1, vec![Patch::write(4085, b"1234")]),
+        one(1, vec![Patch::write(0, b"")]),
+        one(1, vec![Patch::write(0, b"1"); 64]),
+        one(1, vec![Patch::write(0, &[1; 4088]), Patch::write(0, &[2; 4088]), Patch::write(0, &[3; 9])]),
+    ] {
+        assert_eq!(volume.commit(writes, Vec::new()), Err(VolumeError::Argument("a page or a patch")));
+    }
+    assert_eq!(volume.commit(write(1), vec![0; 1025]), Err(VolumeError::Argument("a header")));
+    assert_eq!(volume.commit(write(1), vec![0; 1024]), Ok(2));
+    assert_eq!(volume.read(1, 2, 4090, 7), Err(VolumeError::Argument("a range of a page")));
+}
