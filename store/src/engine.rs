@@ -81,7 +81,7 @@ impl Engine {
     pub fn run(mut self) -> Result<(), StoreError> {
         self.look()?;
         loop {
-            let is_stopped = match self.messages.recv_timeout(PACE) {
+            let is_stopped = match self.messages.recv_timeout(self.housekeeping.pace(PACE)) {
                 Ok(Message::Job(job)) => {
                     let (jobs, is_stopped) = self.gather(job);
                     self.answer(jobs)?;
@@ -93,9 +93,7 @@ impl Engine {
             if is_stopped {
                 return self.drain();
             }
-            if self.housekeeping.is_scheduled() {
-                self.housekeeping.slice(&mut self.store, &self.metrics)?;
-            }
+            self.housekeeping.work(&mut self.store, &self.metrics)?;
             if Instant::now() >= self.next_look {
                 self.look()?;
                 self.next_look = Instant::now() + LOOK;

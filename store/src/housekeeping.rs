@@ -18,6 +18,9 @@ const QUIET: Duration = Duration::from_secs(10);
 const OVERDUE: f64 = 4.0;
 /// No snapshot is tried within this time after one that failed.
 const AGAIN: Duration = Duration::from_secs(10);
+/// How many pieces of a snapshot are written between two batches of requests, and how often where no request comes.
+const PIECES: u32 = 64;
+const PIECES_EVERY: Duration = Duration::from_millis(2);
 
 pub struct Housekeeping {
     every: Duration,
@@ -36,6 +39,10 @@ pub struct Housekeeping {
     stagger: f64,
     quiet_until: Instant,
     again_at: Instant,
+    /// When the snapshot began that is being written, the generation before it, and when its next pieces are written.
+    began: Option<Instant>,
+    generation: u64,
+    next_pieces: Instant,
 }
 
 impl Housekeeping {
@@ -53,11 +60,19 @@ impl Housekeeping {
             stagger: 1.0 + random as f64 / (1u64 << 53) as f64,
             quiet_until: now,
             again_at: now,
+            began: None,
+            generation: 0,
+            next_pieces: now,
         }
     }
 
-    pub fn is_scheduled(&self) -> bool {
-        Instant::now() >= self.next
+    /// How long the thread may wait for requests.
+    pub fn pace(&self, most: Duration) -> Duration {
+        if self.began.is_some() {
+            PIECES_EVERY
+        } else {
+            most
+        }
     }
 
     /// Notes what requests may have left to fold.
@@ -87,14 +102,23 @@ impl Housekeeping {
         }
     }
 
-    /// One slice of the work, and perhaps a snapshot.
+    /// What is scheduled now: a slice of folding, the beginning of a snapshot, or some pieces of it.
     ///
     /// Errors: those of the store, but `Full`.
-    pub fn slice(&mut self, store: &mut Store, metrics: &Metrics) -> Result<(), StoreError> {
+    pub fn work(&mut self, store: &mut Store, metrics: &Metrics) -> Result<(), StoreError> {
+        let now = Instant::now();
+        if self.began.is_some() && now >= self.next_pieces {
+            self.next_pieces = now + PIECES_EVERY;
+            let went = store.go_on_with_checkpoint(PIECES);
+            return self.judge(store, went);
+        }
+        if now < self.next {
+            return Ok(());
+        }
         let done = self.fold(store, metrics);
         self.next = Instant::now() + self.every;
         match done {
-            Ok(()) => self.snapshot(store),
+            Ok(()) => self.begin_snapshot(store),
             Err(StoreError::Full { .. }) => Ok(()),
             Err(error) => Err(error),
         }
@@ -133,26 +157,40 @@ impl Housekeeping {
         }
     }
 
-    fn snapshot(&mut self, store: &mut Store) -> Result<(), StoreError> {
+    fn begin_snapshot(&mut self, store: &mut Store) -> Result<(), StoreError> {
         let activity = store.activity();
-        let (least, begin) = (self.snapshot_after.max(2 * activity.snapshot) as f64 * self.stagger, Instant::now());
-        let enough = if begin < self.quiet_until { OVERDUE * least } else { least };
-        if (activity.log as f64) < enough || begin < self.again_at {
+        let (least, now) = (self.snapshot_after.max(2 * activity.snapshot) as f64 * self.stagger, Instant::now());
+        let enough = if now < self.quiet_until { OVERDUE * least } else { least };
+        if self.began.is_some() || (activity.log as f64) < enough || now < self.again_at {
             return Ok(());
         }
-        match store.checkpoint() {
-            Ok(()) => {
-                let activity = store.activity();
-                let (bytes, took) = (activity.snapshot, begin.elapsed().as_millis());
-                crate::say(format_args!("snapshot {} of {bytes} bytes took {took} ms", activity.generation));
+        (self.began, self.generation) = (Some(now), activity.generation);
+        let begun = store.begin_checkpoint().map(|()| true);
+        self.judge(store, begun)
+    }
+
+    /// Notes whether a snapshot goes on, is there, or has failed.
+    fn judge(&mut self, store: &Store, went: Result<bool, StoreError>) -> Result<(), StoreError> {
+        let Some(began) = self.began else {
+            return Ok(());
+        };
+        match went {
+            Ok(true) if store.has_checkpoint() => return Ok(()),
+            Ok(_) if store.activity().generation == self.generation => self.put_off("a client asks for a snapshot of its own"),
+            Ok(_) => {
+                let (activity, took) = (store.activity(), began.elapsed().as_millis());
+                crate::say(format_args!("snapshot {} of {} bytes took {took} ms", activity.generation, activity.snapshot));
             }
             Err(StoreError::Stopped) => return Err(StoreError::Stopped),
-            Err(error) => {
-                crate::say(format_args!("warning: no snapshot: {error}"));
-                self.again_at = Instant::now() + AGAIN;
-            }
+            Err(error) => self.put_off(&error.to_string()),
         }
+        self.began = None;
         Ok(())
+    }
+
+    fn put_off(&mut self, why: &str) {
+        crate::say(format_args!("warning: no snapshot: {why}"));
+        self.again_at = Instant::now() + AGAIN;
     }
 }
 

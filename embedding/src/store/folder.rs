@@ -7,7 +7,7 @@
 use super::entries::{Header, Kind};
 use super::errors::StoreError;
 use std::fs::{self, File, OpenOptions, TryLockError};
-use std::io::{BufWriter, ErrorKind, Write};
+use std::io::{self, BufWriter, ErrorKind, Write};
 use std::path::{Path, PathBuf};
 
 /// The end of the name of a file that is not whole yet.
@@ -179,10 +179,24 @@ impl Draft {
     }
 
     /// All of it is on the disk when this returns; its name is not.
-    pub fn sync(self) -> Result<Whole, StoreError> {
-        let file = self.writer.into_inner().map_err(|error| StoreError::io(&self.draft)(error.into_error()))?;
-        file.sync_all().map_err(StoreError::io(&self.draft))?;
-        Ok(Whole { path: self.path, draft: self.draft })
+    pub fn sync(mut self) -> Result<Whole, StoreError> {
+        self.written()?.sync_all().map_err(self.failure())?;
+        Ok(self.whole())
+    }
+
+    /// Gives all of it to the system, and returns the file, so that another thread can give it to the disk.
+    pub fn written(&mut self) -> Result<File, StoreError> {
+        self.writer.flush().and_then(|()| self.writer.get_ref().try_clone()).map_err(StoreError::io(&self.draft))
+    }
+
+    /// The file, when it is on the disk.
+    pub fn whole(self) -> Whole {
+        Whole { path: self.path, draft: self.draft }
+    }
+
+    /// What an error of the system means for the file.
+    pub fn failure(&self) -> impl FnOnce(io::Error) -> StoreError + '_ {
+        StoreError::io(&self.draft)
     }
 }
 

@@ -54,16 +54,38 @@ impl Log {
     ///
     /// Errors: `Full`, and the log is as it was; `Io` and `TooLong`, and the log is of no use any more.
     pub fn append(&mut self, requests: &[u8]) -> Result<Duration, StoreError> {
+        self.write(requests)?;
+        let begin = Instant::now();
+        self.flush()?;
+        self.count();
+        Ok(begin.elapsed())
+    }
+
+    /// The same, and does not wait for the disk: only for a log that is not in use before it is flushed.
+    pub fn append_unflushed(&mut self, requests: &[u8]) -> Result<(), StoreError> {
+        self.write(requests)?;
+        self.count();
+        Ok(())
+    }
+
+    /// Waits until all entries are on the disk.
+    ///
+    /// Its error is `Io`, and the log is of no use any more.
+    pub fn flush(&mut self) -> Result<(), StoreError> {
+        self.file.sync_data().map_err(StoreError::io(&self.path))
+    }
+
+    fn write(&mut self, requests: &[u8]) -> Result<(), StoreError> {
         self.entry.clear();
         self.header.append_entry(&mut self.entry, self.place, requests)?;
-        if let Err(error) = self.file.write_all(&self.entry) {
-            return Err(self.take_back(error));
-        }
-        let begin = Instant::now();
-        self.file.sync_data().map_err(StoreError::io(&self.path))?;
+        let written = self.file.write_all(&self.entry);
+        written.map_err(|error| self.take_back(error))
+    }
+
+    /// Counts the entry that was written last.
+    fn count(&mut self) {
         self.place += 1;
         self.length += self.entry.len() as u64;
-        Ok(begin.elapsed())
     }
 
     /// Cuts off what a write has left that was refused. A flush that was refused is never tried again: the system may have dropped what

@@ -4,6 +4,7 @@
 //! before (`entries` has the bytes of both). A request that the node refuses, and one that changes nothing, is not kept. So each kept
 //! request has one answer, and a node that comes back is right only if it gives just these answers.
 
+mod checkpoint;
 mod entries;
 mod errors;
 mod folder;
@@ -12,8 +13,9 @@ mod log;
 pub use errors::StoreError;
 
 use crate::Node;
+use checkpoint::Checkpoint;
 use entries::{Entries, Header, Kind, Next};
-use folder::{Folder, Whole};
+use folder::Folder;
 use log::Log;
 use std::path::Path;
 use std::time::Duration;
@@ -35,6 +37,7 @@ pub struct Store {
     activity: Activity,
     /// Whether the node keeps a snapshot that a checkpoint has made, and not one that a client asked for.
     is_displaced: bool,
+    checkpoint: Option<Checkpoint>,
 }
 
 /// What a store has found in its folder.
@@ -127,7 +130,7 @@ impl Store {
         let activity =
             Activity { log: log.length(), snapshot: folder.length(Kind::Snapshot, generation), generation, ..Activity::default() };
         let (log, unwritten) = (Some(log), Vec::new());
-        Ok((Store { node, folder, generation, log, progress, unwritten, activity, is_displaced: true }, recovery))
+        Ok((Store { node, folder, generation, log, progress, unwritten, activity, is_displaced: true, checkpoint: None }, recovery))
     }
 
     /// What it has done with its files.
@@ -169,6 +172,7 @@ impl Store {
                     self.activity.flushes += 1;
                     self.activity.written += log.length() - before;
                     self.activity.log = log.length();
+                    self.write_behind_snapshot();
                     self.unwritten.clear();
                 }
                 Err(error @ StoreError::Full { .. }) => {
@@ -182,10 +186,22 @@ impl Store {
         Ok(())
     }
 
+    /// Writes the same changes to the log behind the snapshot that is being written, if there is one; that fails alone.
+    fn write_behind_snapshot(&mut self) {
+        if let Some(checkpoint) = &mut self.checkpoint {
+            if checkpoint.write(&self.unwritten).is_err() {
+                self.abandon_checkpoint();
+            }
+        }
+    }
+
     /// Asks a request, and appends what it has changed to the frames of `changes`.
     fn ask(&mut self, request: &[u8], changes: &mut Vec<u8>) -> Result<Vec<u8>, StoreError> {
         if !is_known(request) {
             return Ok(b"bad request".to_vec());
+        }
+        if freezes(request) && self.checkpoint.as_ref().is_some_and(Checkpoint::needs_pieces) {
+            self.abandon_checkpoint();
         }
         let answer = self.node.ask(request)?.to_vec();
         let Some(inside) = request.strip_prefix(b"many ") else {
@@ -210,6 +226,9 @@ impl Store {
     fn settle(&mut self, request: &[u8], answer: Vec<u8>, changes: &mut Vec<u8>) -> Result<Vec<u8>, StoreError> {
         if has_changed(request, &answer) {
             self.progress.count(request);
+            if let Some(checkpoint) = &mut self.checkpoint {
+                checkpoint.progress.count(request);
+            }
             frames::append(changes, &[request]).map_err(|_| StoreError::TooLong)?;
         }
         match requests::word(request) {
@@ -227,13 +246,71 @@ impl Store {
     /// Its errors are those of `answer`, but for `Full` of the new files, which is `Io`. The store goes on behind an error, and the room of
     /// the new files is free again, unless the log has become unsure: then all calls are `Stopped`.
     pub fn checkpoint(&mut self) -> Result<(), StoreError> {
+        match self.node.tidy() {
+            // Only a log that is not sound has a broken chain; its snapshot is larger then.
+            Ok(()) | Err(Error::Broken { .. }) => {}
+            Err(error) => return Err(error.into()),
+        }
+        self.begin_checkpoint()?;
+        while self.go_on_with_checkpoint(u32::MAX)? {}
+        Ok(())
+    }
+
+    /// Begins to put a snapshot in place of the log: of what the node has now. `go_on_with_checkpoint` writes it, and calls of `answer` may
+    /// come in between. A client's `freeze` among them ends it, and so does an error of its files; the store goes on with the older
+    /// generation, and the room of the new files is free again.
+    ///
+    /// Its errors are those of `checkpoint`.
+    pub fn begin_checkpoint(&mut self) -> Result<(), StoreError> {
+        self.abandon_checkpoint();
         self.write(Vec::new())?;
         let next = self.generation + 1;
-        let (snapshot, progress) = self.prepare(next).inspect_err(|_| self.folder.remove_drafts(next))?;
+        self.checkpoint = Some(self.prepare(next).inspect_err(|_| self.folder.remove_drafts(next))?);
+        Ok(())
+    }
+
+    pub fn has_checkpoint(&self) -> bool {
+        self.checkpoint.is_some()
+    }
+
+    /// Writes up to so many pieces of the snapshot, and puts it in place of the log when the disk has all of it. The result is false when
+    /// there is nothing left to do.
+    ///
+    /// Its errors are those of `checkpoint`.
+    pub fn go_on_with_checkpoint(&mut self, pieces: u32) -> Result<bool, StoreError> {
+        let Some(checkpoint) = &mut self.checkpoint else {
+            return Ok(false);
+        };
+        // Where all pieces are to come at once, there is nothing to do while the disk takes them.
+        let is_ready = checkpoint.go_on(&mut self.node, pieces).inspect_err(|_| self.folder.remove_drafts(self.generation + 1));
+        match is_ready {
+            Ok(false) if pieces < u32::MAX || self.checkpoint.as_ref().is_some_and(Checkpoint::needs_pieces) => Ok(true),
+            Ok(_) => self.end_checkpoint().map(|()| false),
+            Err(error) => {
+                self.checkpoint = None;
+                Err(error)
+            }
+        }
+    }
+
+    fn abandon_checkpoint(&mut self) {
+        if let Some(checkpoint) = self.checkpoint.take() {
+            self.folder.remove_drafts(checkpoint.generation);
+        }
+    }
+
+    /// Begins the generation of the snapshot.
+    fn end_checkpoint(&mut self) -> Result<(), StoreError> {
+        let Some(checkpoint) = self.checkpoint.take() else {
+            return Ok(());
+        };
+        let next = checkpoint.generation;
+        let (snapshot, log, progress) = checkpoint.end().inspect_err(|_| self.folder.remove_drafts(next))?;
+        // The next log has its name on the disk before the snapshot has.
+        self.folder.sync()?;
         self.log = None;
         snapshot.rename()?;
         self.folder.sync()?;
-        let log = Log::recover(&self.folder.path(Kind::Log, next), next, |_| Ok(()))?.0;
         self.activity = Activity {
             snapshots: self.activity.snapshots + 1,
             log: log.length(),
@@ -246,16 +323,23 @@ impl Store {
         self.folder.remove_others(next)
     }
 
-    /// Writes the files of the next generation, which begins when the snapshot has its name.
-    fn prepare(&mut self, next: u64) -> Result<(Whole, Progress), StoreError> {
+    /// Freezes a snapshot, and makes the files of the next generation, which begins when the snapshot has its name.
+    fn prepare(&mut self, next: u64) -> Result<Checkpoint, StoreError> {
         let log = self.log.as_ref().ok_or(StoreError::Stopped)?;
         let progress = begin_behind(&self.folder, next, log, self.progress)?;
+        let log = Log::recover(&self.folder.path(Kind::Log, next), next, |_| Ok(()))?.0;
         self.is_displaced = true;
-        let snapshot = freeze(&self.folder, next, &mut self.node)?;
-        // The next log has its name on the disk before the snapshot has.
-        self.folder.sync()?;
-        Ok((snapshot, progress))
+        let total = self.node.freeze(next)?;
+        let mut snapshot = self.folder.draft(Header::new(Kind::Snapshot, next, u64::from(total) + 2))?;
+        snapshot.put(&framed(&requests::stage(next, total))?)?;
+        Ok(Checkpoint::new(next, snapshot, total, log, progress))
     }
+}
+
+/// Whether the request, or one in it, is to keep another snapshot.
+fn freezes(request: &[u8]) -> bool {
+    let inside = request.strip_prefix(b"many ").and_then(frames::inside).unwrap_or_default();
+    requests::word(request) == b"freeze" || inside.iter().any(|it| requests::word(it) == b"freeze")
 }
 
 /// Whether the node may be asked: the package knows whether each request in it changes something.
@@ -318,23 +402,6 @@ fn begin_behind(folder: &Folder, generation: u64, log: &Log, before: Progress) -
     }
     next.sync()?.rename()?;
     Ok(progress)
-}
-
-/// The snapshot with which a generation begins, as the requests that bring it back.
-fn freeze(folder: &Folder, generation: u64, node: &mut Node) -> Result<Whole, StoreError> {
-    match node.tidy() {
-        // Only a log that is not sound has a broken chain; its snapshot is larger then.
-        Ok(()) | Err(Error::Broken { .. }) => {}
-        Err(error) => return Err(error.into()),
-    }
-    let total = node.freeze(generation)?;
-    let mut snapshot = folder.draft(Header::new(Kind::Snapshot, generation, u64::from(total) + 2))?;
-    snapshot.put(&framed(&requests::stage(generation, total))?)?;
-    for index in 0..total {
-        snapshot.put(&framed(&requests::add(&node.piece(index)?))?)?;
-    }
-    snapshot.put(&framed(&requests::finish())?)?;
-    snapshot.sync()
 }
 
 /// Tells a node a snapshot; how many requests that were.

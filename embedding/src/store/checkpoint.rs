@@ -1,0 +1,73 @@
+//! A snapshot that is written piece by piece while its store answers.
+//!
+//! The node keeps what it had when the snapshot was frozen. From then on each change goes to two logs: to the present one, which a crash
+//! needs until the snapshot has its name, and to the one of the next generation, which begins behind the snapshot.
+
+use super::errors::StoreError;
+use super::folder::{Draft, Whole};
+use super::log::Log;
+use super::{framed, Progress};
+use crate::Node;
+use std::io;
+use std::thread::{self, JoinHandle};
+use yieldcleat_client::{requests, Calls};
+
+/// A snapshot that is not whole, and the log behind it. After an error it is of no use.
+pub struct Checkpoint {
+    pub generation: u64,
+    snapshot: Draft,
+    /// The next piece, and how many there are.
+    next: u32,
+    total: u32,
+    /// The thread that gives the snapshot to the disk, when it has all pieces.
+    flushing: Option<JoinHandle<io::Result<()>>>,
+    log: Log,
+    pub progress: Progress,
+}
+
+impl Checkpoint {
+    /// A snapshot of so many pieces that the node has frozen, in a draft that has none of them.
+    pub fn new(generation: u64, snapshot: Draft, total: u32, log: Log, progress: Progress) -> Checkpoint {
+        Checkpoint { generation, snapshot, next: 0, total, flushing: None, log, progress }
+    }
+
+    /// Whether the node is asked for more pieces, so that it may freeze nothing else.
+    pub fn needs_pieces(&self) -> bool {
+        self.flushing.is_none()
+    }
+
+    /// Appends changes to the log behind the snapshot. They are on the disk when `end` returns.
+    pub fn write(&mut self, changes: &[u8]) -> Result<(), StoreError> {
+        self.log.append_unflushed(changes)
+    }
+
+    /// Writes up to so many more pieces. The result is true when the snapshot is on the disk, or the disk has failed.
+    pub fn go_on(&mut self, node: &mut Node, pieces: u32) -> Result<bool, StoreError> {
+        if let Some(thread) = &self.flushing {
+            return Ok(thread.is_finished());
+        }
+        let end = self.next.saturating_add(pieces).min(self.total);
+        while self.next < end {
+            self.snapshot.put(&framed(&requests::add(&node.piece(self.next)?))?)?;
+            self.next += 1;
+        }
+        if self.next == self.total {
+            self.snapshot.put(&framed(&requests::finish())?)?;
+            let file = self.snapshot.written()?;
+            let thread = thread::Builder::new().name("snapshot".into()).spawn(move || file.sync_all());
+            self.flushing = Some(thread.map_err(self.snapshot.failure())?);
+        }
+        Ok(false)
+    }
+
+    /// Waits until the snapshot and the log behind it are on the disk. The snapshot may have its name then.
+    pub fn end(mut self) -> Result<(Whole, Log, Progress), StoreError> {
+        let flushed = self.flushing.take().map(JoinHandle::join);
+        match flushed {
+            Some(Ok(result)) => result.map_err(self.snapshot.failure())?,
+            Some(Err(_)) | None => return Err(self.snapshot.failure()(io::Error::other("the snapshot is not whole"))),
+        }
+        self.log.flush()?;
+        Ok((self.snapshot.whole(), self.log, self.progress))
+    }
+}
