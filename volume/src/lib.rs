@@ -1,6 +1,6 @@
 //! A volume of N storage nodes: one engine writes mini-transactions to it, and each is durable when a write quorum of the nodes has it.
 //!
-//! [`Volume`] is the engine's handle, for many threads. What is decided - who may write, what the last commit is, what is durable - a
+//! [`Volume`] is the engine's handle, for many threads, and [`Reader`] that of whoever reads beside it. What is decided - who may write, what the last commit is, what is durable - a
 //! [`Machine`] decides, one step for each event; it has no clock, no socket and no thread. This package gives it those: a thread for each
 //! node, which connects, sends and reads, and one that steps the machine. Nothing here is proved, and nothing here counts nodes.
 
@@ -11,12 +11,16 @@ mod errors;
 mod link;
 mod machine;
 mod options;
+mod page_zero;
 mod progress;
+mod reader;
 mod reading;
 mod volume;
 
 pub use errors::VolumeError;
 pub use machine::{Action, Event, Fault, Machine, OutOfMemory};
 pub use options::{BadOptions, Options};
+pub use page_zero::PageZero;
 pub use progress::Standing;
+pub use reader::{NodeStatus, Reader};
 pub use volume::{PageWrite, Volume};

@@ -1,12 +1,14 @@
 //! Pages at points, from whichever node has them.
 
 use crate::errors::VolumeError;
+use crate::machine::Fault;
 use crate::options::Options;
+use crate::page_zero::PageZero;
 use std::sync::atomic::{AtomicUsize, Ordering};
 use std::sync::{Mutex, PoisonError};
 use std::thread;
 use std::time::Instant;
-use yieldcleat_client::{answers, frames, requests, Address, Calls, Connection, Error, Limits, ReadFault};
+use yieldcleat_client::{answers, frames, requests, Address, Calls, Connection, Error, Limits, ReadFault, PAGE_LEN};
 
 /// Which bytes of which page at which point, of an epoch or a later one.
 #[derive(Debug, Clone, Copy, PartialEq, Eq)]
@@ -16,6 +18,16 @@ pub struct Range {
     pub point: u64,
     pub offset: u16,
     pub length: u16,
+}
+
+impl Range {
+    /// Whether it is within a page.
+    pub fn check(&self) -> Result<(), VolumeError> {
+        match self.length > 0 && usize::from(self.offset) + usize::from(self.length) <= PAGE_LEN {
+            true => Ok(()),
+            false => Err(VolumeError::Argument("a range of a page")),
+        }
+    }
 }
 
 /// A connection to each node, for reads alone, and the node that answered last.
@@ -63,6 +75,14 @@ impl Readers {
         }
     }
 
+    /// Page 0 at a point, of an epoch or a later one.
+    ///
+    /// Errors: `Below`, `NotRead`, and `Damaged` where no volume wrote it.
+    pub fn page_zero(&self, epoch: u16, point: u64, deadline: Instant) -> Result<PageZero, VolumeError> {
+        let whole = Range { epoch, page: 0, point, offset: 0, length: PAGE_LEN as u16 };
+        PageZero::read(&self.read(whole, deadline)?).ok_or(VolumeError::Refused(Fault::Damaged))
+    }
+
     /// The answer of each node that answers at all to a request.
     pub fn ask_all(&self, request: &[u8]) -> Vec<Vec<u8>> {
         (0..self.nodes.len()).filter_map(|node| self.ask(node, request)).collect()
@@ -89,7 +109,7 @@ impl Readers {
     }
 
     /// Asks one node, and connects to it where there is no connection.
-    fn ask(&self, node: usize, request: &[u8]) -> Option<Vec<u8>> {
+    pub fn ask(&self, node: usize, request: &[u8]) -> Option<Vec<u8>> {
         let (address, place) = &self.nodes[node];
         let mut place = place.lock().unwrap_or_else(PoisonError::into_inner);
         if !place.as_ref().is_some_and(Connection::is_open) {

@@ -5,7 +5,9 @@ use crate::errors::VolumeError;
 use crate::link::Link;
 use crate::machine::{Fault, Machine};
 use crate::options::Options;
+use crate::page_zero::{PageZero, MOST_HEADER};
 use crate::progress::{Progress, Standing};
+use crate::reader::NodeStatus;
 use crate::reading::{Range, Readers};
 use std::sync::mpsc::{self, Sender};
 use std::sync::Arc;
@@ -15,7 +17,6 @@ use yieldcleat_client::{Patch, PAGE_LEN};
 
 /// The last bytes of each page, which are the volume's own.
 const RESERVED: usize = 8;
-const MOST_HEADER: usize = 1024;
 const MOST_PATCHES: usize = 64;
 const MOST_WRITTEN: usize = 8192 - RESERVED;
 
@@ -140,7 +141,7 @@ impl Volume {
     /// One above the greatest generation that a node shows.
     fn next_generation(&self) -> u64 {
         let answers = self.readers.ask_all(b"status");
-        answers.iter().filter_map(|answer| generation_of(answer)).max().unwrap_or(0).saturating_add(1)
+        answers.iter().filter_map(|answer| Some(NodeStatus::read(answer)?.generation)).max().unwrap_or(0).saturating_add(1)
     }
 
     /// Sends a call to the driver, and waits for its result; nothing where it does not come before the deadline.
@@ -198,11 +199,16 @@ impl Volume {
     ///
     /// Errors: `Argument`, `Below`, `NotRead`.
     pub fn read(&self, page: u16, point: u64, offset: u16, length: u16) -> Result<Vec<u8>, VolumeError> {
-        if length == 0 || usize::from(offset) + usize::from(length) > PAGE_LEN {
-            return Err(VolumeError::Argument("a range of a page"));
-        }
-        let epoch = self.progress.standing()?.epoch;
-        self.readers.read(Range { epoch, page, point, offset, length }, Instant::now() + self.options.patience)
+        let range = Range { epoch: self.progress.standing()?.epoch, page, point, offset, length };
+        range.check()?;
+        self.readers.read(range, Instant::now() + self.options.patience)
+    }
+
+    /// Page 0 at a durable commit point: who committed it, and the header.
+    ///
+    /// Errors: those of `read`.
+    pub fn page_zero(&self, point: u64) -> Result<PageZero, VolumeError> {
+        self.readers.page_zero(self.progress.standing()?.epoch, point, Instant::now() + self.options.patience)
     }
 
     /// Says that a reader, from 1, reads nothing below a durable commit point any more.
@@ -223,11 +229,6 @@ impl Drop for Volume {
             let _ = driver.join();
         }
     }
-}
-
-/// The generation in an answer to `status`.
-fn generation_of(answer: &[u8]) -> Option<u64> {
-    std::str::from_utf8(answer).ok()?.strip_prefix("status ")?.split(' ').next()?.parse().ok()
 }
 
 /// A number from 0 to 1 that differs between processes.

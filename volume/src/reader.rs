@@ -1,0 +1,143 @@
+//! A handle that reads a volume and fences nobody.
+
+use crate::errors::VolumeError;
+use crate::options::Options;
+use crate::page_zero::PageZero;
+use crate::reading::{Range, Readers};
+use std::sync::{Mutex, PoisonError};
+use std::thread;
+use std::time::Instant;
+use yieldcleat_client::{answers, PAGE_LEN};
+
+/// What one node shows of itself: a member's generation and front, and page 0 at its complete point.
+#[derive(Debug, Clone, PartialEq, Eq)]
+struct Shown {
+    epoch: u16,
+    commit_point: u64,
+}
+
+/// The answer to `status`: `status G B M E C R`, and perhaps a truncation that the node has accepted.
+#[derive(Debug, Clone, Copy, PartialEq, Eq)]
+pub struct NodeStatus {
+    pub generation: u64,
+    pub birth: u64,
+    pub is_member: bool,
+    pub epoch: u16,
+    pub complete: u64,
+    pub min: u64,
+}
+
+impl NodeStatus {
+    /// Reads the bytes of an answer; nothing where they are another one.
+    pub fn read(answer: &[u8]) -> Option<NodeStatus> {
+        let words: Vec<_> = std::str::from_utf8(answer).ok()?.strip_prefix("status ")?.split(' ').collect();
+        let number = |place: usize| words.get(place)?.parse::<u64>().ok();
+        Some(NodeStatus {
+            generation: number(0)?,
+            birth: number(1)?,
+            is_member: number(2)? == 1,
+            epoch: u16::try_from(number(3)?).ok()?,
+            complete: number(4)?,
+            min: number(5)?,
+        })
+    }
+}
+
+/// The newest durable commit point that these nodes prove, with its epoch: among those of the newest epoch the `quorum`-th greatest.
+fn durable(shown: &[Shown], quorum: usize) -> Option<(u16, u64)> {
+    let epoch = shown.iter().map(|it| it.epoch).max()?;
+    let mut points: Vec<_> = shown.iter().filter(|it| it.epoch == epoch).map(|it| it.commit_point).collect();
+    points.sort_unstable_by(|one, other| other.cmp(one));
+    points.get(quorum.checked_sub(1)?).map(|point| (epoch, *point))
+}
+
+/// A volume that this process reads. Its calls may come from many threads.
+pub struct Reader {
+    options: Options,
+    readers: Readers,
+    /// The newest durable commit point that was found, with its epoch.
+    newest: Mutex<(u16, u64)>,
+}
+
+impl Reader {
+    /// Reads the volume of these nodes.
+    ///
+    /// Errors: `Options`.
+    pub fn open(options: Options) -> Result<Reader, VolumeError> {
+        options.check().map_err(VolumeError::Options)?;
+        let readers = Readers::new(&options);
+        Ok(Reader { options, readers, newest: Mutex::new((0, 0)) })
+    }
+
+    /// The newest durable commit point: at or above each one that a handle has seen durable before.
+    ///
+    /// Errors: `NotOpened`, where too few nodes prove one within the time allowed.
+    pub fn newest(&self) -> Result<u64, VolumeError> {
+        let deadline = Instant::now() + self.options.patience;
+        loop {
+            let shown: Vec<_> = (0..self.options.nodes.len()).filter_map(|node| self.show(node)).collect();
+            if let Some(found) = durable(&shown, self.options.quorum.into()) {
+                let mut newest = self.newest.lock().unwrap_or_else(PoisonError::into_inner);
+                *newest = found.max(*newest);
+                return Ok(newest.1);
+            }
+            if Instant::now() >= deadline {
+                return Err(VolumeError::NotOpened { have: shown.len(), need: self.options.quorum });
+            }
+            thread::sleep(self.options.retry);
+        }
+    }
+
+    /// What a node counts for. It counts where it is a member, and page 0 was written last in its epoch by the engine that fenced it.
+    fn show(&self, node: usize) -> Option<Shown> {
+        let status = NodeStatus::read(&self.readers.ask(node, b"status")?)?;
+        let page = self.readers.ask(node, format!("read 0 {} 0 {PAGE_LEN}", status.complete).as_bytes())?;
+        let page = PageZero::read(&answers::bytes(&page, "page ").ok()?)?;
+        let counts = status.is_member && page.epoch == status.epoch && page.generation == status.generation;
+        counts.then_some(Shown { epoch: status.epoch, commit_point: page.commit_point })
+    }
+
+    /// Page 0 at a point.
+    ///
+    /// Errors: `Below`, `NotRead`, and `Damaged` where no volume wrote it.
+    pub fn page_zero(&self, point: u64) -> Result<PageZero, VolumeError> {
+        self.readers.page_zero(self.epoch(), point, Instant::now() + self.options.patience)
+    }
+
+    /// `length` bytes of a page from `offset` on, at a durable commit point.
+    ///
+    /// Errors: `Argument`, `Below`, `NotRead`.
+    pub fn read(&self, page: u16, point: u64, offset: u16, length: u16) -> Result<Vec<u8>, VolumeError> {
+        let range = Range { epoch: self.epoch(), page, point, offset, length };
+        range.check()?;
+        self.readers.read(range, Instant::now() + self.options.patience)
+    }
+
+    fn epoch(&self) -> u16 {
+        self.newest.lock().unwrap_or_else(PoisonError::into_inner).0
+    }
+}
+
+#[cfg(test)]
+mod tests {
+    use super::*;
+
+    #[test]
+    fn statuses_are_read() {
+        let status = NodeStatus { generation: 3, birth: u64::MAX, is_member: true, epoch: 2, complete: 70, min: 5 };
+        assert_eq!(NodeStatus::read(format!("status 3 {} 1 2 70 5", u64::MAX).as_bytes()), Some(status));
+        assert_eq!(NodeStatus::read(format!("status 3 {} 1 2 70 5 3 2 60 66", u64::MAX).as_bytes()), Some(status));
+        for other in [&b"status 3 1 1 2 70"[..], b"status", b"stale 4", b"status x 1 1 2 70 5", b"\xff"] {
+            assert_eq!(NodeStatus::read(other), None);
+        }
+    }
+
+    #[test]
+    fn the_quorum_of_the_newest_epoch_counts() {
+        let shown = |of: &[(u16, u64)]| of.iter().map(|it| Shown { epoch: it.0, commit_point: it.1 }).collect::<Vec<_>>();
+        assert_eq!(durable(&shown(&[(1, 9), (1, 5), (1, 7)]), 2), Some((1, 7)));
+        assert_eq!(durable(&shown(&[(1, 9), (2, 5), (1, 7)]), 2), None);
+        assert_eq!(durable(&shown(&[(1, 9), (2, 5), (2, 4)]), 2), Some((2, 4)));
+        assert_eq!(durable(&[], 1), None);
+    }
+}
