@@ -67,6 +67,8 @@ pub struct Driver<M> {
     machine: M,
     peers: Vec<Peer>,
     progress: Arc<Progress>,
+    /// That of the last opening.
+    generation: u64,
     /// Who waits for an opening or a creation.
     opening: Option<Sender<Result<(), VolumeError>>>,
     remind: Duration,
@@ -77,7 +79,7 @@ impl<M: Machine> Driver<M> {
     pub fn new(machine: M, options: &Options, progress: Arc<Progress>) -> Driver<M> {
         let peers = options.nodes.iter().map(|_| Peer::new()).collect();
         let most_pending = options.in_flight.saturating_mul(2);
-        Driver { machine, peers, progress, opening: None, remind: options.remind, most_pending }
+        Driver { machine, peers, progress, generation: 0, opening: None, remind: options.remind, most_pending }
     }
 
     /// Steps the machine until the volume is closed.
@@ -157,7 +159,7 @@ impl<M: Machine> Driver<M> {
                     }
                 }
                 Action::Opened { epoch, commit_point, header } => {
-                    self.progress.open(epoch, commit_point, header);
+                    self.progress.open(self.generation, epoch, commit_point, header);
                     outcome.is_opened = true;
                 }
                 Action::Committed { commit_point } => outcome.committed = Some(commit_point),
@@ -171,7 +173,10 @@ impl<M: Machine> Driver<M> {
     fn carry_out(&mut self, call: Call) {
         match call {
             Call::Create { done } => self.begin(Event::Create, done),
-            Call::Open { generation, done } => self.begin(Event::Open { generation }, done),
+            Call::Open { generation, done } => {
+                self.generation = generation;
+                self.begin(Event::Open { generation }, done);
+            }
             Call::Commit { writes, header, done } => {
                 // A caller that has given up does not listen.
                 let _ = done.send(self.commit(&writes, &header));

@@ -8,19 +8,23 @@
 
 mod driver;
 mod errors;
+mod framed;
 mod link;
 mod machine;
 mod options;
 mod page_zero;
+mod place;
 mod progress;
 mod reader;
 mod reading;
 mod volume;
 
 pub use errors::VolumeError;
+pub use framed::Framed;
 pub use machine::{Action, Event, Fault, Machine, OutOfMemory};
 pub use options::{BadOptions, Options};
-pub use page_zero::PageZero;
+pub use page_zero::{PageZero, MOST_HEADER};
+pub use place::BadPlace;
 pub use progress::Standing;
-pub use reader::{NodeStatus, Reader};
+pub use reader::{statuses, NodeStatus, Reader};
 pub use volume::{PageWrite, Volume};

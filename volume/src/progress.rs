@@ -7,6 +7,7 @@ use std::time::Instant;
 /// How far an open volume is.
 #[derive(Debug, Clone, PartialEq, Eq)]
 pub struct Standing {
+    pub generation: u64,
     pub epoch: u16,
     /// The commit point with which the volume was opened, and the header of its commit.
     pub opened_at: u64,
@@ -66,10 +67,11 @@ impl Progress {
 
     // What the driver reports
 
-    pub fn open(&self, epoch: u16, commit_point: u64, header: Vec<u8>) {
+    pub fn open(&self, generation: u64, epoch: u16, commit_point: u64, header: Vec<u8>) {
         self.change(|state| {
             let answering = state.answering;
-            let standing = Standing { epoch, opened_at: commit_point, header, durable: commit_point, committed: commit_point, answering };
+            let standing =
+                Standing { generation, epoch, opened_at: commit_point, header, durable: commit_point, committed: commit_point, answering };
             state.standing = Some(standing);
         });
     }

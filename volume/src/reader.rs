@@ -4,6 +4,7 @@ use crate::errors::VolumeError;
 use crate::options::Options;
 use crate::page_zero::PageZero;
 use crate::reading::{Range, Readers};
+use std::sync::atomic::{AtomicU64, AtomicUsize, Ordering};
 use std::sync::{Mutex, PoisonError};
 use std::thread;
 use std::time::Instant;
@@ -43,6 +44,12 @@ impl NodeStatus {
     }
 }
 
+/// What each node says of itself; nothing for one that does not answer.
+pub fn statuses(options: &Options) -> Vec<Option<NodeStatus>> {
+    let readers = Readers::new(options);
+    (0..options.nodes.len()).map(|node| NodeStatus::read(&readers.ask(node, b"status")?)).collect()
+}
+
 /// The newest durable commit point that these nodes prove, with its epoch: among those of the newest epoch the `quorum`-th greatest.
 fn durable(shown: &[Shown], quorum: usize) -> Option<(u16, u64)> {
     let epoch = shown.iter().map(|it| it.epoch).max()?;
@@ -57,6 +64,9 @@ pub struct Reader {
     readers: Readers,
     /// The newest durable commit point that was found, with its epoch.
     newest: Mutex<(u16, u64)>,
+    /// The greatest generation of a member, and how many nodes answered, when they were asked last.
+    generation: AtomicU64,
+    answering: AtomicUsize,
 }
 
 impl Reader {
@@ -66,7 +76,7 @@ impl Reader {
     pub fn open(options: Options) -> Result<Reader, VolumeError> {
         options.check().map_err(VolumeError::Options)?;
         let readers = Readers::new(&options);
-        Ok(Reader { options, readers, newest: Mutex::new((0, 0)) })
+        Ok(Reader { options, readers, newest: Mutex::new((0, 0)), generation: AtomicU64::new(0), answering: AtomicUsize::new(0) })
     }
 
     /// The newest durable commit point: at or above each one that a handle has seen durable before.
@@ -75,22 +85,39 @@ impl Reader {
     pub fn newest(&self) -> Result<u64, VolumeError> {
         let deadline = Instant::now() + self.options.patience;
         loop {
-            let shown: Vec<_> = (0..self.options.nodes.len()).filter_map(|node| self.show(node)).collect();
+            let statuses: Vec<_> = (0..self.options.nodes.len()).filter_map(|node| Some((node, self.status(node)?))).collect();
+            self.answering.store(statuses.len(), Ordering::Relaxed);
+            let shown: Vec<_> = statuses.iter().filter_map(|(node, status)| self.show(*node, status)).collect();
             if let Some(found) = durable(&shown, self.options.quorum.into()) {
                 let mut newest = self.newest.lock().unwrap_or_else(PoisonError::into_inner);
                 *newest = found.max(*newest);
                 return Ok(newest.1);
             }
             if Instant::now() >= deadline {
-                return Err(VolumeError::NotOpened { have: shown.len(), need: self.options.quorum });
+                return Err(VolumeError::NotOpened { have: statuses.len(), need: self.options.quorum });
             }
             thread::sleep(self.options.retry);
         }
     }
 
-    /// What a node counts for. It counts where it is a member, and page 0 was written last in its epoch by the engine that fenced it.
-    fn show(&self, node: usize) -> Option<Shown> {
+    /// The greatest generation of a member that was seen.
+    pub fn generation(&self) -> u64 {
+        self.generation.load(Ordering::Relaxed)
+    }
+
+    /// How many nodes answered when they were asked last.
+    pub fn answering(&self) -> usize {
+        self.answering.load(Ordering::Relaxed)
+    }
+
+    fn status(&self, node: usize) -> Option<NodeStatus> {
         let status = NodeStatus::read(&self.readers.ask(node, b"status")?)?;
+        self.generation.fetch_max(status.generation, Ordering::Relaxed);
+        Some(status)
+    }
+
+    /// What a node counts for. It counts where it is a member, and page 0 was written last in its epoch by the engine that fenced it.
+    fn show(&self, node: usize, status: &NodeStatus) -> Option<Shown> {
         let page = self.readers.ask(node, format!("read 0 {} 0 {PAGE_LEN}", status.complete).as_bytes())?;
         let page = PageZero::read(&answers::bytes(&page, "page ").ok()?)?;
         let counts = status.is_member && page.epoch == status.epoch && page.generation == status.generation;

@@ -1,0 +1,211 @@
+//! What the calls do, with values of Rust.
+
+use crate::faults::Failure;
+use crate::proved::Proved;
+use std::path::Path;
+use std::sync::atomic::{AtomicU64, Ordering};
+use std::sync::{Mutex, MutexGuard, PoisonError};
+use std::time::Duration;
+use yieldcleat_client::Patch;
+use yieldcleat_volume::{statuses, Options, PageWrite, PageZero, Reader, Volume};
+
+/// The bytes of a page that its user has.
+pub const PAGE_BYTES: u32 = 4088;
+/// The reader on whose behalf a volume advances.
+const READER: u8 = 1;
+
+/// One handle.
+pub struct Handle {
+    side: Side,
+    options: Options,
+    /// The least readable point, as far as this handle knows.
+    least: AtomicU64,
+}
+
+enum Side {
+    Writer {
+        volume: Volume,
+        staged: Mutex<Vec<PageWrite>>,
+    },
+    /// A reader, and the point at which it stays.
+    Reader {
+        reader: Reader,
+        point: Option<u64>,
+        newest: AtomicU64,
+    },
+}
+
+/// `struct yieldcleat_status`.
+#[repr(C)]
+#[derive(Debug, Clone, Copy, PartialEq, Eq)]
+pub struct Report {
+    pub newest: u64,
+    pub least: u64,
+    pub generation: u64,
+    pub have: u32,
+    pub need: u32,
+    pub nodes: u32,
+}
+
+fn options_at(place: &Path, milliseconds: u32) -> Result<Options, Failure> {
+    let mut options = Options::at(place)?;
+    if milliseconds > 0 {
+        options.patience = Duration::from_millis(milliseconds.into());
+    }
+    Ok(options)
+}
+
+impl Handle {
+    fn of(side: Side, options: Options) -> Handle {
+        Handle { side, options, least: AtomicU64::new(0) }
+    }
+
+    pub fn open_writer(place: &Path, milliseconds: u32, may_create: bool) -> Result<Handle, Failure> {
+        let options = options_at(place, milliseconds)?;
+        let is_empty = statuses(&options).iter().all(|status| status.is_some_and(|status| !status.is_member));
+        let machine = Proved::start(options.nodes.len(), options.quorum)?;
+        let volume = match (is_empty, may_create) {
+            (true, false) => return Err(Failure::not_found("the nodes are empty")),
+            (true, true) => Volume::create(machine, options.clone())?,
+            (false, _) => Volume::open(machine, options.clone())?,
+        };
+        Ok(Handle::of(Side::Writer { volume, staged: Mutex::default() }, options))
+    }
+
+    pub fn open_reader(place: &Path, milliseconds: u32, point: Option<u64>) -> Result<Handle, Failure> {
+        let options = options_at(place, milliseconds)?;
+        let reader = Reader::open(options.clone())?;
+        let newest = reader.newest()?;
+        if let Some(point) = point {
+            if point > newest {
+                return Err(Failure::above(point, newest));
+            }
+            reader.page_zero(point)?;
+        }
+        Ok(Handle::of(Side::Reader { reader, point, newest: AtomicU64::new(newest) }, options))
+    }
+
+    /// Notes the least readable point, where a call fails for it.
+    fn noting<T>(&self, result: Result<T, Failure>) -> Result<T, Failure> {
+        result.inspect_err(|failure| {
+            if let Some(least) = failure.least() {
+                self.least.fetch_max(least, Ordering::Relaxed);
+            }
+        })
+    }
+
+    pub fn newest(&self) -> Result<u64, Failure> {
+        match &self.side {
+            Side::Writer { volume, .. } => Ok(volume.standing()?.durable),
+            Side::Reader { point: Some(point), .. } => Ok(*point),
+            Side::Reader { reader, newest, .. } => {
+                let found = reader.newest()?;
+                newest.fetch_max(found, Ordering::Relaxed);
+                Ok(found)
+            }
+        }
+    }
+
+    /// The greatest point at which this handle reads, as far as it knows.
+    fn greatest(&self) -> Result<u64, Failure> {
+        match &self.side {
+            Side::Writer { volume, .. } => Ok(volume.standing()?.committed),
+            Side::Reader { point: Some(point), .. } => Ok(*point),
+            Side::Reader { newest, .. } => Ok(newest.load(Ordering::Relaxed)),
+        }
+    }
+
+    fn check_point(&self, point: u64) -> Result<(), Failure> {
+        let greatest = self.greatest()?;
+        if point > greatest {
+            Err(Failure::above(point, greatest))
+        } else {
+            Ok(())
+        }
+    }
+
+    pub fn page_zero(&self, point: u64) -> Result<PageZero, Failure> {
+        self.check_point(point)?;
+        let page = match &self.side {
+            Side::Writer { volume, .. } => volume.page_zero(point),
+            Side::Reader { reader, .. } => reader.page_zero(point),
+        };
+        self.noting(page.map_err(Failure::from))
+    }
+
+    pub fn read(&self, point: u64, page: u32, offset: u32, length: u32) -> Result<Vec<u8>, Failure> {
+        let page = user_page(page)?;
+        if length == 0 || offset.checked_add(length).is_none_or(|end| end > PAGE_BYTES) {
+            return Err(Failure::misuse("a range outside the page"));
+        }
+        self.check_point(point)?;
+        let (offset, length) = (offset as u16, length as u16);
+        let bytes = match &self.side {
+            Side::Writer { volume, .. } => volume.read(page, point, offset, length),
+            Side::Reader { reader, .. } => reader.read(page, point, offset, length),
+        };
+        self.noting(bytes.map_err(Failure::from))
+    }
+
+    fn writer(&self) -> Result<(&Volume, MutexGuard<'_, Vec<PageWrite>>), Failure> {
+        match &self.side {
+            Side::Writer { volume, staged } => Ok((volume, staged.lock().unwrap_or_else(PoisonError::into_inner))),
+            Side::Reader { .. } => Err(Failure::misuse("a reader's handle writes nothing")),
+        }
+    }
+
+    pub fn stage(&self, page: u32, init: bool, patches: Vec<Patch>) -> Result<(), Failure> {
+        let page = user_page(page)?;
+        let (volume, mut staged) = self.writer()?;
+        volume.standing()?;
+        staged.push(PageWrite { page, init, patches });
+        Ok(())
+    }
+
+    pub fn discard(&self) {
+        if let Ok((_, mut staged)) = self.writer() {
+            staged.clear();
+        }
+    }
+
+    pub fn commit(&self, header: Vec<u8>) -> Result<u64, Failure> {
+        let (volume, mut staged) = self.writer()?;
+        let writes = std::mem::take(&mut *staged);
+        drop(staged);
+        Ok(volume.write(writes, header)?)
+    }
+
+    pub fn wait(&self, point: u64, milliseconds: u32) -> Result<(), Failure> {
+        let patience = match milliseconds {
+            0 => self.options.patience,
+            _ => Duration::from_millis(milliseconds.into()),
+        };
+        Ok(self.writer()?.0.wait(point, patience)?)
+    }
+
+    pub fn advance(&self, point: u64) -> Result<(), Failure> {
+        let volume = self.writer()?.0;
+        if point > 0 {
+            volume.advance(READER, point)?;
+            self.least.fetch_max(point, Ordering::Relaxed);
+        }
+        Ok(())
+    }
+
+    pub fn report(&self) -> Result<Report, Failure> {
+        let (newest, generation, have) = match &self.side {
+            Side::Writer { volume, .. } => {
+                let standing = volume.standing()?;
+                (standing.durable, standing.generation, standing.answering)
+            }
+            Side::Reader { reader, .. } => (self.greatest()?, reader.generation(), reader.answering()),
+        };
+        let least = self.least.load(Ordering::Relaxed);
+        let (need, nodes) = (self.options.quorum.into(), self.options.nodes.len() as u32);
+        Ok(Report { newest, least, generation, have: have as u32, need, nodes })
+    }
+}
+
+fn user_page(page: u32) -> Result<u16, Failure> {
+    u16::try_from(page).ok().filter(|page| *page > 0).ok_or_else(|| Failure::misuse("pages are 1 to 65,535"))
+}
