@@ -85,7 +85,7 @@ def test_metrics_over_http(store):
     assert len(names) == len(set(names)) and all(line.startswith(("#", "yieldcleat_")) for line in text.splitlines())
     buckets = [float(line.split()[-1]) for line in text.splitlines() if line.startswith("yieldcleat_fsync_seconds_bucket")]
     assert buckets == sorted(buckets) and buckets[-1] >= 1
-    with urllib.request.urlopen(f"http://{address}/status", timeout=10) as answer:
+    with urllib.request.urlopen(f"http://{address}/report", timeout=10) as answer:
         assert b"front: epoch 0, complete 40, minimum read point 20" in answer.read()
     with pytest.raises(urllib.error.HTTPError):
         urllib.request.urlopen(f"http://{address}/other", timeout=10)

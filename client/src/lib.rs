@@ -22,6 +22,7 @@ mod connection;
 mod errors;
 mod facts;
 pub mod frames;
+mod guard;
 pub mod requests;
 mod stream;
 
@@ -31,4 +32,5 @@ pub use calls::{Calls, MOST};
 pub use connection::{Connection, Limits};
 pub use errors::{Error, ReadFault, Refused, SnapshotFault, StagingFault, Status, Uncovered, WireFault};
 pub use facts::{Advance, Fact, Patch, Record, Shape, Truncation, MOST_NUMBER, PAGE_LEN};
+pub use guard::{AcceptedCut, NodeStatus};
 pub use stream::Stream;

@@ -12,6 +12,8 @@ pub enum Effect {
     /// It changes the facts, the roster or the staging, exactly where this is its answer. Asked again in the same order, such requests
     /// bring a new node to the same facts and the same staging.
     Changes { answer: &'static [u8] },
+    /// It changes the guard, exactly where its answer begins with this word: the generation, the accepted truncation or the membership.
+    Guards { word: &'static [u8] },
     /// That of the requests that stand in it.
     Many,
 }
@@ -30,6 +32,9 @@ const CHANGES: [(&[u8], &[u8]); 7] = [
     (b"unite", b"united"),
 ];
 
+/// The requests that change a guard, each with the first word of the answer that says so.
+const GUARDS: [(&[u8], &[u8]); 3] = [(b"fence", b"fenced"), (b"propose", b"accepted"), (b"admit", b"admitted")];
+
 /// The first word of a request.
 pub fn word(request: &[u8]) -> &[u8] {
     request.split(|byte| *byte == b' ').next().unwrap_or_default()
@@ -37,14 +42,44 @@ pub fn word(request: &[u8]) -> &[u8] {
 
 /// The effect of a request, by its first word; nothing for a word that this package does not know, so that a server can refuse it.
 pub fn effect(request: &[u8]) -> Option<Effect> {
-    let word = word(request);
-    if word == b"many" {
-        return Some(Effect::Many);
-    }
+    let (heading, asked) = heading(request);
+    let of_guard = if heading.is_empty() { effect_on_guard(word(asked)) } else { None };
+    of_guard.or_else(|| effect_on_segment(word(asked)))
+}
+
+fn effect_on_segment(word: &[u8]) -> Option<Effect> {
     if READS.contains(&word) {
         return Some(Effect::None);
     }
     CHANGES.iter().find(|it| it.0 == word).map(|it| Effect::Changes { answer: it.1 })
+}
+
+/// The effect of what no engine asks under its generation.
+fn effect_on_guard(word: &[u8]) -> Option<Effect> {
+    match word {
+        b"many" => Some(Effect::Many),
+        b"status" => Some(Effect::None),
+        _ => GUARDS.iter().find(|it| it.0 == word).map(|it| Effect::Guards { word: it.1 }),
+    }
+}
+
+/// What comes before a request that an engine asks under its generation, `as G B ` and so before its answer, and the request itself.
+/// Nothing comes before any other request.
+pub fn heading(request: &[u8]) -> (&[u8], &[u8]) {
+    let mut spaces = request.iter().enumerate().filter(|(_, byte)| **byte == b' ').map(|(place, _)| place);
+    match (request.starts_with(b"as "), spaces.nth(2)) {
+        (true, Some(last)) => request.split_at(last + 1),
+        _ => (&[], request),
+    }
+}
+
+/// Whether a request with this answer has changed what a node has to come back with after a crash. It is none of the kind `many`.
+pub fn has_changed(request: &[u8], answer: &[u8]) -> bool {
+    match effect(request) {
+        Some(Effect::Changes { answer: wanted }) => answer.strip_prefix(heading(request).0) == Some(wanted),
+        Some(Effect::Guards { word: wanted }) => word(answer) == wanted,
+        _ => false,
+    }
 }
 
 /// An empty segment of so many readers, 1 to 15, in place of the segment.
@@ -118,6 +153,33 @@ mod tests {
     use super::*;
 
     #[test]
+    fn answers_say_what_has_changed() {
+        for (request, answer) in [
+            (&b"take \x03"[..], &b"changed"[..]),
+            (b"as 3 7 take \x03", b"as 3 7 changed"),
+            (b"as 3 7 absorb 1 \x10\x11", b"as 3 7 absorbed"),
+            (b"fence 3", b"fenced 3 7"),
+            (b"fence 3", b"fenced 3 7 2 1 0 0"),
+            (b"propose 3 7 1 0 0", b"accepted 3 7 1"),
+            (b"admit 3 7 0 0", b"admitted 3 7"),
+        ] {
+            assert!(has_changed(request, answer), "{request:?}");
+        }
+        for (request, answer) in [
+            (&b"take \x03"[..], &b"unchanged"[..]),
+            (b"as 3 7 take \x03", b"changed"),
+            (b"as 3 7 take \x03", b"as 3 8 changed"),
+            (b"as 3 7 take \x03", b"stale 4"),
+            (b"fence 3", b"stale 3"),
+            (b"admit 3 7 0 0", b"member"),
+            (b"status", b"status 3 7 1 0 0 0"),
+            (b"front", b"fenced 3 7"),
+        ] {
+            assert!(!has_changed(request, answer), "{request:?}");
+        }
+    }
+
+    #[test]
     fn each_request_has_its_effect() {
         let changes = |answer| Some(Effect::Changes { answer });
         assert_eq!(effect(&take(b"\x03 \n")), changes(b"changed"));
@@ -127,6 +189,13 @@ mod tests {
         assert_eq!(effect(&unite()), changes(b"united"));
         assert_eq!(effect(&answer(b"\x10")), Some(Effect::None));
         assert_eq!(effect(&within(b"\x10", 9)), Some(Effect::None));
+        assert_eq!(effect(b"status"), Some(Effect::None));
+        assert_eq!(effect(b"fence 3"), Some(Effect::Guards { word: b"fenced" }));
+        assert_eq!(effect(b"as 3 7 take \x03"), changes(b"changed"));
+        assert_eq!(effect(b"as 3 7 front"), Some(Effect::None));
+        for unknown in [&b"as 3 7 fence 4"[..], b"as 3 7 many ", b"as 3 7", b"as 3 7 as 3 7 front", b"other"] {
+            assert_eq!(effect(unknown), None);
+        }
         assert_eq!(effect(b"tidy"), Some(Effect::None));
         assert_eq!(effect(b"many \0\0\0\0"), Some(Effect::Many));
         for unknown in [&b""[..], b" ", b" take", b"taken", b"wipe", b"Take"] {

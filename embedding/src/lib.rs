@@ -26,7 +26,7 @@ mod node;
 mod store;
 
 pub use node::Node;
-pub use store::{read_log, Activity, Recovery, Store, StoreError};
+pub use store::{birth, read_log, Activity, Recovery, Store, StoreError};
 pub use yieldcleat_client::{frames, requests, Calls, Error, Front, Gap, Held, Key, State, Taken};
 pub use yieldcleat_client::{Advance, Fact, Patch, Record, Shape, Truncation, MOST_NUMBER, PAGE_LEN};
 pub use yieldcleat_client::{ReadFault, Refused, SnapshotFault, StagingFault, Status, Uncovered, WireFault};

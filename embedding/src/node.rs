@@ -10,7 +10,7 @@ use yieldcleat_client::{answers, frames, requests, Calls, Error, Status};
 
 extern "C" {
     /// In `crates/node_c/src/lib.rt`, and told in `include/yieldcleat.h`; nothing compares the declarations.
-    fn yieldcleat_serve(input: i32, output: i32) -> u8;
+    fn yieldcleat_serve_as(input: i32, output: i32, birth: u64) -> u8;
 }
 
 /// The stack of a segment's thread.
@@ -60,15 +60,20 @@ impl Node {
     ///
     /// Errors: `NotStarted`, and `BadRequest` for another number of readers.
     pub fn open(readers: u8) -> Result<Node, Error> {
+        Node::open_as(readers, 0)
+    }
+
+    /// The same with a birth: a number that no earlier life of this node had. Nodes of a volume need one.
+    pub fn open_as(readers: u8, birth: u64) -> Result<Node, Error> {
         let not_started = |error: io::Error| Error::NotStarted(error.kind());
-        Node::over(io::pipe().map_err(not_started)?, io::pipe().map_err(not_started)?, readers)
+        Node::over(io::pipe().map_err(not_started)?, io::pipe().map_err(not_started)?, readers, birth)
     }
 
     /// The same over pipes for its requests and its answers.
-    fn over(requests: (PipeReader, PipeWriter), answers: (PipeReader, PipeWriter), readers: u8) -> Result<Node, Error> {
+    fn over(requests: (PipeReader, PipeWriter), answers: (PipeReader, PipeWriter), readers: u8, birth: u64) -> Result<Node, Error> {
         let serve = move || {
             // SAFETY: the declaration is that of the archive, and both descriptors stay open until the call has returned.
-            unsafe { yieldcleat_serve(requests.0.as_raw_fd(), answers.1.as_raw_fd()) }
+            unsafe { yieldcleat_serve_as(requests.0.as_raw_fd(), answers.1.as_raw_fd(), birth) }
         };
         let mut node = Node::at(Ends::new(answers.0, requests.1, None));
         let named = thread::Builder::new().name("segment".into()).stack_size(STACK);

@@ -1,7 +1,7 @@
-//! Which requests of a client reach the segment.
+//! Which requests of a client reach the segment and its guard.
 //!
-//! Guards belong here: what the volume protocol will ask of a node before a request is carried out (a generation that is not too old, a
-//! node that counts). There are none yet: each request that is not refused below reaches the segment.
+//! The guard itself, which decides what it answers which engine, is in the archive. Here a client is kept from replacing the segment of a
+//! node that is no member yet, and each delta gets a bound.
 
 use yieldcleat_client::{frames, requests};
 
@@ -13,7 +13,7 @@ pub enum Verdict {
     /// The segment is not asked.
     Answer(Vec<u8>),
     /// The server reports on itself.
-    Status,
+    Report,
     Metrics,
 }
 
@@ -23,11 +23,11 @@ const REPLACING: [&[u8]; 2] = [b"open", b"finish"];
 /// Judges a request. A delta has at most `most` bytes, whoever asks for it.
 pub fn judge(request: Vec<u8>, most: u32) -> Verdict {
     match requests::word(&request) {
-        b"status" => Verdict::Status,
+        b"report" => Verdict::Report,
         b"metrics" => Verdict::Metrics,
         b"many" => judge_many(request, most),
         word if REPLACING.contains(&word) => Verdict::Answer(b"not allowed".to_vec()),
-        b"answer" | b"within" => Verdict::Ask(bounded(&request, most).unwrap_or(request)),
+        b"answer" | b"within" | b"as" => Verdict::Ask(bounded(&request, most).unwrap_or(request)),
         _ => Verdict::Ask(request),
     }
 }
@@ -49,6 +49,12 @@ fn judge_many(request: Vec<u8>, most: u32) -> Verdict {
 
 /// The request for a delta with a limit; nothing where the segment will find its form bad.
 fn bounded(request: &[u8], most: u32) -> Option<Vec<u8>> {
+    let (heading, asked) = requests::heading(request);
+    Some([heading, &bounded_alone(asked, most)?].concat())
+}
+
+/// The same for what is asked under no generation.
+fn bounded_alone(request: &[u8], most: u32) -> Option<Vec<u8>> {
     if let Some(summary) = request.strip_prefix(b"answer ") {
         return Some(requests::within(summary, most));
     }
@@ -77,7 +83,7 @@ mod tests {
         for request in [&b"front"[..], b"", b"opened", b"many x", &harmless, b"unite"] {
             assert_eq!(judged(request), Verdict::Ask(request.to_vec()));
         }
-        assert_eq!((judged(b"status"), judged(b"metrics")), (Verdict::Status, Verdict::Metrics));
+        assert_eq!((judged(b"report"), judged(b"metrics")), (Verdict::Report, Verdict::Metrics));
     }
 
     #[test]
@@ -85,6 +91,8 @@ mod tests {
         let ask = |request: &[u8]| Verdict::Ask(request.to_vec());
         assert_eq!(judged(b"answer \x10 \0"), ask(b"within 100 \x10 \0"));
         assert_eq!(judged(b"within 101 \x10 \0"), ask(b"within 100 \x10 \0"));
+        assert_eq!(judged(b"as 3 7 answer \x10 \0"), ask(b"as 3 7 within 100 \x10 \0"));
+        assert_eq!(judged(b"as 3 7 take \x03"), ask(b"as 3 7 take \x03"));
         let many = requests::many([&b"front"[..], b"answer \x10", b"within 99 \x10"]).unwrap();
         let limited = requests::many([&b"front"[..], b"within 100 \x10", b"within 99 \x10"]).unwrap();
         assert_eq!(judged(&many), ask(&limited));

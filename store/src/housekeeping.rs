@@ -86,6 +86,7 @@ impl Housekeeping {
     }
 
     fn note_one(&mut self, request: &[u8]) {
+        let request = requests::heading(request).1;
         match requests::word(request) {
             b"take" => {
                 if let Some(page) = page_of(request) {

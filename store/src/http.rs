@@ -1,4 +1,4 @@
-//! The little of HTTP that a scraper needs: GET of /metrics and /status.
+//! The little of HTTP that a scraper needs: GET of /metrics and /report.
 
 use crate::listener::Listener;
 use crate::metrics::Metrics;
@@ -37,8 +37,8 @@ fn answer(stream: Stream, metrics: &Metrics) -> io::Result<()> {
 fn reply(line: &str, metrics: &Metrics) -> String {
     let (status, body) = match line.split(' ').collect::<Vec<_>>()[..] {
         ["GET", "/metrics", ..] => ("200 OK", metrics.text()),
-        ["GET", "/status", ..] => ("200 OK", metrics.status()),
-        ["GET", ..] => ("404 Not Found", "there is /metrics and /status\n".to_string()),
+        ["GET", "/report", ..] => ("200 OK", metrics.report()),
+        ["GET", ..] => ("404 Not Found", "there is /metrics and /report\n".to_string()),
         _ => ("405 Method Not Allowed", "only GET\n".to_string()),
     };
     let kind = "text/plain; version=0.0.4; charset=utf-8";
@@ -53,7 +53,7 @@ mod tests {
     fn paths_have_their_texts() {
         let metrics = Metrics::new(100, std::iter::empty());
         assert!(reply("GET /metrics HTTP/1.1\r\n", &metrics).contains("yieldcleat_disk_full 0"));
-        assert!(reply("GET /status HTTP/1.1\r\n", &metrics).starts_with("HTTP/1.1 200 OK\r\n"));
+        assert!(reply("GET /report HTTP/1.1\r\n", &metrics).starts_with("HTTP/1.1 200 OK\r\n"));
         assert!(reply("GET / HTTP/1.1\r\n", &metrics).starts_with("HTTP/1.1 404 "));
         assert!(reply("POST /metrics HTTP/1.1\r\n", &metrics).starts_with("HTTP/1.1 405 "));
         assert!(reply("", &metrics).starts_with("HTTP/1.1 405 "));

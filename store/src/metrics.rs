@@ -1,4 +1,4 @@
-//! What the server counts, and its two texts: `metrics` for Prometheus and `status` for people.
+//! What the server counts, and its two texts: `metrics` for Prometheus and `report` for people.
 
 use crate::budget::Budget;
 use crate::histogram::Histogram;
@@ -7,11 +7,12 @@ use std::sync::atomic::{AtomicBool, AtomicU64, Ordering::Relaxed};
 use std::sync::{Mutex, MutexGuard, PoisonError};
 use std::time::Instant;
 use yieldcleat::Activity;
-use yieldcleat_client::{Front, State};
+use yieldcleat_client::{Front, NodeStatus, State};
 
 /// What the segment last told, when all of it was on the disk.
 #[derive(Debug, Clone, Copy)]
 pub struct Seen {
+    pub status: NodeStatus,
     pub front: Front,
     pub state: State,
     pub activity: Activity,
@@ -130,11 +131,11 @@ impl Metrics {
     }
 
     /// The text for people.
-    pub fn status(&self) -> String {
+    pub fn report(&self) -> String {
         let mut text = format!("up {} s, {} connections\n", self.started.elapsed().as_secs(), self.connections.load(Relaxed));
         match *lock(&self.seen) {
             None => text.push_str("the segment has not answered yet\n"),
-            Some(seen) => write_status(&mut text, &seen),
+            Some(seen) => write_report(&mut text, &seen),
         }
         if self.is_full.load(Relaxed) {
             text.push_str("THE DISK IS FULL: nothing is acknowledged until there is room\n");
@@ -183,11 +184,14 @@ fn metric(text: &mut String, name: &str, kind: &str, help: &str, value: u64) {
 }
 
 fn write_seen(text: &mut String, seen: &Seen) {
-    let Seen { front, state, activity } = seen;
+    let Seen { status, front, state, activity } = seen;
     let gauges = [
         ("front_epoch", "Complete epoch, all of it on the disk.", front.epoch.into()),
         ("front_complete", "Complete point, all of it on the disk.", front.complete),
         ("front_min", "Minimum read point.", front.min),
+        ("guard_generation", "Generation of the engine that the node answers; 0 before it is a member.", status.generation),
+        ("guard_member", "1 where the node is a member of a volume.", status.is_member.into()),
+        ("guard_accepted_epoch", "Epoch of the truncation that the node accepted last; 0 before the first.", accepted_epoch(status)),
         ("anchor", "Point up to which pages may be folded.", state.anchor),
         ("records_held", "Records the segment holds.", state.held),
         ("records_kept", "Records it keeps in its summary.", state.kept),
@@ -202,8 +206,16 @@ fn write_seen(text: &mut String, seen: &Seen) {
     metric(text, "snapshots_total", "counter", "Snapshots that took the place of a log.", activity.snapshots);
 }
 
-fn write_status(text: &mut String, seen: &Seen) {
-    let Seen { front, state, activity } = seen;
+fn accepted_epoch(status: &NodeStatus) -> u64 {
+    status.accepted.map_or(0, |accepted| accepted.epoch.into())
+}
+
+fn write_report(text: &mut String, seen: &Seen) {
+    let Seen { status, front, state, activity } = seen;
+    let _ = match status.is_member {
+        true => writeln!(text, "guard: a member, of generation {}; birth {}", status.generation, status.birth),
+        false => writeln!(text, "guard: no member; birth {}", status.birth),
+    };
     let _ = writeln!(text, "front: epoch {}, complete {}, minimum read point {}", front.epoch, front.complete, front.min);
     let _ = writeln!(text, "holds {} records and {} pages; folded up to {}", state.held, state.images, state.anchor);
     let _ = writeln!(text, "files: generation {}, log {} bytes, snapshot {} bytes", activity.generation, activity.log, activity.snapshot);
@@ -230,10 +242,15 @@ mod tests {
         let front = Front { epoch: 1, complete: 5, min: 0 };
         let state =
             yieldcleat_client::answers::state(b"state epoch 1 complete 5 min 0 anchor 0 base 0 held 5 kept 5 images 0 cuts 1 waits 0");
-        metrics.see(Seen { front, state: state.unwrap(), activity: Activity::default() });
+        let status = NodeStatus::read(b"status 3 7 1 1 5 0 3 1 0 0").unwrap();
+        metrics.see(Seen { status, front, state: state.unwrap(), activity: Activity::default() });
+        assert!(
+            metrics.text().contains("yieldcleat_guard_generation 3\n") && metrics.text().contains("yieldcleat_guard_accepted_epoch 1\n")
+        );
+        assert!(metrics.report().contains("guard: a member, of generation 3; birth 7\n"));
         metrics.with_peer(0, |peer| peer.front = Some(Front { complete: 9, ..front }));
         assert!(metrics.text().contains("yieldcleat_peer_lag{peer=\"unix:a\\\"b\"} 4\n"), "{}", metrics.text());
-        assert!(metrics.status().contains("ahead of this node by 4"));
+        assert!(metrics.report().contains("ahead of this node by 4"));
         metrics.with_peer(0, |peer| peer.front = Some(Front { epoch: 2, ..front }));
         assert!(!metrics.text().contains("yieldcleat_peer_lag{"));
         metrics.with_peer(7, |_| panic!("no such peer"));

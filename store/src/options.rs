@@ -14,7 +14,7 @@ Serves one storage segment from the files in DIR. ADDR is unix:PATH or HOST:PORT
   --data DIR             the files of this node; made where it is missing
   --listen ADDR          take connections here; may be given several times
   --peer ADDR            gossip with the node at ADDR; may be given several times
-  --metrics ADDR         answer HTTP requests for /metrics and /status here
+  --metrics ADDR         answer HTTP requests for /metrics and /report here
   --readers R            readers of the log, 1 to 15, for a new DIR (1)
   --connections N        the most connections at a time (64)
   --frame-bytes N        the most bytes of a request (67108864)

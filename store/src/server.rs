@@ -15,7 +15,7 @@ use std::sync::{Arc, Mutex};
 use std::thread::{self, Builder};
 use std::time::{Duration, Instant};
 use std::{fmt, process};
-use yieldcleat::{Node, Store, StoreError};
+use yieldcleat::{birth, Node, Store, StoreError};
 use yieldcleat_client::{frames, Address, Stream};
 
 /// How long answers may take to be written when the server ends.
@@ -67,7 +67,8 @@ impl From<yieldcleat_client::Error> for Failure {
 /// Serves until a signal stops it.
 pub fn run(options: &Options) -> Result<(), Failure> {
     let stop = Stop::block().map_err(Failure::System)?;
-    let (store, recovery) = Store::open(&options.data, Node::open(options.readers)?, options.readers)?;
+    let node = Node::open_as(options.readers, birth(&options.data)?)?;
+    let (store, recovery) = Store::open(&options.data, node, options.readers)?;
     say(format_args!("{}: {} requests read back", options.data.display(), recovery.requests));
     if recovery.torn > 0 {
         say(format_args!("{} bytes of an entry that was not acknowledged are cut off", recovery.torn));

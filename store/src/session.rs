@@ -140,7 +140,7 @@ fn answer(frames: Vec<Frame>, service: &Service) -> Option<Vec<u8>> {
 fn own_answer(request: Vec<u8>, asked: &mut Vec<Vec<u8>>, service: &Service) -> Option<Vec<u8>> {
     match judge(request, service.delta_bytes) {
         Verdict::Answer(answer) => Some(answer),
-        Verdict::Status => Some(service.metrics.status().into_bytes()),
+        Verdict::Report => Some(service.metrics.report().into_bytes()),
         Verdict::Metrics => Some(service.metrics.text().into_bytes()),
         Verdict::Ask(request) => {
             asked.push(request);

@@ -7,7 +7,7 @@ import contextlib
 import threading
 import time
 
-from harness.store_files import entries, log
+from harness.store_files import birth, entries, log
 from harness.stores import Store, until
 from model.facts import PAGE_LEN, Advance, Record, Write
 from model.wire import fact_bytes
@@ -132,6 +132,7 @@ def check_answers(program, folder, disk, choose):
     it = Store(program, folder)
     it.data.mkdir(parents=True)
     try:
+        (it.data / "birth").write_bytes(birth(7))
         (it.data / "log.0").write_bytes(log(0, [[b"open 1"], takes(1, 3)]))
         it.start()
         assert it.ask(b"front") == b"front 0 3 0"
@@ -156,7 +157,7 @@ def check_full(program, folder, disk, choose):
         it.full.touch()
         assert set(told(client, [*takes(11, 20), b"front"])) == {b"disk full"}
         assert client.ask(b"front") == b"disk full"
-        assert b"THE DISK IS FULL" in client.ask(b"status")
+        assert b"THE DISK IS FULL" in client.ask(b"report")
         seen = it.metrics()
         assert seen["yieldcleat_disk_full"] == 1 and seen["yieldcleat_front_complete"] == 10
         it.full.unlink()

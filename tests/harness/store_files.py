@@ -1,4 +1,4 @@
-"""The bytes of a store's log, as `embedding/src/store/entries.rs` has them."""
+"""The bytes of a store's files, as `embedding/src/store/entries.rs` has them."""
 
 from model.wire import framed
 
@@ -29,6 +29,12 @@ def log(generation, batches, salt=7):
         head = number(place, 8) + number(len(body), 4) + number(crc32c(body), 4)
         text += head + number(crc32c(number(salt, 8) + head), 4) + body
     return text
+
+
+def birth(drawn):
+    """The file with a node's birth, as `embedding/src/store/birth.rs` has it."""
+    head = b"yc birth" + number(drawn, 8)
+    return head + number(crc32c(head), 4)
 
 
 def entries(text):

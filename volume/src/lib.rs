@@ -26,5 +26,5 @@ pub use options::{BadOptions, Options};
 pub use page_zero::{PageZero, MOST_HEADER};
 pub use place::BadPlace;
 pub use progress::Standing;
-pub use reader::{statuses, NodeStatus, Reader};
+pub use reader::{statuses, Reader};
 pub use volume::{PageWrite, Volume};

@@ -8,40 +8,13 @@ use std::sync::atomic::{AtomicU64, AtomicUsize, Ordering};
 use std::sync::{Mutex, PoisonError};
 use std::thread;
 use std::time::Instant;
-use yieldcleat_client::{answers, PAGE_LEN};
+use yieldcleat_client::{answers, NodeStatus, PAGE_LEN};
 
 /// What one node shows of itself: a member's generation and front, and page 0 at its complete point.
 #[derive(Debug, Clone, PartialEq, Eq)]
 struct Shown {
     epoch: u16,
     commit_point: u64,
-}
-
-/// The answer to `status`: `status G B M E C R`, and perhaps a truncation that the node has accepted.
-#[derive(Debug, Clone, Copy, PartialEq, Eq)]
-pub struct NodeStatus {
-    pub generation: u64,
-    pub birth: u64,
-    pub is_member: bool,
-    pub epoch: u16,
-    pub complete: u64,
-    pub min: u64,
-}
-
-impl NodeStatus {
-    /// Reads the bytes of an answer; nothing where they are another one.
-    pub fn read(answer: &[u8]) -> Option<NodeStatus> {
-        let words: Vec<_> = std::str::from_utf8(answer).ok()?.strip_prefix("status ")?.split(' ').collect();
-        let number = |place: usize| words.get(place)?.parse::<u64>().ok();
-        Some(NodeStatus {
-            generation: number(0)?,
-            birth: number(1)?,
-            is_member: number(2)? == 1,
-            epoch: u16::try_from(number(3)?).ok()?,
-            complete: number(4)?,
-            min: number(5)?,
-        })
-    }
 }
 
 /// What each node says of itself; nothing for one that does not answer.
@@ -148,16 +121,6 @@ impl Reader {
 #[cfg(test)]
 mod tests {
     use super::*;
-
-    #[test]
-    fn statuses_are_read() {
-        let status = NodeStatus { generation: 3, birth: u64::MAX, is_member: true, epoch: 2, complete: 70, min: 5 };
-        assert_eq!(NodeStatus::read(format!("status 3 {} 1 2 70 5", u64::MAX).as_bytes()), Some(status));
-        assert_eq!(NodeStatus::read(format!("status 3 {} 1 2 70 5 3 2 60 66", u64::MAX).as_bytes()), Some(status));
-        for other in [&b"status 3 1 1 2 70"[..], b"status", b"stale 4", b"status x 1 1 2 70 5", b"\xff"] {
-            assert_eq!(NodeStatus::read(other), None);
-        }
-    }
 
     #[test]
     fn the_quorum_of_the_newest_epoch_counts() {

@@ -7,13 +7,12 @@ use crate::machine::{Fault, Machine};
 use crate::options::Options;
 use crate::page_zero::{PageZero, MOST_HEADER};
 use crate::progress::{Progress, Standing};
-use crate::reader::NodeStatus;
 use crate::reading::{Range, Readers};
 use std::sync::mpsc::{self, Sender};
 use std::sync::Arc;
 use std::thread::{self, JoinHandle};
 use std::time::{Duration, Instant};
-use yieldcleat_client::{Patch, PAGE_LEN};
+use yieldcleat_client::{NodeStatus, Patch, PAGE_LEN};
 
 /// The last bytes of each page, which are the volume's own.
 const RESERVED: usize = 8;

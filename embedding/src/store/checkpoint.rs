@@ -6,11 +6,34 @@
 use super::errors::StoreError;
 use super::folder::{Draft, Whole};
 use super::log::Log;
-use super::{framed, Progress};
+use super::{framed, unexpected, Progress};
 use crate::Node;
 use std::io;
 use std::thread::{self, JoinHandle};
-use yieldcleat_client::{requests, Calls};
+use yieldcleat_client::{requests, Calls, NodeStatus};
+
+/// What a node has frozen: so many pieces, and the requests after them.
+pub struct Frozen {
+    pub total: u32,
+    pub last: Vec<Vec<u8>>,
+}
+
+impl Frozen {
+    /// Freezes a node's segment, and notes what its guard is.
+    pub fn of(node: &mut Node, name: u64) -> Result<Frozen, StoreError> {
+        let status = node.ask(b"status")?;
+        let status = NodeStatus::read(status).ok_or_else(|| unexpected(b"status", status))?;
+        let total = node.freeze(name)?;
+        // A node that is no member has a guard as each new one.
+        let admitted = status.is_member.then(|| status.admit());
+        Ok(Frozen { total, last: [requests::finish()].into_iter().chain(admitted).collect() })
+    }
+
+    /// How many entries the snapshot has.
+    pub fn entries(&self) -> u64 {
+        1 + u64::from(self.total) + self.last.len() as u64
+    }
+}
 
 /// A snapshot that is not whole, and the log behind it. After an error it is of no use.
 pub struct Checkpoint {
@@ -19,6 +42,8 @@ pub struct Checkpoint {
     /// The next piece, and how many there are.
     next: u32,
     total: u32,
+    /// What comes after the pieces: the end of the staging, and what the guard was.
+    last: Vec<Vec<u8>>,
     /// The thread that gives the snapshot to the disk, when it has all pieces.
     flushing: Option<JoinHandle<io::Result<()>>>,
     log: Log,
@@ -26,9 +51,10 @@ pub struct Checkpoint {
 }
 
 impl Checkpoint {
-    /// A snapshot of so many pieces that the node has frozen, in a draft that has none of them.
-    pub fn new(generation: u64, snapshot: Draft, total: u32, log: Log, progress: Progress) -> Checkpoint {
-        Checkpoint { generation, snapshot, next: 0, total, flushing: None, log, progress }
+    /// A snapshot of pieces that the node has frozen, in a draft that has none of them.
+    pub fn new(generation: u64, snapshot: Draft, frozen: Frozen, log: Log, progress: Progress) -> Checkpoint {
+        let Frozen { total, last } = frozen;
+        Checkpoint { generation, snapshot, next: 0, total, last, flushing: None, log, progress }
     }
 
     /// Whether the node is asked for more pieces, so that it may freeze nothing else.
@@ -52,7 +78,9 @@ impl Checkpoint {
             self.next += 1;
         }
         if self.next == self.total {
-            self.snapshot.put(&framed(&requests::finish())?)?;
+            for request in &self.last {
+                self.snapshot.put(&framed(request)?)?;
+            }
             let file = self.snapshot.written()?;
             let thread = thread::Builder::new().name("snapshot".into()).spawn(move || file.sync_all());
             self.flushing = Some(thread.map_err(self.snapshot.failure())?);

@@ -134,7 +134,8 @@ fn draft_of(path: &Path) -> PathBuf {
     name.into()
 }
 
-fn sync(folder: &Path) -> Result<(), StoreError> {
+/// The names of a folder's files are on the disk when this returns.
+pub fn sync(folder: &Path) -> Result<(), StoreError> {
     File::open(folder).and_then(|it| it.sync_all()).map_err(StoreError::io(folder))
 }
 

@@ -4,16 +4,18 @@
 //! before (`entries` has the bytes of both). A request that the node refuses, and one that changes nothing, is not kept. So each kept
 //! request has one answer, and a node that comes back is right only if it gives just these answers.
 
+mod birth;
 mod checkpoint;
 mod entries;
 mod errors;
 mod folder;
 mod log;
 
+pub use birth::birth;
 pub use errors::StoreError;
 
 use crate::Node;
-use checkpoint::Checkpoint;
+use checkpoint::{Checkpoint, Frozen};
 use entries::{Entries, Header, Kind, Next};
 use folder::Folder;
 use log::Log;
@@ -224,17 +226,21 @@ impl Store {
 
     /// The answer that a client gets, and a request that has changed something among the changes.
     fn settle(&mut self, request: &[u8], answer: Vec<u8>, changes: &mut Vec<u8>) -> Result<Vec<u8>, StoreError> {
-        if has_changed(request, &answer) {
+        if requests::has_changed(request, &answer) {
             self.progress.count(request);
             if let Some(checkpoint) = &mut self.checkpoint {
                 checkpoint.progress.count(request);
             }
             frames::append(changes, &[request]).map_err(|_| StoreError::TooLong)?;
         }
-        match requests::word(request) {
-            b"freeze" if answer.starts_with(b"frozen ") => self.is_displaced = false,
+        let (heading, asked) = requests::heading(request);
+        let Some(reply) = answer.strip_prefix(heading) else {
+            return Ok(answer);
+        };
+        match requests::word(asked) {
+            b"freeze" if reply.starts_with(b"frozen ") => self.is_displaced = false,
             // The pieces of a checkpoint's snapshot are not those that the client began with.
-            b"piece" if self.is_displaced && answer != b"bad request" => return Ok(b"no snapshot".to_vec()),
+            b"piece" if self.is_displaced && reply != b"bad request" => return Ok([heading, b"no snapshot"].concat()),
             _ => {}
         }
         Ok(answer)
@@ -329,17 +335,17 @@ impl Store {
         let progress = begin_behind(&self.folder, next, log, self.progress)?;
         let log = Log::recover(&self.folder.path(Kind::Log, next), next, |_| Ok(()))?.0;
         self.is_displaced = true;
-        let total = self.node.freeze(next)?;
-        let mut snapshot = self.folder.draft(Header::new(Kind::Snapshot, next, u64::from(total) + 2))?;
-        snapshot.put(&framed(&requests::stage(next, total))?)?;
-        Ok(Checkpoint::new(next, snapshot, total, log, progress))
+        let frozen = Frozen::of(&mut self.node, next)?;
+        let mut snapshot = self.folder.draft(Header::new(Kind::Snapshot, next, frozen.entries()))?;
+        snapshot.put(&framed(&requests::stage(next, frozen.total))?)?;
+        Ok(Checkpoint::new(next, snapshot, frozen, log, progress))
     }
 }
 
 /// Whether the request, or one in it, is to keep another snapshot.
 fn freezes(request: &[u8]) -> bool {
     let inside = request.strip_prefix(b"many ").and_then(frames::inside).unwrap_or_default();
-    requests::word(request) == b"freeze" || inside.iter().any(|it| requests::word(it) == b"freeze")
+    [request].iter().chain(&inside).any(|it| requests::word(requests::heading(it).1) == b"freeze")
 }
 
 /// Whether the node may be asked: the package knows whether each request in it changes something.
@@ -352,14 +358,10 @@ fn is_known(request: &[u8]) -> bool {
     }
 }
 
-fn has_changed(request: &[u8], answer: &[u8]) -> bool {
-    matches!(requests::effect(request), Some(Effect::Changes { answer: wanted }) if wanted == answer)
-}
-
 /// Asks a node requests that have changed an earlier one.
 fn tell(node: &mut Node, asked: &[&[u8]]) -> Result<(), StoreError> {
     let answers = node.ask_all(asked.iter().copied())?;
-    let differs = asked.iter().zip(&answers).find(|(request, answer)| !has_changed(request, answer));
+    let differs = asked.iter().zip(&answers).find(|(request, answer)| !requests::has_changed(request, answer));
     differs.map_or(Ok(()), |(request, answer)| Err(unexpected(request, answer)))
 }
 

@@ -1,0 +1,120 @@
+//! The birth of a node: a number that no earlier life of it had. It is lost together with the node's files, and never changes while they
+//! are there.
+
+use super::errors::StoreError;
+use super::folder::sync;
+use crate::crc32c::crc32c;
+use std::fs::{self, File, OpenOptions};
+use std::io::{ErrorKind, Read, Write};
+use std::path::Path;
+
+const MAGIC: &[u8; 8] = b"yc birth";
+const LENGTH: usize = 20;
+
+/// The birth that a folder has, or a new one for a folder that has no files of a store, which is made where it is missing.
+///
+/// Errors: `Io`; `Missing` where the folder has a log or a snapshot and no birth; `Damaged`.
+pub fn birth(folder: &Path) -> Result<u64, StoreError> {
+    let path = folder.join("birth");
+    match File::open(&path) {
+        Ok(file) => read(file, &path),
+        Err(error) if error.kind() == ErrorKind::NotFound => {
+            draw(folder, &path)?;
+            // Another process may have been first.
+            read(File::open(&path).map_err(StoreError::io(&path))?, &path)
+        }
+        Err(error) => Err(StoreError::io(&path)(error)),
+    }
+}
+
+fn read(file: File, path: &Path) -> Result<u64, StoreError> {
+    let mut bytes = Vec::new();
+    file.take(LENGTH as u64 + 1).read_to_end(&mut bytes).map_err(StoreError::io(path))?;
+    let number = bytes.get(8..16).and_then(|bytes| bytes.try_into().ok()).map(u64::from_be_bytes);
+    match number {
+        Some(birth) if encoded(birth) == bytes => Ok(birth),
+        _ => Err(StoreError::Damaged { path: path.to_path_buf(), offset: 0 }),
+    }
+}
+
+fn encoded(birth: u64) -> Vec<u8> {
+    let mut bytes = [&MAGIC[..], &birth.to_be_bytes()].concat();
+    bytes.extend_from_slice(&crc32c(&[&bytes]).to_be_bytes());
+    bytes
+}
+
+/// Writes a birth that nobody had, all of it or nothing.
+fn draw(folder: &Path, path: &Path) -> Result<(), StoreError> {
+    match fs::create_dir(folder) {
+        Ok(()) => sync(folder.parent().filter(|parent| !parent.as_os_str().is_empty()).unwrap_or(Path::new(".")))?,
+        Err(error) if error.kind() == ErrorKind::AlreadyExists => refuse_files(folder, path)?,
+        Err(error) => return Err(StoreError::io(folder)(error)),
+    }
+    let birth = random().map_err(StoreError::io(Path::new(RANDOM)))?;
+    let draft = folder.join(format!("birth.{}.draft", std::process::id()));
+    let mut file = OpenOptions::new().create(true).truncate(true).write(true).open(&draft).map_err(StoreError::io(&draft))?;
+    file.write_all(&encoded(birth)).and_then(|()| file.sync_all()).map_err(StoreError::io(&draft))?;
+    let linked = fs::hard_link(&draft, path);
+    fs::remove_file(&draft).map_err(StoreError::io(&draft))?;
+    match linked {
+        Err(error) if error.kind() != ErrorKind::AlreadyExists => Err(StoreError::io(path)(error)),
+        _ => sync(folder),
+    }
+}
+
+/// A folder whose node has lived must have its birth.
+fn refuse_files(folder: &Path, path: &Path) -> Result<(), StoreError> {
+    for entry in fs::read_dir(folder).map_err(StoreError::io(folder))? {
+        let name = entry.map_err(StoreError::io(folder))?.file_name();
+        if name.to_str().is_some_and(|name| name.starts_with("log.") || name.starts_with("snapshot.")) {
+            return Err(StoreError::Missing { path: path.to_path_buf() });
+        }
+    }
+    Ok(())
+}
+
+const RANDOM: &str = "/dev/urandom";
+
+fn random() -> std::io::Result<u64> {
+    let mut bytes = [0; 8];
+    File::open(RANDOM)?.read_exact(&mut bytes)?;
+    Ok(u64::from_be_bytes(bytes))
+}
+
+#[cfg(test)]
+mod tests {
+    use super::super::log::tests::Place;
+    use super::*;
+
+    #[test]
+    fn a_birth_stays_with_its_folder() {
+        let place = Place::new("birth");
+        let first = birth(place.path()).unwrap();
+        assert_eq!(birth(place.path()).unwrap(), first);
+        fs::remove_dir_all(place.path()).unwrap();
+        assert_ne!(birth(place.path()).unwrap(), first);
+        let mut names: Vec<_> = fs::read_dir(place.path()).unwrap().map(|it| it.unwrap().file_name()).collect();
+        names.sort();
+        assert_eq!(names, ["birth"]);
+    }
+
+    #[test]
+    fn no_birth_is_made_up_beside_files() {
+        let place = Place::new("lived");
+        birth(place.path()).unwrap();
+        let path = place.path().join("birth");
+        let whole = fs::read(&path).unwrap();
+        for at in 0..LENGTH {
+            let mut bytes = whole.clone();
+            bytes[at] ^= 1;
+            fs::write(&path, bytes).unwrap();
+            assert!(matches!(birth(place.path()), Err(StoreError::Damaged { .. })));
+        }
+        fs::write(&path, &whole[..7]).unwrap();
+        assert!(matches!(birth(place.path()), Err(StoreError::Damaged { .. })));
+        fs::remove_file(&path).unwrap();
+        fs::write(place.path().join("log.0"), "").unwrap();
+        assert!(matches!(birth(place.path()), Err(StoreError::Missing { .. })));
+        assert!(!path.exists());
+    }
+}
