@@ -1,5 +1,6 @@
 //! Why a call was not carried out.
 
+use crate::engines::Declined;
 use std::fmt;
 
 /// What a fact, or a delta, is refused for. None of it comes over a sound log.
@@ -131,6 +132,8 @@ pub enum Error {
     NotAllowed,
     /// The node has as many connections as it takes, or it is about to end.
     Busy,
+    /// The node serves another engine, or none, or is not to be admitted.
+    Declined(Declined),
     /// An answer that this package does not know.
     Strange(Vec<u8>),
 }
@@ -179,6 +182,7 @@ impl fmt::Display for Error {
             Error::DiskFull => f.write_str("the node's disk is full"),
             Error::NotAllowed => f.write_str("the node does not do this for a client"),
             Error::Busy => f.write_str("the node is busy"),
+            Error::Declined(why) => write!(f, "not done for this engine: {why:?}"),
             Error::Strange(answer) => write!(f, "an unknown answer: {}", String::from_utf8_lossy(answer)),
         }
     }
