@@ -184,12 +184,20 @@ pub fn headed(answer: &[u8], name: Name) -> Result<&[u8], Error> {
 /// Whether the answer says that the node has accepted the truncation of this epoch from this engine.
 pub fn proposed(answer: &[u8], name: Name, epoch: u16) -> Result<(), Error> {
     let wanted = format!("accepted {} {} {epoch}", name.generation, name.birth);
-    if answer == wanted.as_bytes() { Ok(()) } else { Err(error_of(answer)) }
+    if answer == wanted.as_bytes() {
+        Ok(())
+    } else {
+        Err(error_of(answer))
+    }
 }
 
 pub fn admitted(answer: &[u8], name: Name) -> Result<(), Error> {
     let wanted = format!("admitted {} {}", name.generation, name.birth);
-    if answer == wanted.as_bytes() { Ok(()) } else { Err(error_of(answer)) }
+    if answer == wanted.as_bytes() {
+        Ok(())
+    } else {
+        Err(error_of(answer))
+    }
 }
 
 // ---- Calls
@@ -275,11 +283,16 @@ mod tests {
             assert_eq!(headed(answer, NAME), Err(Error::Declined(declined)));
             assert_eq!(fenced(answer), Err(Error::Declined(declined)));
         }
-        for answer in [&b"status 1 2 2 4 5 6"[..], b"status 1 2 1 4 5", b"status 1 2 1 70000 5 6", b"status 1 2 1 4 5 6 7", b"stale", b"stale 1 2"] {
+        for answer in
+            [&b"status 1 2 2 4 5 6"[..], b"status 1 2 1 4 5", b"status 1 2 1 70000 5 6", b"status 1 2 1 4 5 6 7", b"stale", b"stale 1 2"]
+        {
             assert_eq!(membership(answer), Err(Error::Strange(answer.to_vec())));
         }
         assert_eq!(headed(b"as 4 1 front 0 0 0", NAME), Err(Error::Strange(b"as 4 1 front 0 0 0".to_vec())));
         assert_eq!(headed(b"memory", NAME), Err(Error::Memory));
-        assert_eq!(proposed(b"accepted 3 18446744073709551615 2", NAME, 1), Err(Error::Strange(b"accepted 3 18446744073709551615 2".to_vec())));
+        assert_eq!(
+            proposed(b"accepted 3 18446744073709551615 2", NAME, 1),
+            Err(Error::Strange(b"accepted 3 18446744073709551615 2".to_vec()))
+        );
     }
 }

@@ -23,7 +23,6 @@ pub mod engines;
 mod errors;
 mod facts;
 pub mod frames;
-mod guard;
 pub mod requests;
 mod stream;
 
@@ -34,5 +33,4 @@ pub use connection::{Connection, Limits};
 pub use engines::{Accepted, Admission, Declined, EngineCalls, Fenced, Membership, Name};
 pub use errors::{Error, ReadFault, Refused, SnapshotFault, StagingFault, Status, Uncovered, WireFault};
 pub use facts::{Advance, Fact, Patch, Record, Shape, Truncation, MOST_NUMBER, PAGE_LEN};
-pub use guard::{AcceptedCut, NodeStatus};
 pub use stream::Stream;

@@ -10,7 +10,7 @@ use std::sync::mpsc::{sync_channel, Receiver, RecvTimeoutError, SyncSender};
 use std::sync::Arc;
 use std::time::{Duration, Instant};
 use yieldcleat::{Store, StoreError};
-use yieldcleat_client::{answers, Front, NodeStatus};
+use yieldcleat_client::{answers, engines};
 
 /// The most requests of one batch, and the bytes of requests after which it takes no more.
 const MOST: usize = 4096;
@@ -165,17 +165,16 @@ impl Engine {
 
     /// Publishes how far the segment is, if all of that is on the disk.
     fn look(&mut self) -> Result<(), StoreError> {
-        let answered = self.store.answer(&[&b"status"[..], b"state"]);
+        let answered = self.store.answer(&[engines::STATUS, b"state"]);
         self.note_room(&answered, 0);
         let told = match answered {
             Ok(told) => told,
             Err(StoreError::Full { .. }) => return Ok(()),
             Err(error) => return Err(error),
         };
-        let (status, state) = (told.first().and_then(|it| NodeStatus::read(it)), told.get(1).map(|it| answers::state(it)));
-        if let (Some(status), Some(Ok(state))) = (status, state) {
-            let front = Front { epoch: status.epoch, complete: status.complete, min: status.min };
-            self.metrics.see(Seen { status, front, state, activity: self.store.activity() });
+        let (membership, state) = (told.first().map(|it| engines::membership(it)), told.get(1).map(|it| answers::state(it)));
+        if let (Some(Ok(membership)), Some(Ok(state))) = (membership, state) {
+            self.metrics.see(Seen { membership, state, activity: self.store.activity() });
         }
         Ok(())
     }

@@ -7,13 +7,12 @@ use std::sync::atomic::{AtomicBool, AtomicU64, Ordering::Relaxed};
 use std::sync::{Mutex, MutexGuard, PoisonError};
 use std::time::Instant;
 use yieldcleat::Activity;
-use yieldcleat_client::{Front, NodeStatus, State};
+use yieldcleat_client::{Front, Membership, State};
 
 /// What the segment last told, when all of it was on the disk.
 #[derive(Debug, Clone, Copy)]
 pub struct Seen {
-    pub status: NodeStatus,
-    pub front: Front,
+    pub membership: Membership,
     pub state: State,
     pub activity: Activity,
 }
@@ -118,7 +117,7 @@ impl Metrics {
     }
 
     fn write_peers(&self, text: &mut String) {
-        let own = lock(&self.seen).map(|seen| seen.front);
+        let own = lock(&self.seen).map(|seen| seen.membership.front);
         for (name, kind, help) in PEER_METRICS {
             let _ = writeln!(text, "# HELP yieldcleat_peer_{name} {help}\n# TYPE yieldcleat_peer_{name} {kind}");
             for peer in lock(&self.peers).iter() {
@@ -143,7 +142,7 @@ impl Metrics {
         if let Some(mean) = self.flushes.mean() {
             let _ = writeln!(text, "{} flushes of {:.3} ms each", self.flushes.count(), mean.as_secs_f64() * 1e3);
         }
-        let own = lock(&self.seen).map(|seen| seen.front);
+        let own = lock(&self.seen).map(|seen| seen.membership.front);
         for peer in lock(&self.peers).iter() {
             write_peer(&mut text, peer, own);
         }
@@ -184,14 +183,15 @@ fn metric(text: &mut String, name: &str, kind: &str, help: &str, value: u64) {
 }
 
 fn write_seen(text: &mut String, seen: &Seen) {
-    let Seen { status, front, state, activity } = seen;
+    let Seen { membership, state, activity } = seen;
+    let front = membership.front;
     let gauges = [
         ("front_epoch", "Complete epoch, all of it on the disk.", front.epoch.into()),
         ("front_complete", "Complete point, all of it on the disk.", front.complete),
         ("front_min", "Minimum read point.", front.min),
-        ("guard_generation", "Generation of the engine that the node answers; 0 before it is a member.", status.generation),
-        ("guard_member", "1 where the node is a member of a volume.", status.is_member.into()),
-        ("guard_accepted_epoch", "Epoch of the truncation that the node accepted last; 0 before the first.", accepted_epoch(status)),
+        ("guard_generation", "Generation of the engine that the node answers; 0 before it is a member.", membership.generation),
+        ("guard_member", "1 where the node is a member of a volume.", membership.is_member.into()),
+        ("guard_accepted_epoch", "Epoch of the truncation that the node accepted last; 0 before the first.", accepted_epoch(membership)),
         ("anchor", "Point up to which pages may be folded.", state.anchor),
         ("records_held", "Records the segment holds.", state.held),
         ("records_kept", "Records it keeps in its summary.", state.kept),
@@ -206,15 +206,16 @@ fn write_seen(text: &mut String, seen: &Seen) {
     metric(text, "snapshots_total", "counter", "Snapshots that took the place of a log.", activity.snapshots);
 }
 
-fn accepted_epoch(status: &NodeStatus) -> u64 {
-    status.accepted.map_or(0, |accepted| accepted.epoch.into())
+fn accepted_epoch(membership: &Membership) -> u64 {
+    membership.accepted.map_or(0, |accepted| accepted.cut.epoch.into())
 }
 
 fn write_report(text: &mut String, seen: &Seen) {
-    let Seen { status, front, state, activity } = seen;
-    let _ = match status.is_member {
-        true => writeln!(text, "guard: a member, of generation {}; birth {}", status.generation, status.birth),
-        false => writeln!(text, "guard: no member; birth {}", status.birth),
+    let Seen { membership, state, activity } = seen;
+    let Membership { generation, birth, is_member, front, .. } = membership;
+    let _ = match is_member {
+        true => writeln!(text, "guard: a member, of generation {generation}; birth {birth}"),
+        false => writeln!(text, "guard: no member; birth {birth}"),
     };
     let _ = writeln!(text, "front: epoch {}, complete {}, minimum read point {}", front.epoch, front.complete, front.min);
     let _ = writeln!(text, "holds {} records and {} pages; folded up to {}", state.held, state.images, state.anchor);
@@ -235,6 +236,7 @@ fn write_peer(text: &mut String, peer: &Peer, own: Option<Front>) {
 #[cfg(test)]
 mod tests {
     use super::*;
+    use yieldcleat_client::engines;
 
     #[test]
     fn peers_of_another_epoch_have_no_lag() {
@@ -242,8 +244,8 @@ mod tests {
         let front = Front { epoch: 1, complete: 5, min: 0 };
         let state =
             yieldcleat_client::answers::state(b"state epoch 1 complete 5 min 0 anchor 0 base 0 held 5 kept 5 images 0 cuts 1 waits 0");
-        let status = NodeStatus::read(b"status 3 7 1 1 5 0 3 1 0 0").unwrap();
-        metrics.see(Seen { status, front, state: state.unwrap(), activity: Activity::default() });
+        let membership = engines::membership(b"status 3 7 1 1 5 0 3 1 0 0").unwrap();
+        metrics.see(Seen { membership, state: state.unwrap(), activity: Activity::default() });
         assert!(
             metrics.text().contains("yieldcleat_guard_generation 3\n") && metrics.text().contains("yieldcleat_guard_accepted_epoch 1\n")
         );

@@ -8,7 +8,7 @@ use std::sync::atomic::{AtomicU64, AtomicUsize, Ordering};
 use std::sync::{Mutex, PoisonError};
 use std::thread;
 use std::time::Instant;
-use yieldcleat_client::{answers, NodeStatus, PAGE_LEN};
+use yieldcleat_client::{answers, engines, Membership, PAGE_LEN};
 
 /// What one node shows of itself: a member's generation and front, and page 0 at its complete point.
 #[derive(Debug, Clone, PartialEq, Eq)]
@@ -18,9 +18,9 @@ struct Shown {
 }
 
 /// What each node says of itself; nothing for one that does not answer.
-pub fn statuses(options: &Options) -> Vec<Option<NodeStatus>> {
+pub fn statuses(options: &Options) -> Vec<Option<Membership>> {
     let readers = Readers::new(options);
-    (0..options.nodes.len()).map(|node| NodeStatus::read(&readers.ask(node, b"status")?)).collect()
+    (0..options.nodes.len()).map(|node| engines::membership(&readers.ask(node, engines::STATUS)?).ok()).collect()
 }
 
 /// The newest durable commit point that these nodes prove, with its epoch: among those of the newest epoch the `quorum`-th greatest.
@@ -83,18 +83,18 @@ impl Reader {
         self.answering.load(Ordering::Relaxed)
     }
 
-    fn status(&self, node: usize) -> Option<NodeStatus> {
-        let status = NodeStatus::read(&self.readers.ask(node, b"status")?)?;
+    fn status(&self, node: usize) -> Option<Membership> {
+        let status = engines::membership(&self.readers.ask(node, engines::STATUS)?).ok()?;
         self.generation.fetch_max(status.generation, Ordering::Relaxed);
         Some(status)
     }
 
     /// What a node counts for. It counts where it is a member, and page 0 was written last in its epoch by the engine that fenced it.
-    fn show(&self, node: usize, status: &NodeStatus) -> Option<Shown> {
-        let page = self.readers.ask(node, format!("read 0 {} 0 {PAGE_LEN}", status.complete).as_bytes())?;
+    fn show(&self, node: usize, status: &Membership) -> Option<Shown> {
+        let page = self.readers.ask(node, format!("read 0 {} 0 {PAGE_LEN}", status.front.complete).as_bytes())?;
         let page = PageZero::read(&answers::bytes(&page, "page ").ok()?)?;
-        let counts = status.is_member && page.epoch == status.epoch && page.generation == status.generation;
-        counts.then_some(Shown { epoch: status.epoch, commit_point: page.commit_point })
+        let counts = status.is_member && page.epoch == status.front.epoch && page.generation == status.generation;
+        counts.then_some(Shown { epoch: status.front.epoch, commit_point: page.commit_point })
     }
 
     /// Page 0 at a point.

@@ -12,7 +12,7 @@ use std::sync::mpsc::{self, Sender};
 use std::sync::Arc;
 use std::thread::{self, JoinHandle};
 use std::time::{Duration, Instant};
-use yieldcleat_client::{NodeStatus, Patch, PAGE_LEN};
+use yieldcleat_client::{engines, Patch, PAGE_LEN};
 
 /// The last bytes of each page, which are the volume's own.
 const RESERVED: usize = 8;
@@ -139,8 +139,8 @@ impl Volume {
 
     /// One above the greatest generation that a node shows.
     fn next_generation(&self) -> u64 {
-        let answers = self.readers.ask_all(b"status");
-        answers.iter().filter_map(|answer| Some(NodeStatus::read(answer)?.generation)).max().unwrap_or(0).saturating_add(1)
+        let answers = self.readers.ask_all(engines::STATUS);
+        answers.iter().filter_map(|answer| Some(engines::membership(answer).ok()?.generation)).max().unwrap_or(0).saturating_add(1)
     }
 
     /// Sends a call to the driver, and waits for its result; nothing where it does not come before the deadline.

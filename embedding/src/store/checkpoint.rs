@@ -6,11 +6,11 @@
 use super::errors::StoreError;
 use super::folder::{Draft, Whole};
 use super::log::Log;
-use super::{framed, unexpected, Progress};
+use super::{framed, Progress};
 use crate::Node;
 use std::io;
 use std::thread::{self, JoinHandle};
-use yieldcleat_client::{requests, Calls, NodeStatus};
+use yieldcleat_client::{engines, requests, Admission, Calls, EngineCalls, Membership, Name};
 
 /// What a node has frozen: so many pieces, and the requests after them.
 pub struct Frozen {
@@ -21,11 +21,11 @@ pub struct Frozen {
 impl Frozen {
     /// Freezes a node's segment, and notes what its guard is.
     pub fn of(node: &mut Node, name: u64) -> Result<Frozen, StoreError> {
-        let status = node.ask(b"status")?;
-        let status = NodeStatus::read(status).ok_or_else(|| unexpected(b"status", status))?;
+        let Membership { generation, birth, is_member, front, accepted } = node.membership()?;
         let total = node.freeze(name)?;
         // A node that is no member has a guard as each new one.
-        let admitted = status.is_member.then(|| status.admit());
+        let name = Name { generation, birth };
+        let admitted = is_member.then(|| engines::admit(&Admission { name, epoch: front.epoch, complete: front.complete, accepted }));
         Ok(Frozen { total, last: [requests::finish()].into_iter().chain(admitted).collect() })
     }
 
