@@ -1,0 +1,50 @@
+-- What an engine knows while it opens a volume, from answers that were given before.
+use Rattle.std.specs.Prelude.{◌≡◌, ℕ, ◌<◌, ◌≤◌, Option, IsTrue}
+use Rattle.std.specs.List.{Contains}
+use Rattle.redo_core.specs.Data.{CutData}
+use Rattle.volume_theorems.specs.Quorums.{size_below}
+use Rattle.volume_theorems.specs.Nodes.{Content, Vote, VoteUpTo, GrowsTo}
+use Rattle.volume_theorems.specs.Runs.{VolumeRun, Makes, IsOneBirth, Many}
+use Rattle.volume_theorems.specs.Runs.Move.{IsFenced, ShowsContent, ReportsFront, Accepts}
+
+-- the node is one of the engine's quorum
+abbrev pub IsAmong : VolumeRun → ℕ → ℕ → Type 0
+IsAmong run e i = IsTrue ((run.engines e).quorum i)
+
+-- a quorum has answered `fenced` before the moment `gathered`
+pub record HasGathered (run : VolumeRun) (e : ℕ) : Type 0 where
+  pub many : run.quorum ≤ size_below run.roster (run.engines e).quorum
+  pub before : (i : ℕ) → IsAmong run e i → (run.engines e).fenced i < (run.engines e).gathered
+  pub fenced : (i : ℕ) → IsAmong run e i → Makes run ((run.engines e).fenced i) i (IsFenced e)
+
+-- the node showed at the moment p what it has: it was asked after the engine had gathered its quorum, and is in the birth that was fenced
+pub record HasShown (run : VolumeRun) (e i p : ℕ) : Type 0 where
+  pub after : (run.engines e).gathered ≤ p
+  pub shown : Makes run p i (ShowsContent e)
+  pub birth : IsOneBirth run i ((run.engines e).fenced i) p
+
+-- each node of the quorum has shown what it has, before the moment t
+pub record HasAsked (run : VolumeRun) (e t : ℕ) : Type 0 where
+  pub gathered : HasGathered run e
+  pub shown : (i : ℕ) → IsAmong run e i → (p : ℕ) × (p < t) × HasShown run e i p
+
+-- an engine has sent the truncation to be taken, before the moment t: a quorum has accepted it
+abbrev pub IsSent : VolumeRun → ℕ → CutData → Type 0
+IsSent run t c = (e : ℕ) × ((run.engines e).cuts c.epoch ≡ c) × Many run (λ i. (s : ℕ) × (s < t) × Makes run s i (Accepts e c.epoch))
+
+-- the union: it has what each node of the quorum has shown before the moment t, and no truncation that no engine has sent
+pub record IsUnion (run : VolumeRun) (e t : ℕ) (u : Content) : Type 0 where
+  pub gathered : HasGathered run e
+  pub of_all : (i : ℕ) → IsAmong run e i → (p : ℕ) × (p < t) × HasShown run e i p × GrowsTo (run.nodes p i).content u
+  pub sent : (c : CutData) → Contains u.cuts c → IsSent run t c
+
+-- a quorum has reported the union's epoch, and to have all commit points up to lo
+abbrev pub IsKnown : VolumeRun → ℕ → ℕ → Content → ℕ → Type 0
+IsKnown run e t u lo =
+    Many run (λ i. (s : ℕ) × (s < t) × Makes run s i (ReportsFront e)
+    × ((run.nodes s i).content.epoch ≡ u.epoch) × (lo ≤ (run.nodes s i).content.point))
+
+-- the greatest vote in the answers `fenced` of the quorum
+pub record IsBest (run : VolumeRun) (e : ℕ) (best : Option Vote) : Type 0 where
+  pub of_one : (i : ℕ) × IsAmong run e i × (best ≡ (run.nodes ((run.engines e).fenced i) i).accepted)
+  pub above : (i : ℕ) → IsAmong run e i → VoteUpTo (run.nodes ((run.engines e).fenced i) i).accepted best

@@ -1,0 +1,50 @@
+-- When an engine proposes a truncation, and when it admits a node.
+use Rattle.std.specs.Prelude.{◌≡◌, ℕ, suc, ◌<◌, ◌≤◌, ◌⊎◌, Option, Some, None}
+use Rattle.redo_core.specs.Data.{CutData}
+use Rattle.volume_theorems.specs.Nodes.{Content, Vote}
+use Rattle.volume_theorems.specs.Runs.{VolumeRun, Makes}
+use Rattle.volume_theorems.specs.Runs.Move.{AnswersFresh}
+use Rattle.volume_theorems.specs.Opening.{IsUnion, IsKnown, IsBest}
+
+-- the vote is for the truncation
+abbrev pub IsVoteFor : Option Vote → CutData → Type 0
+IsVoteFor None c = ⊥
+IsVoteFor (Some vote) c = vote.cut ≡ c
+
+-- the vote is for a truncation of the epoch
+abbrev pub IsOfEpoch : Option Vote → ℕ → Type 0
+IsOfEpoch None epoch = ⊥
+IsOfEpoch (Some vote) epoch = vote.cut.epoch ≡ epoch
+
+-- the engine proposes the truncation that is pending
+pub record Adopts (run : VolumeRun) (e k : ℕ) (best : Option Vote) : Type 0 where
+  pub below : k < (run.engines e).opens
+  pub pending : IsVoteFor best ((run.engines e).cuts k)
+
+-- where none is pending it makes one: lo is the last commit point of the union
+pub record MakesOwn (run : VolumeRun) (e k : ℕ) (u : Content) (best : Option Vote) : Type 0 where
+  pub opens : k ≡ (run.engines e).opens
+  pub free : ¬ (IsOfEpoch best k)
+  pub lo : ((run.engines e).cuts k).lo ≡ u.point
+  pub hi : ((run.engines e).cuts k).lo ≤ ((run.engines e).cuts k).hi
+
+-- the engine proposes its truncation of epoch k before the moment t
+pub record MayPropose (run : VolumeRun) (e k t : ℕ) : Type 0 where
+  pub union : Content
+  pub unites : IsUnion run e t union
+  pub next : k ≡ suc union.epoch
+  pub of_epoch : ((run.engines e).cuts k).epoch ≡ k
+  pub known : IsKnown run e t union ((run.engines e).cuts k).lo
+  pub best : Option Vote
+  pub greatest : IsBest run e best
+  pub choice : Adopts run e k best ⊎ MakesOwn run e k union best
+
+-- the engine admits node i, in the birth that it is in at the moment t, to the vote: it heard that birth before it had gathered its quorum,
+-- and the node has come as far as the union
+pub record MayAdmit (run : VolumeRun) (e i t : ℕ) (vote : Option Vote) : Type 0 where
+  pub union : Content
+  pub unites : IsUnion run e t union
+  pub heard : (s : ℕ) × (s < (run.engines e).gathered) × Makes run s i (AnswersFresh e) × ((run.nodes s i).birth ≡ (run.nodes t i).birth)
+  pub epoch : (run.nodes t i).content.epoch ≡ union.epoch
+  pub point : union.point ≤ (run.nodes t i).content.point
+  pub greatest : IsBest run e vote

