@@ -4,3 +4,7 @@ pub mod Births
 pub mod Guards
 pub mod Lives
 pub mod Standing
+pub mod Entering
+pub mod Seeing
+pub mod Proposing
+pub mod Choosing

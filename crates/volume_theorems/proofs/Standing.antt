@@ -60,7 +60,7 @@ held_when_gathered run e t i is asked among =
 abbrev pub AllStand : VolumeRun → ℕ → Type 0
 AllStand run t = (e s i : ℕ) → HasAsked run e s → IsAmong run e i → (run.engines e).gathered ≤ t → IsNotBelow (run.nodes t i) (run.engines e).generation
 
--- an engine that has gathered its quorum later is of no lower generation
+-- an engine that has gathered its quorum later is of no lower generation, if all stand at that moment
 higher_since : (run : VolumeRun) (e f s t : ℕ) → FollowsProtocol run → HasAsked run e s → HasAsked run f t
     → (run.engines e).gathered ≤ (run.engines f).gathered → AllStand run (run.engines f).gathered
     → (run.engines e).generation ≤ (run.engines f).generation
@@ -168,6 +168,11 @@ all_stand run is = by_time (AllStand run) (λ t earlier e s i asked among upto. 
     (λ (now : (run.engines e).gathered ≡ t). stands_now run e s i t is asked among now)
     (λ (before : (run.engines e).gathered < t). stands_next run t is earlier e s i asked among before)
     (let which : ((run.engines e).gathered ≡ t) ⊎ ((run.engines e).gathered < t) = grind arith in which))
+
+-- an engine that has gathered its quorum later is of no lower generation
+pub rises_since : (run : VolumeRun) (e f s t : ℕ) → FollowsProtocol run → HasAsked run e s → HasAsked run f t
+    → (run.engines e).gathered ≤ (run.engines f).gathered → (run.engines e).generation ≤ (run.engines f).generation
+rises_since run e f s t is one other order = higher_since run e f s t is one other order (all_stand run is (run.engines f).gathered)
 
 pub quorums_stand : QuorumsStand
 quorums_stand run e t i is asked among =

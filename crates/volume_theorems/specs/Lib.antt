@@ -6,3 +6,5 @@ pub mod Proposing
 pub mod Protocol
 pub mod Lives
 pub mod Standing
+pub mod Seeing
+pub mod Choosing

@@ -6,13 +6,15 @@
 //! sent depends only on answers that were given before, which it may have heard at any time (`specs/Opening`, `specs/Proposing`). That
 //! stands for every order of messages, for loss, and for repetition.
 //!
-//! `one_birth`, `no_return`: what a node never takes back. `quorums_stand`, `one_of_generation`, `quorums_see`: what an engine may rely on
+//! `one_birth`, `no_return`: what a node never takes back. `quorums_stand`, `one_of_generation`, `votes_are_seen`, `epochs_are_seen`: what an engine may rely on
 //! once its quorum has answered. `one_truncation`, `only_chosen`, `one_writer`: agreement on the truncation of each epoch.
 //! `durable_lasts`, `lo_rises`: what was durable stays durable.
 #![tactic(auto)]
 
 ghost use Rattle.volume_theorems.specs.Lives.{OneBirth, NoReturn};
 ghost use Rattle.volume_theorems.specs.Standing.{QuorumsStand, OneOfGeneration};
+ghost use Rattle.volume_theorems.specs.Seeing.{VotesAreSeen, EpochsAreSeen};
+ghost use Rattle.volume_theorems.specs.Choosing.{OneTruncation, OnlyChosen, OneWriter};
 
 /// In one birth a member stays one, its generation does not fall, and its accepted truncation and its facts only rise.
 pub fn one_birth()
@@ -32,4 +34,29 @@ pub fn quorums_stand()
 /// Of the engines with one generation at most one asks its whole quorum.
 pub fn one_of_generation()
     ensures { OneOfGeneration }
+{}
+
+/// An engine finds a vote at or above what a quorum accepted under a lower generation.
+pub fn votes_are_seen()
+    ensures { VotesAreSeen }
+{}
+
+/// The union of an engine is of an epoch at or above what a quorum had under a lower generation.
+pub fn epochs_are_seen()
+    ensures { EpochsAreSeen }
+{}
+
+/// Two chosen truncations of one epoch are equal.
+pub fn one_truncation()
+    ensures { OneTruncation }
+{}
+
+/// No node takes a truncation that was not chosen.
+pub fn only_chosen()
+    ensures { OnlyChosen }
+{}
+
+/// At most one engine opens an epoch.
+pub fn one_writer()
+    ensures { OneWriter }
 {}
