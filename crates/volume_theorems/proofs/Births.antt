@@ -2,7 +2,7 @@
 use Rattle.std.proofs.Common.{◌≡◌, ◌≢◌, ℕ, zero, suc, ◌≤◌, ◌⊎◌, ⊎_elim, inl, inr, refl, sym, ap, subst, ◌∙◌, arith}
 use Rattle.volume_theorems.specs.Nodes.{VolumeNode}
 use Rattle.volume_theorems.specs.Runs.{VolumeRun, Move, Makes, IsOneBirth}
-use Rattle.volume_theorems.specs.Runs.Move.{Rests, ComesFresh, Learns, IsCreated, IsFenced, AnswersFresh, ShowsContent, ReportsFront, Accepts, IsAdmitted}
+use Rattle.volume_theorems.specs.Runs.Move.{Rests, ComesFresh, Learns, IsReplaced, IsCreated, IsFenced, Accepts, IsAdmitted}
 use Rattle.volume_theorems.specs.Protocol.{FollowsProtocol, IsReborn, Moves}
 use Rattle.volume_theorems.specs.Lives.{NoReturn}
 use Rattle.volume_theorems.proofs.Orders.{last_or_earlier}
@@ -37,11 +37,9 @@ birth_after : (run : VolumeRun) (t i : ℕ) (m : Move) (old new : VolumeNode) �
 birth_after run t i Rests old new says = same_birth run t i old new old says refl
 birth_after run t i ComesFresh old new says = inr says
 birth_after run t i Learns old new says = same_birth run t i old new _ says.same refl
+birth_after run t i IsReplaced old new says = same_birth run t i old new _ says.same refl
 birth_after run t i IsCreated old new says = same_birth run t i old new _ says.new_is refl
 birth_after run t i (IsFenced e) old new says = same_birth run t i old new _ says.new_is refl
-birth_after run t i (AnswersFresh e) old new says = same_birth run t i old new old says.1 refl
-birth_after run t i (ShowsContent e) old new says = same_birth run t i old new old says.same refl
-birth_after run t i (ReportsFront e) old new says = same_birth run t i old new old says.same refl
 birth_after run t i (Accepts e k) old new says = same_birth run t i old new _ says.new_is refl
 birth_after run t i (IsAdmitted e) old new says = same_birth run t i old new _ says.new_is refl
 

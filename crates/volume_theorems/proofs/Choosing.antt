@@ -1,13 +1,12 @@
 -- Agreement on the truncation of each epoch.
 use Rattle.std.proofs.Common.{◌≡◌, ℕ, suc, ◌<◌, ◌≤◌, ◌⊎◌, ⊎_elim, Option, Some, None, refl, sym, ◌∙◌, subst, ap, arith}
 use Rattle.redo_core.specs.Data.{CutData}
-use Rattle.volume_theorems.specs.Nodes.{Content, Vote, VolumeNode, VoteUpTo}
+use Rattle.volume_theorems.specs.Nodes.{Content, Vote, VolumeNode, IsOfGeneration, VoteUpTo}
 use Rattle.volume_theorems.specs.Runs.{VolumeRun, Makes, Many}
-use Rattle.volume_theorems.specs.Runs.Move.{ReportsFront, Accepts}
-use Rattle.volume_theorems.specs.Opening.{HasAsked, IsSent}
+use Rattle.volume_theorems.specs.Runs.Move.{Accepts}
+use Rattle.volume_theorems.specs.Opening.{HasAsked, WasUnder, IsSent}
 use Rattle.volume_theorems.specs.Proposing.{IsOfEpoch, Adopts, MakesOwn, MayPropose}
-use Rattle.volume_theorems.specs.Protocol.{FollowsProtocol, IsOfGeneration, IsReporting, IsVoting}
-use Rattle.volume_theorems.specs.Seeing.{WasUnder}
+use Rattle.volume_theorems.specs.Protocol.{FollowsProtocol, IsVoting}
 use Rattle.volume_theorems.specs.Choosing.{IsChosen, OneTruncation, OnlyChosen, HasOpened, OneWriter}
 use Rattle.volume_theorems.proofs.Quorums.{quorums_meet}
 use Rattle.volume_theorems.proofs.Orders.{by_time, vote_itself, IsVoteWithin}
@@ -49,8 +48,7 @@ vote_under run e k s i is makes =
       ap (λ (n : VolumeNode). n.generation) says.new_is ∙ says.under.1,
     ) in (
       suc s,
-      asked_later run e s (suc s) (omega arith) (proposer_asked run e k s says.proposed),
-      under,
+      record { asked = asked_later run e s (suc s) (omega arith) (proposer_asked run e k s says.proposed); under = under },
       subst (λ (v : Option Vote). VoteUpTo (Some (vote_for run e k)) v) (sym votes) (vote_itself (Some (vote_for run e k))),
     )
 
@@ -67,9 +65,8 @@ reported_under run e k t is p = (
   p.known.1,
   λ i among.
       let x = p.known.2 i among in
-      let says : IsReporting run x.0 e (run.nodes x.0 i) (run.nodes (suc x.0) i) = made run x.0 i (ReportsFront e) is x.2 in
       let at : (run.nodes x.0 i).content.epoch ≡ p.union.epoch = x.3 in
-      (x.0, says.asked, says.under, omega arith),
+      (x.0, x.2, omega arith),
 )
 
 -- an engine of a higher generation proposes no truncation of a lower epoch

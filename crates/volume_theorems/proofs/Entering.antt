@@ -2,7 +2,7 @@
 use Rattle.std.proofs.Common.{◌≡◌, ℕ, zero, suc, ◌<◌, ◌⊎◌, ⊎_elim, inl, inr, refl, sym, ◌∙◌, subst, ap, arith, IsTrue}
 use Rattle.volume_theorems.specs.Nodes.{VolumeNode}
 use Rattle.volume_theorems.specs.Runs.{VolumeRun, Move, Makes, IsOneBirth}
-use Rattle.volume_theorems.specs.Runs.Move.{Rests, ComesFresh, Learns, IsCreated, IsFenced, AnswersFresh, ShowsContent, ReportsFront, Accepts, IsAdmitted}
+use Rattle.volume_theorems.specs.Runs.Move.{Rests, ComesFresh, Learns, IsReplaced, IsCreated, IsFenced, Accepts, IsAdmitted}
 use Rattle.volume_theorems.specs.Protocol.{FollowsProtocol, IsReborn, Moves}
 use Rattle.volume_theorems.proofs.Births.{goes_on, next_birth}
 
@@ -30,11 +30,9 @@ member_before : (run : VolumeRun) (t i : ℕ) (m : Move) (old new : VolumeNode) 
 member_before run t i Rests old new says member = member_as old new old Rests says refl member
 member_before run t i ComesFresh old new says member = absurd (says.nothing.member member)
 member_before run t i Learns old new says member = member_as old new _ Learns says.same refl member
+member_before run t i IsReplaced old new says member = member_as old new _ IsReplaced says.same refl member
 member_before run t i IsCreated old new says member = inr tt
 member_before run t i (IsFenced e) old new says member = inl says.member
-member_before run t i (AnswersFresh e) old new says member = member_as old new old (AnswersFresh e) says.1 refl member
-member_before run t i (ShowsContent e) old new says member = inl says.under.0
-member_before run t i (ReportsFront e) old new says member = inl says.under.0
 member_before run t i (Accepts e k) old new says member = inl says.under.0
 member_before run t i (IsAdmitted e) old new says member = inr tt
 

@@ -2,7 +2,7 @@
 use Rattle.std.proofs.Common.{◌≡◌, ℕ, zero, suc, ◌<◌, ◌≤◌, ⊎_elim, Option, None, refl, sym, subst, arith, IsTrue, true}
 use Rattle.volume_theorems.specs.Nodes.{Content, Vote, VolumeNode, HasNothing, node_of, with_content, with_generation, with_vote}
 use Rattle.volume_theorems.specs.Runs.{VolumeRun, Move}
-use Rattle.volume_theorems.specs.Runs.Move.{Rests, ComesFresh, Learns, IsCreated, IsFenced, AnswersFresh, ShowsContent, ReportsFront, Accepts, IsAdmitted}
+use Rattle.volume_theorems.specs.Runs.Move.{Rests, ComesFresh, Learns, IsReplaced, IsCreated, IsFenced, Accepts, IsAdmitted}
 use Rattle.volume_theorems.specs.Opening.{IsAmong, HasGathered, HasAsked, IsUnion}
 use Rattle.volume_theorems.specs.Protocol.{FollowsProtocol, IsRaised, IsEntering, Moves}
 use Rattle.volume_theorems.proofs.Orders.{last_or_earlier, IsVoteWithin, within_higher}
@@ -77,6 +77,9 @@ guarded_after run t i ComesFresh new is all had says = nothing_guarded new says.
 guarded_after run t i Learns new is all had says =
     let left : IsGuarded (with_content (run.nodes t i) new.content) = record { outside = had.outside; within = had.within } in
     subst (λ (n : VolumeNode). IsGuarded n) (sym says.same) left
+guarded_after run t i IsReplaced new is all had says =
+    let left : IsGuarded (with_content (run.nodes t i) new.content) = record { outside = had.outside; within = had.within } in
+    subst (λ (n : VolumeNode). IsGuarded n) (sym says.same) left
 guarded_after run t i IsCreated new is all had says =
     let left : IsGuarded (node_of (run.nodes t i).birth true 1 None (run.nodes t i).content) =
     record { outside = λ no. absurd (no refl); within = tt } in
@@ -88,9 +91,6 @@ guarded_after run t i (IsFenced e) new is all had says =
       within = within_higher (run.nodes t i).accepted (run.nodes t i).generation (run.engines e).generation (omega arith) had.within;
     } in
     subst (λ (n : VolumeNode). IsGuarded n) (sym says.new_is) left
-guarded_after run t i (AnswersFresh e) new is all had says = as_before (run.nodes t i) new says.1 had
-guarded_after run t i (ShowsContent e) new is all had says = as_before (run.nodes t i) new says.same had
-guarded_after run t i (ReportsFront e) new is all had says = as_before (run.nodes t i) new says.same had
 guarded_after run t i (Accepts e k) new is all had says =
     let own : (run.nodes t i).generation ≡ (run.engines e).generation = says.under.1 in
     let upto : (run.engines e).generation ≤ (run.nodes t i).generation = omega arith in

@@ -8,3 +8,4 @@ pub mod Entering
 pub mod Seeing
 pub mod Proposing
 pub mod Choosing
+pub mod Lasting

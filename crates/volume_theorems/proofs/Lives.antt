@@ -4,7 +4,7 @@ use Rattle.std.proofs.lemmas.Grind.{common_steps}
 use Rattle.redo_core.specs.Data.{CutData}
 use Rattle.volume_theorems.specs.Nodes.{Vote, VolumeNode, VoteUpTo, node_of, with_content, with_generation, with_vote}
 use Rattle.volume_theorems.specs.Runs.{VolumeRun, Move, IsOneBirth}
-use Rattle.volume_theorems.specs.Runs.Move.{Rests, ComesFresh, Learns, IsCreated, IsFenced, AnswersFresh, ShowsContent, ReportsFront, Accepts, IsAdmitted}
+use Rattle.volume_theorems.specs.Runs.Move.{Rests, ComesFresh, Learns, IsReplaced, IsCreated, IsFenced, Accepts, IsAdmitted}
 use Rattle.volume_theorems.specs.Protocol.{FollowsProtocol, IsLaterVote, Moves}
 use Rattle.volume_theorems.specs.Lives.{IsLaterNode, OneBirth}
 use Rattle.volume_theorems.proofs.Orders.{last_or_earlier, IsVoteWithin, vote_itself, vote_then, none_upto, grows_itself, grows_then}
@@ -16,7 +16,7 @@ later_itself n = record {
   member = λ m. m;
   generation = λ m. omega arith;
   accepted = vote_itself n.accepted;
-  content = grows_itself n.content;
+  content = λ m. grows_itself n.content;
 }
 
 pub later_then : (a b c : VolumeNode) → IsLaterNode a b → IsLaterNode b c → IsLaterNode a c
@@ -24,7 +24,7 @@ later_then a b c one two = record {
   member = λ m. two.member (one.member m);
   generation = λ m. omega (arith, one.generation m, two.generation (one.member m));
   accepted = vote_then a.accepted b.accepted c.accepted one.accepted two.accepted;
-  content = grows_then a.content b.content c.content one.content two.content;
+  content = λ m. grows_then a.content b.content c.content (one.content m) (two.content (one.member m));
 }
 
 later_same : (old new : VolumeNode) → new ≡ old → IsLaterNode old new
@@ -46,7 +46,15 @@ kept_after run t i Learns new had says same =
       member = λ m. m;
       generation = λ m. omega arith;
       accepted = vote_itself (run.nodes t i).accepted;
-      content = says.grows;
+      content = λ m. says.grows;
+    } in
+    subst (λ (n : VolumeNode). IsLaterNode (run.nodes t i) n) (sym says.same) left
+kept_after run t i IsReplaced new had says same =
+    let left : IsLaterNode (run.nodes t i) (with_content (run.nodes t i) new.content) = record {
+      member = λ m. m;
+      generation = λ m. omega arith;
+      accepted = vote_itself (run.nodes t i).accepted;
+      content = λ m. absurd (says.out m);
     } in
     subst (λ (n : VolumeNode). IsLaterNode (run.nodes t i) n) (sym says.same) left
 kept_after run t i IsCreated new had says same =
@@ -54,7 +62,7 @@ kept_after run t i IsCreated new had says same =
       member = λ m. refl;
       generation = λ m. absurd (says.out m);
       accepted = none_upto (run.nodes t i).accepted None (had.outside says.out);
-      content = grows_itself (run.nodes t i).content;
+      content = λ m. grows_itself (run.nodes t i).content;
     } in
     subst (λ (n : VolumeNode). IsLaterNode (run.nodes t i) n) (sym says.new_is) left
 kept_after run t i (IsFenced e) new had says same =
@@ -63,12 +71,9 @@ kept_after run t i (IsFenced e) new had says same =
       member = λ m. m;
       generation = λ m. omega arith;
       accepted = vote_itself (run.nodes t i).accepted;
-      content = grows_itself (run.nodes t i).content;
+      content = λ m. grows_itself (run.nodes t i).content;
     } in
     subst (λ (n : VolumeNode). IsLaterNode (run.nodes t i) n) (sym says.new_is) left
-kept_after run t i (AnswersFresh e) new had says same = later_same (run.nodes t i) new says.1
-kept_after run t i (ShowsContent e) new had says same = later_same (run.nodes t i) new says.same
-kept_after run t i (ReportsFront e) new had says same = later_same (run.nodes t i) new says.same
 kept_after run t i (Accepts e k) new had says same =
     let cut : CutData = (run.engines e).cuts k in
     let within : IsVoteWithin (run.nodes t i).accepted (run.engines e).generation =
@@ -79,7 +84,7 @@ kept_after run t i (Accepts e k) new had says same =
       member = λ m. m;
       generation = λ m. omega arith;
       accepted = upto_proposed (run.nodes t i).accepted (run.engines e).generation cut within latest;
-      content = grows_itself (run.nodes t i).content;
+      content = λ m. grows_itself (run.nodes t i).content;
     } in
     subst (λ (n : VolumeNode). IsLaterNode (run.nodes t i) n) (sym says.new_is) left
 kept_after run t i (IsAdmitted e) new had says same =
@@ -87,7 +92,7 @@ kept_after run t i (IsAdmitted e) new had says same =
       member = λ m. refl;
       generation = λ m. absurd (says.out m);
       accepted = none_upto (run.nodes t i).accepted says.vote (had.outside says.out);
-      content = grows_itself (run.nodes t i).content;
+      content = λ m. grows_itself (run.nodes t i).content;
     } in
     subst (λ (n : VolumeNode). IsLaterNode (run.nodes t i) n) (sym says.new_is) left
 

@@ -44,7 +44,7 @@ within_higher (Some v) low high h within = omega arith
 
 -- ---- contents
 pub grows_itself : (a : Content) → GrowsTo a a
-grows_itself a = record { epoch = omega arith; cuts = λ c h. h; point = λ p h upto. h }
+grows_itself a = record { epoch = omega arith; cuts = λ c h. h; points = λ p h upto. h }
 
 pub grows_then : (a b c : Content) → GrowsTo a b → GrowsTo b c → GrowsTo a c
 grows_then a b c one two =
@@ -53,8 +53,8 @@ grows_then a b c one two =
     record {
       epoch = omega arith;
       cuts = λ x h. two.cuts x (one.cuts x h);
-      point = λ p h upto.
-          two.point p
-          (one.point p h (λ x inside above (within : x.epoch ≤ b.epoch). upto x (two.cuts x inside) above (omega arith)))
+      points = λ p h upto.
+          two.points p
+          (one.points p h (λ x inside above (within : x.epoch ≤ b.epoch). upto x (two.cuts x inside) above (omega arith)))
           (λ x inside (above : b.epoch < x.epoch) within. upto x inside (omega arith) within);
     }

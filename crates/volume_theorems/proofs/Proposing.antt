@@ -5,7 +5,7 @@ use Rattle.redo_core.specs.Data.{CutData}
 use Rattle.redo_core.proofs.Members.{none_in}
 use Rattle.volume_theorems.specs.Nodes.{Content, Vote, VolumeNode}
 use Rattle.volume_theorems.specs.Runs.{VolumeRun, Move}
-use Rattle.volume_theorems.specs.Runs.Move.{Rests, ComesFresh, Learns, IsCreated, IsFenced, AnswersFresh, ShowsContent, ReportsFront, Accepts, IsAdmitted}
+use Rattle.volume_theorems.specs.Runs.Move.{Rests, ComesFresh, Learns, IsReplaced, IsCreated, IsFenced, Accepts, IsAdmitted}
 use Rattle.volume_theorems.specs.Opening.{HasAsked, IsSent}
 use Rattle.volume_theorems.specs.Proposing.{MayPropose}
 use Rattle.volume_theorems.specs.Protocol.{FollowsProtocol, IsVoting, IsEntering, Moves}
@@ -79,12 +79,10 @@ proposed_after run t i Rests new all had says = vote_as run t (run.nodes t i) ne
 proposed_after run t i ComesFresh new all had says =
     subst (λ (v : Option Vote). IsFromProposal run (suc t) v) (sym says.nothing.accepted) tt
 proposed_after run t i Learns new all had says = vote_as run t (run.nodes t i) new (ap (λ (n : VolumeNode). n.accepted) says.same) had
+proposed_after run t i IsReplaced new all had says = vote_as run t (run.nodes t i) new (ap (λ (n : VolumeNode). n.accepted) says.same) had
 proposed_after run t i IsCreated new all had says =
     subst (λ (n : VolumeNode). IsFromProposal run (suc t) n.accepted) (sym says.new_is) tt
 proposed_after run t i (IsFenced e) new all had says = vote_as run t (run.nodes t i) new (ap (λ (n : VolumeNode). n.accepted) says.new_is) had
-proposed_after run t i (AnswersFresh e) new all had says = vote_as run t (run.nodes t i) new (ap (λ (n : VolumeNode). n.accepted) says.1) had
-proposed_after run t i (ShowsContent e) new all had says = vote_as run t (run.nodes t i) new (ap (λ (n : VolumeNode). n.accepted) says.same) had
-proposed_after run t i (ReportsFront e) new all had says = vote_as run t (run.nodes t i) new (ap (λ (n : VolumeNode). n.accepted) says.same) had
 proposed_after run t i (Accepts e k) new all had says = voted_proposed run t e k (run.nodes t i) new says
 proposed_after run t i (IsAdmitted e) new all had says = entered_proposed run t e i (run.nodes t i) new all says
 
@@ -124,11 +122,9 @@ sent_after run t i Learns old new c had says inside = ⊎_elim
     (λ (known : Contains old.content.cuts c). sent_later run t (suc t) c (omega arith) (had c known))
     (λ (sent : IsSent run t c). sent_later run t (suc t) c (omega arith) sent)
     (says.sent c inside)
+sent_after run t i IsReplaced old new c had says inside = sent_later run t (suc t) c (omega arith) (says.sent c inside)
 sent_after run t i IsCreated old new c had says inside = content_as run t old new c (ap (λ (n : VolumeNode). n.content) says.new_is) had inside
 sent_after run t i (IsFenced e) old new c had says inside = content_as run t old new c (ap (λ (n : VolumeNode). n.content) says.new_is) had inside
-sent_after run t i (AnswersFresh e) old new c had says inside = content_as run t old new c (ap (λ (n : VolumeNode). n.content) says.1) had inside
-sent_after run t i (ShowsContent e) old new c had says inside = content_as run t old new c (ap (λ (n : VolumeNode). n.content) says.same) had inside
-sent_after run t i (ReportsFront e) old new c had says inside = content_as run t old new c (ap (λ (n : VolumeNode). n.content) says.same) had inside
 sent_after run t i (Accepts e k) old new c had says inside = content_as run t old new c (ap (λ (n : VolumeNode). n.content) says.new_is) had inside
 sent_after run t i (IsAdmitted e) old new c had says inside = content_as run t old new c (ap (λ (n : VolumeNode). n.content) says.new_is) had inside
 

@@ -1,10 +1,10 @@
 -- What a quorum had under one generation is found by each engine of a higher one.
-use Rattle.std.proofs.Common.{◌≡◌, ◌≢◌, ℕ, suc, ◌<◌, ◌≤◌, ◌⊎◌, ⊎_elim, Option, Some, refl, sym, ◌∙◌, subst, ap, arith}
-use Rattle.volume_theorems.specs.Nodes.{Content, Vote, VolumeNode, VoteUpTo, GrowsTo}
+use Rattle.std.proofs.Common.{◌≡◌, ◌≢◌, ℕ, suc, ◌<◌, ◌≤◌, ◌⊎◌, ⊎_elim, Option, Some, refl, sym, ◌∙◌, subst, ap, arith, IsTrue}
+use Rattle.volume_theorems.specs.Nodes.{Content, Vote, VolumeNode, IsOfGeneration, VoteUpTo, GrowsTo}
 use Rattle.volume_theorems.specs.Runs.{VolumeRun, Move, Makes, IsOneBirth, Many}
-use Rattle.volume_theorems.specs.Runs.Move.{Rests, ComesFresh, Learns, IsCreated, IsFenced, AnswersFresh, ShowsContent, ReportsFront, Accepts, IsAdmitted}
-use Rattle.volume_theorems.specs.Opening.{IsAmong, HasGathered, HasAsked, IsUnion}
-use Rattle.volume_theorems.specs.Protocol.{FollowsProtocol, IsOfGeneration, IsFirstMember, IsEntering}
+use Rattle.volume_theorems.specs.Runs.Move.{Rests, ComesFresh, Learns, IsReplaced, IsCreated, IsFenced, Accepts, IsAdmitted}
+use Rattle.volume_theorems.specs.Opening.{IsAmong, HasGathered, HasAsked, AnswersUnder, IsUnion}
+use Rattle.volume_theorems.specs.Protocol.{FollowsProtocol, IsFirstMember, IsEntering}
 use Rattle.volume_theorems.specs.Lives.{IsLaterNode}
 use Rattle.volume_theorems.specs.Standing.{StandsFrom}
 use Rattle.volume_theorems.specs.Seeing.{VotesAreSeen, EpochsAreSeen}
@@ -16,15 +16,15 @@ use Rattle.volume_theorems.proofs.Lives.{one_birth, next_later, kept_in_birth}
 use Rattle.volume_theorems.proofs.Standing.{fence_leaves, quorums_stand, one_of_generation, rises_since}
 use Rattle.volume_theorems.proofs.Entering.{Enters, HasEntered, has_entered}
 
--- What a node has at a moment, it has as long as it is in that birth; and so has each node that is admitted by an engine which found it at
+-- What a member has at a moment, it has as long as it is in that birth; and so has each node that is admitted by an engine which found it at
 -- a node of its quorum, when that was fenced.
 pub record IsHandedOn (run : VolumeRun) (Has : ℕ → ℕ → Type 0) : Type 0 where
-  pub keeps : (t i : ℕ) → IsOneBirth run i t (suc t) → Has t i → Has (suc t) i
+  pub keeps : (t i : ℕ) → IsOneBirth run i t (suc t) → IsTrue (run.nodes t i).is_member → Has t i → Has (suc t) i
   pub passes : (t i e j : ℕ) → Makes run t i (IsAdmitted e) → IsAmong run e j → Has ((run.engines e).fenced j) j → Has (suc t) i
 
--- at some moment at which the engine had asked its whole quorum, the node was a member of the engine's generation, and had it
+-- at some moment at which the node answers what the engine asks under its generation, it had it
 abbrev pub HadUnder : VolumeRun → ℕ → (ℕ → ℕ → Type 0) → ℕ → Type 0
-HadUnder run e Has i = (t : ℕ) × HasAsked run e t × IsOfGeneration (run.nodes t i) (run.engines e).generation × Has t i
+HadUnder run e Has i = (t : ℕ) × AnswersUnder run e t i × Has t i
 
 -- the engine found it at a node of its quorum
 abbrev pub Finds : VolumeRun → ℕ → (ℕ → ℕ → Type 0) → Type 0
@@ -83,9 +83,11 @@ created_apart run e j x y a new is w same says =
     let zeroth : x < 0 = begun_later run e j x y 0 is w (sym says.birth ∙ same) in omega arith
 
 module _ (run : VolumeRun) (e : ℕ) (Has : ℕ → ℕ → Type 0) (is : FollowsProtocol run) (handed : IsHandedOn run Has) where
-  had_in_birth : (j s t : ℕ) → s ≤ t → IsOneBirth run j s t → Has s j → Has t j
-  had_in_birth j s t upto same had =
-      kept_in_birth run j s (λ (x : ℕ). Has x j) is had (λ (x : ℕ) after kept has. handed.keeps x j kept has) t upto same
+  had_in_birth : (j s t : ℕ) → s ≤ t → IsOneBirth run j s t → IsTrue (run.nodes s j).is_member → Has s j → Has t j
+  had_in_birth j s t upto same member had =
+      let both = kept_in_birth run j s (λ (x : ℕ). IsTrue (run.nodes x j).is_member × Has x j) is (member, had)
+      (λ (x : ℕ) after kept has. ((next_later run x j is kept).member has.0, handed.keeps x j kept has.0 has.1)) t upto same in
+      both.1
 
   had_since : (j x y a n : ℕ) (m : Move) → IsElsewhere run e j x y → ((s : ℕ) → s < n → AllFind run e Has s) → a < y → y < n
       → IsOneBirth run j a y → IsOneBirth run j (suc a) y → Makes run a j m → Enters m → Has y j
@@ -99,14 +101,12 @@ module _ (run : VolumeRun) (e : ℕ) (Has : ℕ → ℕ → Type 0) (is : Follow
       let one = says.admits.greatest.of_one in
       let early : (run.engines f).gathered < a = gathered_before run f a one.0 asked one.1 in
       let found : Finds run f Has = earlier (run.engines f).gathered (omega arith) f a refl asked higher in
-      had_in_birth j (suc a) y first since (handed.passes a j f found.0 makes found.1 found.2)
+      had_in_birth j (suc a) y first since (ap (λ (n : VolumeNode). n.is_member) says.new_is) (handed.passes a j f found.0 makes found.1 found.2)
   had_since j x y a n Rests w earlier first last same since makes enters = absurd enters
   had_since j x y a n ComesFresh w earlier first last same since makes enters = absurd enters
+  had_since j x y a n IsReplaced w earlier first last same since makes enters = absurd enters
   had_since j x y a n Learns w earlier first last same since makes enters = absurd enters
   had_since j x y a n (IsFenced f) w earlier first last same since makes enters = absurd enters
-  had_since j x y a n (AnswersFresh f) w earlier first last same since makes enters = absurd enters
-  had_since j x y a n (ShowsContent f) w earlier first last same since makes enters = absurd enters
-  had_since j x y a n (ReportsFront f) w earlier first last same since makes enters = absurd enters
   had_since j x y a n (Accepts f k) w earlier first last same since makes enters = absurd enters
 
   had_when_fenced : (f t j x n : ℕ) → ((s : ℕ) → s < n → AllFind run e Has s) → (run.engines f).gathered ≡ n → HasAsked run f t → IsAmong run f j
@@ -135,7 +135,7 @@ module _ (run : VolumeRun) (e : ℕ) (Has : ℕ → ℕ → Type 0) (is : Follow
       let upto : (run.nodes (suc y) j).generation ≤ (run.nodes x j).generation = later.generation left.under.0 in
       let at : (run.nodes (suc y) j).generation ≡ (run.engines f).generation = left.under.1 in absurd (omega arith))
       (let which : (x ≤ y) ⊎ (y < x) = grind arith in which) in
-      had_in_birth j x y order same had)
+      had_in_birth j x y order same under.0 had)
       (λ (apart : ¬ (IsOneBirth run j x y)).
       let order : x < y =
       ⊎_elim
@@ -151,7 +151,7 @@ module _ (run : VolumeRun) (e : ℕ) (Has : ℕ → ℕ → Type 0) (is : Follow
   all_find many = by_time (AllFind run e Has) (λ n earlier f t now asked higher.
       let met = quorums_meet run (HadUnder run e Has) (IsAmong run f) is many (own_quorum run f asked.gathered) in
       let had = met.1 in
-      (met.0, met.2, had_when_fenced f t met.0 had.0 n earlier now asked met.2 higher had.1 had.2 had.3))
+      (met.0, met.2, had_when_fenced f t met.0 had.0 n earlier now asked met.2 higher had.1.asked had.1.under had.2))
 
   -- What a quorum had under an engine, each engine of a higher generation finds.
   pub quorums_see : (f t : ℕ) → Many run (HadUnder run e Has) → HasAsked run f t → (run.engines e).generation < (run.engines f).generation
@@ -161,7 +161,7 @@ module _ (run : VolumeRun) (e : ℕ) (Has : ℕ → ℕ → Type 0) (is : Follow
 -- ---- votes
 votes_handed : (run : VolumeRun) (vote : Vote) → FollowsProtocol run → IsHandedOn run (λ s i. VoteUpTo (Some vote) (run.nodes s i).accepted)
 votes_handed run vote is = record {
-  keeps = λ t i same had.
+  keeps = λ t i same member had.
       vote_then (Some vote) (run.nodes t i).accepted (run.nodes (suc t) i).accepted had (next_later run t i is same).accepted;
   passes = λ t i e j makes among had.
       let says : IsEntering run t e i (run.nodes t i) (run.nodes (suc t) i) = made run t i (IsAdmitted e) is makes in
@@ -185,7 +185,7 @@ fenced_in_union run e t j u is union among =
     let after : (run.engines e).gathered ≤ of.0 = of.2.after in
     let later : IsLaterNode (run.nodes ((run.engines e).fenced j) j) (run.nodes of.0 j) =
     one_birth run j ((run.engines e).fenced j) of.0 is (omega arith) of.2.birth in
-    (of.0, of.1, of.3, later.content)
+    (of.0, of.1, of.3, later.content (raised run e j is union.gathered among).member)
 
 epoch_in_union : (run : VolumeRun) (e t j epoch : ℕ) (u : Content) → FollowsProtocol run → IsUnion run e t u → IsAmong run e j
     → epoch ≤ (run.nodes ((run.engines e).fenced j) j).content.epoch → epoch ≤ u.epoch
@@ -197,8 +197,8 @@ epoch_in_union run e t j epoch u is union among had =
 
 epochs_handed : (run : VolumeRun) (epoch : ℕ) → FollowsProtocol run → IsHandedOn run (λ s i. epoch ≤ (run.nodes s i).content.epoch)
 epochs_handed run epoch is = record {
-  keeps = λ t i same (had : epoch ≤ (run.nodes t i).content.epoch).
-      let more : (run.nodes t i).content.epoch ≤ (run.nodes (suc t) i).content.epoch = (next_later run t i is same).content.epoch in
+  keeps = λ t i same member (had : epoch ≤ (run.nodes t i).content.epoch).
+      let more : (run.nodes t i).content.epoch ≤ (run.nodes (suc t) i).content.epoch = ((next_later run t i is same).content member).epoch in
       omega arith;
   passes = λ t i e j makes among had.
       let says : IsEntering run t e i (run.nodes t i) (run.nodes (suc t) i) = made run t i (IsAdmitted e) is makes in

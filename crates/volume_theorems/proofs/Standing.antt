@@ -1,15 +1,15 @@
 -- What an engine that has asked its quorum may rely on.
 use Rattle.std.proofs.Common.{◌≡◌, ℕ, zero, suc, ◌<◌, ◌≤◌, ◌⊎◌, ⊎_elim, sym, ◌∙◌, subst, ap, arith, IsTrue}
-use Rattle.volume_theorems.specs.Nodes.{VolumeNode}
+use Rattle.volume_theorems.specs.Nodes.{VolumeNode, IsOfGeneration}
 use Rattle.volume_theorems.specs.Runs.{VolumeRun, Move, Makes, IsOneBirth}
-use Rattle.volume_theorems.specs.Runs.Move.{Rests, ComesFresh, Learns, IsCreated, IsFenced, AnswersFresh, ShowsContent, ReportsFront, Accepts, IsAdmitted}
+use Rattle.volume_theorems.specs.Runs.Move.{Rests, ComesFresh, Learns, IsReplaced, IsCreated, IsFenced, Accepts, IsAdmitted}
 use Rattle.volume_theorems.specs.Opening.{IsAmong, HasGathered, HasShown, HasAsked}
-use Rattle.volume_theorems.specs.Protocol.{FollowsProtocol, IsOfGeneration, IsRaised, Moves}
+use Rattle.volume_theorems.specs.Protocol.{FollowsProtocol, IsRaised, Moves}
 use Rattle.volume_theorems.specs.Lives.{IsLaterNode}
 use Rattle.volume_theorems.specs.Standing.{IsNotBelow, QuorumsStand, OneOfGeneration}
 use Rattle.volume_theorems.proofs.Quorums.{quorums_meet}
 use Rattle.volume_theorems.proofs.Orders.{by_time}
-use Rattle.volume_theorems.proofs.Births.{made, goes_on, no_return, between}
+use Rattle.volume_theorems.proofs.Births.{goes_on, no_return, between}
 use Rattle.volume_theorems.proofs.Guards.{asked_by_union, gathered_before, raised}
 use Rattle.volume_theorems.proofs.Lives.{one_birth}
 
@@ -41,12 +41,11 @@ held_until run e i p q is has among shown first last =
     let here : IsOneBirth run i f q = no_return run i f q p is (omega arith) last shown.birth in
     let from : IsLaterNode (run.nodes (suc f) i) (run.nodes q i) = one_birth run i (suc f) q is first (sym left.birth ∙ here) in
     let to : IsLaterNode (run.nodes q i) (run.nodes p i) = one_birth run i q p is last (sym here ∙ shown.birth) in
-    let showing = made run p i (ShowsContent e) is shown.shown in
     let member : IsTrue (run.nodes q i).is_member = from.member left.under.0 in
     let one : (run.nodes (suc f) i).generation ≤ (run.nodes q i).generation = from.generation left.under.0 in
     let two : (run.nodes q i).generation ≤ (run.nodes p i).generation = to.generation member in
     let start : (run.nodes (suc f) i).generation ≡ (run.engines e).generation = left.under.1 in
-    let end : (run.nodes p i).generation ≡ (run.engines e).generation = showing.under.1 in
+    let end : (run.nodes p i).generation ≡ (run.engines e).generation = shown.under.1 in
     record { under = (member, omega arith); birth = here }
 
 pub held_when_gathered : (run : VolumeRun) (e t i : ℕ) → FollowsProtocol run → HasAsked run e t → IsAmong run e i
@@ -120,15 +119,14 @@ stands_after run e i q Rests new is b had says = unchanged_stands (run.engines e
 stands_after run e i q ComesFresh new is b had says = λ m. absurd (says.nothing.member m)
 stands_after run e i q Learns new is b had says =
     subst (λ (n : VolumeNode). IsNotBelow n (run.engines e).generation) (sym says.same) had
+stands_after run e i q IsReplaced new is b had says =
+    subst (λ (n : VolumeNode). IsNotBelow n (run.engines e).generation) (sym says.same) had
 stands_after run e i q IsCreated new is b had says = created_stands run e i q new is b says
 stands_after run e i q (IsFenced f) new is b had says =
     let upto : (run.engines e).generation ≤ (run.nodes q i).generation = had says.member in
     let above : (run.nodes q i).generation < (run.engines f).generation = says.above in
     let own : new.generation ≡ (run.engines f).generation = ap (λ (n : VolumeNode). n.generation) says.new_is in
     λ m. omega arith
-stands_after run e i q (AnswersFresh f) new is b had says = unchanged_stands (run.engines e).generation (run.nodes q i) new says.1 had
-stands_after run e i q (ShowsContent f) new is b had says = unchanged_stands (run.engines e).generation (run.nodes q i) new says.same had
-stands_after run e i q (ReportsFront f) new is b had says = unchanged_stands (run.engines e).generation (run.nodes q i) new says.same had
 stands_after run e i q (Accepts f k) new is b had says =
     subst (λ (n : VolumeNode). IsNotBelow n (run.engines e).generation) (sym says.new_is) had
 stands_after run e i q (IsAdmitted f) new is b had says = entering_stands run e i q f new is b says

@@ -8,3 +8,4 @@ pub mod Lives
 pub mod Standing
 pub mod Seeing
 pub mod Choosing
+pub mod Lasting

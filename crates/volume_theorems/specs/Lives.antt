@@ -4,13 +4,13 @@ use Rattle.volume_theorems.specs.Nodes.{VolumeNode, VoteUpTo, GrowsTo}
 use Rattle.volume_theorems.specs.Runs.{VolumeRun, IsOneBirth}
 use Rattle.volume_theorems.specs.Protocol.{FollowsProtocol}
 
--- A member stays one, and its generation does not fall. The accepted truncation rises by generation and then by epoch, so of one generation
+-- A member stays one, its generation does not fall, and it loses no facts. The accepted truncation rises by generation and then by epoch, so of one generation
 -- by epoch.
 pub record IsLaterNode (old new : VolumeNode) : Type 0 where
   pub member : IsTrue old.is_member → IsTrue new.is_member
   pub generation : IsTrue old.is_member → old.generation ≤ new.generation
   pub accepted : VoteUpTo old.accepted new.accepted
-  pub content : GrowsTo old.content new.content
+  pub content : IsTrue old.is_member → GrowsTo old.content new.content
 
 abbrev pub OneBirth : Type 0
 OneBirth =

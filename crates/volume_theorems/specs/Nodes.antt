@@ -1,12 +1,13 @@
 -- A node of a volume: what its guard keeps, and what its segment has.
-use Rattle.std.specs.Prelude.{◌≡◌, ℕ, ◌<◌, ◌≤◌, ◌⊎◌, Bool, List, [], Option, Some, None, IsTrue}
+use Rattle.std.specs.Prelude.{◌≡◌, ℕ, ◌<◌, ◌≤◌, ◌⊎◌, Bool, List, [], ◌∷◌, Option, Some, None, IsTrue}
 use Rattle.std.specs.List.{Contains}
 use Rattle.redo_core.specs.Data.{CutData}
 
--- what a segment has: its complete epoch, the last commit point at or below its complete point, and its truncations
+-- What a segment has: its complete epoch, its commit points in the view of that epoch, at or below its complete point, and its truncations.
+-- The point 0, at which nothing has been committed yet, counts as a commit point of each.
 pub record Content : Type 0 where
   pub epoch : ℕ
-  pub point : ℕ
+  pub points : List ℕ
   pub cuts : List CutData
 
 -- a truncation that was accepted, and the generation that it was proposed under
@@ -27,8 +28,12 @@ pub record HasNothing (n : VolumeNode) : Type 0 where
   pub generation : n.generation ≡ 0
   pub accepted : n.accepted ≡ None
   pub epoch : n.content.epoch ≡ 0
-  pub point : n.content.point ≡ 0
+  pub points : n.content.points ≡ 0 ∷ []
   pub cuts : n.content.cuts ≡ []
+
+-- the node is a member of just this generation
+abbrev pub IsOfGeneration : VolumeNode → ℕ → Type 0
+IsOfGeneration n generation = IsTrue n.is_member × (n.generation ≡ generation)
 
 -- ---- orders
 -- The first vote is at or below the second one, by generation and then by epoch, or there is none.
@@ -39,12 +44,12 @@ VoteUpTo (Some before) (Some after) =
     (before.generation < after.generation)
     ⊎ ((before.generation ≡ after.generation) × (before.cut.epoch ≤ after.cut.epoch))
 
--- More facts of one log: the epoch does not fall, no truncation goes, and no commit point that no truncation since then annuls.
+-- More facts of one log: the epoch does not fall, no truncation goes, and no commit point but those that a truncation since then annuls.
 pub record GrowsTo (old new : Content) : Type 0 where
   pub epoch : old.epoch ≤ new.epoch
   pub cuts : (c : CutData) → Contains old.cuts c → Contains new.cuts c
-  pub point : (p : ℕ) → p ≤ old.point
-      → ((c : CutData) → Contains new.cuts c → old.epoch < c.epoch → c.epoch ≤ new.epoch → p ≤ c.lo) → p ≤ new.point
+  pub points : (p : ℕ) → Contains old.points p
+      → ((c : CutData) → Contains new.cuts c → old.epoch < c.epoch → c.epoch ≤ new.epoch → p ≤ c.lo) → Contains new.points p
 
 -- ---- what a move changes
 abbrev pub node_of : ℕ → Bool → ℕ → Option Vote → Content → VolumeNode

@@ -3,9 +3,9 @@ use Rattle.std.specs.Prelude.{◌≡◌, ℕ, ◌<◌, ◌≤◌, Option, IsTrue
 use Rattle.std.specs.List.{Contains}
 use Rattle.redo_core.specs.Data.{CutData}
 use Rattle.volume_theorems.specs.Quorums.{size_below}
-use Rattle.volume_theorems.specs.Nodes.{Content, Vote, VoteUpTo, GrowsTo}
+use Rattle.volume_theorems.specs.Nodes.{Content, Vote, VolumeNode, IsOfGeneration, VoteUpTo, GrowsTo}
 use Rattle.volume_theorems.specs.Runs.{VolumeRun, Makes, IsOneBirth, Many}
-use Rattle.volume_theorems.specs.Runs.Move.{IsFenced, ShowsContent, ReportsFront, Accepts}
+use Rattle.volume_theorems.specs.Runs.Move.{IsFenced, Accepts}
 
 -- the node is one of the engine's quorum
 abbrev pub IsAmong : VolumeRun → ℕ → ℕ → Type 0
@@ -17,16 +17,27 @@ pub record HasGathered (run : VolumeRun) (e : ℕ) : Type 0 where
   pub before : (i : ℕ) → IsAmong run e i → (run.engines e).fenced i < (run.engines e).gathered
   pub fenced : (i : ℕ) → IsAmong run e i → Makes run ((run.engines e).fenced i) i (IsFenced e)
 
--- the node showed at the moment p what it has: it was asked after the engine had gathered its quorum, and is in the birth that was fenced
+-- The node answered at the moment p what it has: it was asked after the engine had gathered its quorum, and answered as a member of the
+-- engine's generation, in the birth that was fenced.
 pub record HasShown (run : VolumeRun) (e i p : ℕ) : Type 0 where
   pub after : (run.engines e).gathered ≤ p
-  pub shown : Makes run p i (ShowsContent e)
+  pub under : IsOfGeneration (run.nodes p i) (run.engines e).generation
   pub birth : IsOneBirth run i ((run.engines e).fenced i) p
 
 -- each node of the quorum has shown what it has, before the moment t
 pub record HasAsked (run : VolumeRun) (e t : ℕ) : Type 0 where
   pub gathered : HasGathered run e
   pub shown : (i : ℕ) → IsAmong run e i → (p : ℕ) × (p < t) × HasShown run e i p
+
+-- At the moment s the node may answer what the engine asks under its generation: the engine has asked its whole quorum by then, and the node
+-- is a member of its generation. That the engine names only births that it has fenced or admitted is not needed.
+pub record AnswersUnder (run : VolumeRun) (e s i : ℕ) : Type 0 where
+  pub asked : HasAsked run e s
+  pub under : IsOfGeneration (run.nodes s i) (run.engines e).generation
+
+-- it has answered so at some moment, and was such a node
+abbrev pub WasUnder : VolumeRun → ℕ → (VolumeNode → Type 0) → ℕ → Type 0
+WasUnder run e IsSuch i = (s : ℕ) × AnswersUnder run e s i × IsSuch (run.nodes s i)
 
 -- an engine has sent the truncation to be taken, before the moment t: a quorum has accepted it
 abbrev pub IsSent : VolumeRun → ℕ → CutData → Type 0
@@ -38,11 +49,11 @@ pub record IsUnion (run : VolumeRun) (e t : ℕ) (u : Content) : Type 0 where
   pub of_all : (i : ℕ) → IsAmong run e i → (p : ℕ) × (p < t) × HasShown run e i p × GrowsTo (run.nodes p i).content u
   pub sent : (c : CutData) → Contains u.cuts c → IsSent run t c
 
--- a quorum has reported the union's epoch, and to have all commit points up to lo
+-- a quorum has reported the union's epoch, and a complete point at or above lo, before the moment t
 abbrev pub IsKnown : VolumeRun → ℕ → ℕ → Content → ℕ → Type 0
 IsKnown run e t u lo =
-    Many run (λ i. (s : ℕ) × (s < t) × Makes run s i (ReportsFront e)
-    × ((run.nodes s i).content.epoch ≡ u.epoch) × (lo ≤ (run.nodes s i).content.point))
+    Many run (λ i. (s : ℕ) × (s < t) × AnswersUnder run e s i
+    × ((run.nodes s i).content.epoch ≡ u.epoch) × Contains (run.nodes s i).content.points lo)
 
 -- the greatest vote in the answers `fenced` of the quorum
 pub record IsBest (run : VolumeRun) (e : ℕ) (best : Option Vote) : Type 0 where

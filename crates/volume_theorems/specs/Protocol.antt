@@ -2,15 +2,11 @@
 use Rattle.std.specs.Prelude.{◌≡◌, ◌≢◌, ℕ, suc, ◌+◌, ◌<◌, ◌≤◌, ◌⊎◌, true, Option, Some, None, IsTrue}
 use Rattle.std.specs.List.{Contains}
 use Rattle.redo_core.specs.Data.{CutData}
-use Rattle.volume_theorems.specs.Nodes.{Vote, VolumeNode, HasNothing, GrowsTo, node_of, with_content, with_generation, with_vote}
+use Rattle.volume_theorems.specs.Nodes.{Vote, VolumeNode, HasNothing, IsOfGeneration, GrowsTo, node_of, with_content, with_generation, with_vote}
 use Rattle.volume_theorems.specs.Runs.{VolumeRun, Move}
-use Rattle.volume_theorems.specs.Runs.Move.{Rests, ComesFresh, Learns, IsCreated, IsFenced, AnswersFresh, ShowsContent, ReportsFront, Accepts, IsAdmitted}
-use Rattle.volume_theorems.specs.Opening.{HasGathered, HasAsked, IsSent}
+use Rattle.volume_theorems.specs.Runs.Move.{Rests, ComesFresh, Learns, IsReplaced, IsCreated, IsFenced, Accepts, IsAdmitted}
+use Rattle.volume_theorems.specs.Opening.{IsSent}
 use Rattle.volume_theorems.specs.Proposing.{MayPropose, MayAdmit}
-
--- the node is a member of just this generation
-abbrev pub IsOfGeneration : VolumeNode → ℕ → Type 0
-IsOfGeneration n generation = IsTrue n.is_member × (n.generation ≡ generation)
 
 -- the vote is of this generation and of a later epoch
 abbrev pub IsLaterVote : Option Vote → ℕ → ℕ → Type 0
@@ -28,6 +24,12 @@ pub record IsMore (run : VolumeRun) (t : ℕ) (old new : VolumeNode) : Type 0 wh
   pub grows : GrowsTo old.content new.content
   pub sent : (c : CutData) → Contains new.content.cuts c → Contains old.content.cuts c ⊎ IsSent run t c
 
+-- no member loses its segment
+pub record IsExchanged (run : VolumeRun) (t : ℕ) (old new : VolumeNode) : Type 0 where
+  pub out : ¬ (IsTrue old.is_member)
+  pub same : new ≡ with_content old new.content
+  pub sent : (c : CutData) → Contains new.content.cuts c → IsSent run t c
+
 -- The engine that creates the volume has heard twice from all nodes that they are no members, in the same birth. The run begins between
 -- the two answers, so it names the births that the nodes begin with.
 pub record IsFirstMember (run : VolumeRun) (i : ℕ) (old new : VolumeNode) : Type 0 where
@@ -41,20 +43,7 @@ pub record IsRaised (run : VolumeRun) (e : ℕ) (old new : VolumeNode) : Type 0 
   pub above : old.generation < (run.engines e).generation
   pub new_is : new ≡ with_generation old (run.engines e).generation
 
--- a request under the generation is executed by its members alone; once the engine has gathered its quorum it asks for what they have, and
--- the rest only when each has answered
-pub record IsShowing (run : VolumeRun) (t e : ℕ) (old new : VolumeNode) : Type 0 where
-  pub under : IsOfGeneration old (run.engines e).generation
-  pub gathered : HasGathered run e
-  pub after : (run.engines e).gathered ≤ t
-  pub same : new ≡ old
-
-pub record IsReporting (run : VolumeRun) (t e : ℕ) (old new : VolumeNode) : Type 0 where
-  pub under : IsOfGeneration old (run.engines e).generation
-  pub asked : HasAsked run e t
-  pub same : new ≡ old
-
--- a proposal is accepted unless one of a later epoch and the same generation was
+-- a member of the generation accepts a proposal, unless it has accepted one of the same generation and of a later epoch
 pub record IsVoting (run : VolumeRun) (t e k : ℕ) (old new : VolumeNode) : Type 0 where
   pub under : IsOfGeneration old (run.engines e).generation
   pub proposed : MayPropose run e k t
@@ -72,11 +61,9 @@ abbrev pub Moves : VolumeRun → ℕ → ℕ → Move → VolumeNode → VolumeN
 Moves run t i Rests old new = new ≡ old
 Moves run t i ComesFresh old new = IsReborn run t i new
 Moves run t i Learns old new = IsMore run t old new
+Moves run t i IsReplaced old new = IsExchanged run t old new
 Moves run t i IsCreated old new = IsFirstMember run i old new
 Moves run t i (IsFenced e) old new = IsRaised run e old new
-Moves run t i (AnswersFresh e) old new = ¬ (IsTrue old.is_member) × (new ≡ old)
-Moves run t i (ShowsContent e) old new = IsShowing run t e old new
-Moves run t i (ReportsFront e) old new = IsReporting run t e old new
 Moves run t i (Accepts e k) old new = IsVoting run t e k old new
 Moves run t i (IsAdmitted e) old new = IsEntering run t e i old new
 

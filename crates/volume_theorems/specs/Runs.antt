@@ -17,24 +17,23 @@ pub record Engine : Type 0 where
   -- the epoch of the truncation that it makes itself; those that it proposes before are pending ones
   pub opens : ℕ
 
--- A move of one node. With the number of an engine it executes a request of that engine and answers; whether and when the answer arrives
--- is open.
+-- A move of one node. With the number of an engine it executes a request of that engine. An answer is no move: whoever hears one knows what
+-- the node was at an earlier moment.
 pub data Move : Type 0 where
   Rests : Move
   -- comes back with nothing, in another birth
   ComesFresh : Move
   -- facts reach its segment
   Learns : Move
+  -- gets another segment
+  IsReplaced : Move
   -- is admitted by the engine that creates the volume
   IsCreated : Move
-  -- `fence`, which a member executes, and another node answers by `fresh`
+  -- executes `fence`
   IsFenced : ℕ → Move
-  AnswersFresh : ℕ → Move
-  -- says what it has, and what its front is
-  ShowsContent : ℕ → Move
-  ReportsFront : ℕ → Move
   -- accepts the engine's truncation of the epoch
   Accepts : ℕ → ℕ → Move
+  -- executes `admit`
   IsAdmitted : ℕ → Move
 
 -- At each moment the node `actor` makes the move, which leads to the next moment. The nodes are numbered from 0 below the roster.

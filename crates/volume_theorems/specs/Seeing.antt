@@ -1,14 +1,9 @@
 -- What a quorum had under one generation is found by each engine of a higher one.
 use Rattle.std.specs.Prelude.{ℕ, ◌<◌, ◌≤◌, Option, Some}
-use Rattle.volume_theorems.specs.Nodes.{Content, Vote, VolumeNode, VoteUpTo}
+use Rattle.volume_theorems.specs.Nodes.{Content, Vote, VoteUpTo}
 use Rattle.volume_theorems.specs.Runs.{VolumeRun, Many}
-use Rattle.volume_theorems.specs.Opening.{HasAsked, IsUnion, IsBest}
-use Rattle.volume_theorems.specs.Protocol.{FollowsProtocol, IsOfGeneration}
-
--- at some moment at which the engine had asked its whole quorum, the node was a member of the engine's generation, and such a one
-abbrev pub WasUnder : VolumeRun → ℕ → (VolumeNode → Type 0) → ℕ → Type 0
-WasUnder run e IsSuch i =
-    (t : ℕ) × HasAsked run e t × IsOfGeneration (run.nodes t i) (run.engines e).generation × IsSuch (run.nodes t i)
+use Rattle.volume_theorems.specs.Opening.{HasAsked, WasUnder, IsUnion, IsBest}
+use Rattle.volume_theorems.specs.Protocol.{FollowsProtocol}
 
 -- If a quorum has accepted a truncation under one generation, an engine of a higher generation finds it, or a greater vote,
 abbrev pub VotesAreSeen : Type 0

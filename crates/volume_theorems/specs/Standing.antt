@@ -1,9 +1,9 @@
 -- What an engine that has asked its quorum may rely on.
 use Rattle.std.specs.Prelude.{◌≡◌, ℕ, ◌≤◌, IsTrue}
-use Rattle.volume_theorems.specs.Nodes.{VolumeNode}
+use Rattle.volume_theorems.specs.Nodes.{VolumeNode, IsOfGeneration}
 use Rattle.volume_theorems.specs.Runs.{VolumeRun, IsOneBirth}
 use Rattle.volume_theorems.specs.Opening.{IsAmong, HasAsked}
-use Rattle.volume_theorems.specs.Protocol.{FollowsProtocol, IsOfGeneration}
+use Rattle.volume_theorems.specs.Protocol.{FollowsProtocol}
 
 -- the node is no member, or of this generation or a higher one
 abbrev pub IsNotBelow : VolumeNode → ℕ → Type 0

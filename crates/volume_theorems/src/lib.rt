@@ -8,13 +8,14 @@
 //!
 //! `one_birth`, `no_return`: what a node never takes back. `quorums_stand`, `one_of_generation`, `votes_are_seen`, `epochs_are_seen`: what an engine may rely on
 //! once its quorum has answered. `one_truncation`, `only_chosen`, `one_writer`: agreement on the truncation of each epoch.
-//! `durable_lasts`, `lo_rises`: what was durable stays durable.
+//! `durable_lasts`, `opens_above`, `lo_rises`, `lo_is_point`: what was durable stays durable, and only whole commits are kept.
 #![tactic(auto)]
 
 ghost use Rattle.volume_theorems.specs.Lives.{OneBirth, NoReturn};
 ghost use Rattle.volume_theorems.specs.Standing.{QuorumsStand, OneOfGeneration};
 ghost use Rattle.volume_theorems.specs.Seeing.{VotesAreSeen, EpochsAreSeen};
 ghost use Rattle.volume_theorems.specs.Choosing.{OneTruncation, OnlyChosen, OneWriter};
+ghost use Rattle.volume_theorems.specs.Lasting.{DurableLasts, OpensAbove, LoRises, LoIsPoint};
 
 /// In one birth a member stays one, its generation does not fall, and its accepted truncation and its facts only rise.
 pub fn one_birth()
@@ -59,4 +60,24 @@ pub fn only_chosen()
 /// At most one engine opens an epoch.
 pub fn one_writer()
     ensures { OneWriter }
+{}
+
+/// No chosen truncation of a later epoch is below a commit point that was durable or that an epoch was opened at.
+pub fn durable_lasts()
+    ensures { DurableLasts }
+{}
+
+/// No later epoch is opened below such a commit point.
+pub fn opens_above()
+    ensures { OpensAbove }
+{}
+
+/// `lo` of the chosen truncations does not fall as epochs rise.
+pub fn lo_rises()
+    ensures { LoRises }
+{}
+
+/// `lo` of a chosen truncation is a commit point, or 0.
+pub fn lo_is_point()
+    ensures { LoIsPoint }
 {}
