@@ -1,14 +1,14 @@
 -- Births: what each move leaves of them, and that none comes back.
 use Rattle.std.proofs.Common.{◌≡◌, ◌≢◌, ℕ, zero, suc, ◌≤◌, ◌⊎◌, ⊎_elim, inl, inr, refl, sym, ap, subst, ◌∙◌, arith}
 use Rattle.volume_theorems.specs.Nodes.{VolumeNode}
-use Rattle.volume_theorems.specs.Runs.{VolumeRun, Move, Makes, IsOneBirth}
+use Rattle.volume_theorems.specs.Runs.{VolumeRun, Move, MakesMove, IsOneBirth}
 use Rattle.volume_theorems.specs.Runs.Move.{Rests, ComesFresh, Learns, IsReplaced, IsCreated, IsFenced, Accepts, IsAdmitted}
 use Rattle.volume_theorems.specs.Protocol.{FollowsProtocol, IsReborn, Moves}
 use Rattle.volume_theorems.specs.Lives.{NoReturn}
 use Rattle.volume_theorems.proofs.Orders.{last_or_earlier}
 
 -- ---- moves
-pub made : (run : VolumeRun) (t i : ℕ) (m : Move) → FollowsProtocol run → Makes run t i m → Moves run t i m (run.nodes t i) (run.nodes (suc t) i)
+pub made : (run : VolumeRun) (t i : ℕ) (m : Move) → FollowsProtocol run → MakesMove run t i m → Moves run t i m (run.nodes t i) (run.nodes (suc t) i)
 made run t i m is makes =
     subst (λ (x : Move). Moves run t i x (run.nodes t i) (run.nodes (suc t) i)) makes.1
     (subst (λ (j : ℕ). Moves run t j (run.moves t) (run.nodes t j) (run.nodes (suc t) j)) makes.0 (is.moves t))
@@ -17,13 +17,13 @@ made run t i m is makes =
 abbrev pub IsNext : VolumeRun → ℕ → ℕ → Type 0
 IsNext run t i =
     (run.nodes (suc t) i ≡ run.nodes t i)
-    ⊎ (Makes run t i (run.moves t) × Moves run t i (run.moves t) (run.nodes t i) (run.nodes (suc t) i))
+    ⊎ (MakesMove run t i (run.moves t) × Moves run t i (run.moves t) (run.nodes t i) (run.nodes (suc t) i))
 
 pub goes_on : (run : VolumeRun) (t i : ℕ) → FollowsProtocol run → IsNext run t i
 goes_on run t i is =
     let which : (run.actor t ≡ i) ⊎ (i ≢ run.actor t) = grind arith in
     ⊎_elim
-    (λ (acts : run.actor t ≡ i). let makes : Makes run t i (run.moves t) = (acts, refl) in inr (makes, made run t i (run.moves t) is makes))
+    (λ (acts : run.actor t ≡ i). let makes : MakesMove run t i (run.moves t) = (acts, refl) in inr (makes, made run t i (run.moves t) is makes))
     (λ (rests : i ≢ run.actor t). inl (is.others t i rests))
     which
 

@@ -2,10 +2,10 @@
 use Rattle.std.proofs.Common.{◌≡◌, ℕ, suc, ◌<◌, ◌≤◌, ◌⊎◌, ⊎_elim, Option, Some, None, refl, sym, ◌∙◌, subst, ap, arith}
 use Rattle.redo_core.specs.Data.{CutData}
 use Rattle.volume_theorems.specs.Nodes.{Content, Vote, VolumeNode, IsOfGeneration, VoteUpTo}
-use Rattle.volume_theorems.specs.Runs.{VolumeRun, Makes, Many}
+use Rattle.volume_theorems.specs.Runs.{VolumeRun, MakesMove, Many}
 use Rattle.volume_theorems.specs.Runs.Move.{Accepts}
-use Rattle.volume_theorems.specs.Opening.{HasAsked, WasUnder, IsSent}
-use Rattle.volume_theorems.specs.Proposing.{IsOfEpoch, Adopts, MakesOwn, MayPropose}
+use Rattle.volume_theorems.specs.Opening.{HasAsked, WasUnder, IsCutSent}
+use Rattle.volume_theorems.specs.Proposing.{IsOfEpoch, AdoptsPending, MakesOwn, MayPropose}
 use Rattle.volume_theorems.specs.Protocol.{FollowsProtocol, IsVoting}
 use Rattle.volume_theorems.specs.Choosing.{IsChosen, OneTruncation, OnlyChosen, HasOpened, OneWriter}
 use Rattle.volume_theorems.proofs.Quorums.{quorums_meet}
@@ -19,12 +19,12 @@ use Rattle.volume_theorems.proofs.Proposing.{WasProposed, IsFromProposal, propos
 -- ---- one engine
 -- a quorum has accepted the engine's truncation of the epoch
 abbrev pub HasChosen : VolumeRun → ℕ → ℕ → Type 0
-HasChosen run e k = Many run (λ i. (s : ℕ) × Makes run s i (Accepts e k))
+HasChosen run e k = Many run (λ i. (s : ℕ) × MakesMove run s i (Accepts e k))
 
 abbrev pub vote_for : VolumeRun → ℕ → ℕ → Vote
 vote_for run e k = record { generation = (run.engines e).generation; cut = (run.engines e).cuts k }
 
-pub voted : (run : VolumeRun) (e k s i : ℕ) → FollowsProtocol run → Makes run s i (Accepts e k)
+pub voted : (run : VolumeRun) (e k s i : ℕ) → FollowsProtocol run → MakesMove run s i (Accepts e k)
     → IsVoting run s e k (run.nodes s i) (run.nodes (suc s) i)
 voted run e k s i is makes = made run s i (Accepts e k) is makes
 
@@ -34,11 +34,11 @@ proposer_asked run e k t p = asked_by_union run e t p.union p.unites
 -- what is chosen was proposed
 pub chosen_proposed : (run : VolumeRun) (e k : ℕ) → FollowsProtocol run → HasChosen run e k → (s : ℕ) × MayPropose run e k s
 chosen_proposed run e k is chosen =
-    let Votes : ℕ → Type 0 = λ i. (s : ℕ) × Makes run s i (Accepts e k) in
+    let Votes : ℕ → Type 0 = λ i. (s : ℕ) × MakesMove run s i (Accepts e k) in
     let met = quorums_meet run Votes Votes is chosen chosen in
     (met.1.0, (voted run e k met.1.0 met.0 is met.1.1).proposed)
 
-vote_under : (run : VolumeRun) (e k s i : ℕ) → FollowsProtocol run → Makes run s i (Accepts e k)
+vote_under : (run : VolumeRun) (e k s i : ℕ) → FollowsProtocol run → MakesMove run s i (Accepts e k)
     → WasUnder run e (λ n. VoteUpTo (Some (vote_for run e k)) n.accepted) i
 vote_under run e k s i is makes =
     let says : IsVoting run s e k (run.nodes s i) (run.nodes (suc s) i) = voted run e k s i is makes in
@@ -154,15 +154,15 @@ vote_for_chosen run e f k n s t v is own p now earlier upto found =
     upto
 
 agrees_by : (run : VolumeRun) (e f k : ℕ) (v : Vote) (u : Content) → IsForChosen run e k v
-    → Adopts run f k (Some v) ⊎ MakesOwn run f k u (Some v) → Agrees run e f k (Some v)
+    → AdoptsPending run f k (Some v) ⊎ MakesOwn run f k u (Some v) → Agrees run e f k (Some v)
 agrees_by run e f k v u is choice = ⊎_elim
-    (λ (adopts : Adopts run f k (Some v)). record { same = sym adopts.pending ∙ is.same; pending = is.of_epoch })
+    (λ (adopts : AdoptsPending run f k (Some v)). record { same = sym adopts.pending ∙ is.same; pending = is.of_epoch })
     (λ (own : MakesOwn run f k u (Some v)). absurd (own.free is.of_epoch))
     choice
 
 agrees_on : (run : VolumeRun) (e f k n s t : ℕ) (best : Option Vote) (u : Content) → FollowsProtocol run → MayPropose run e k s → MayPropose run f k t
     → (run.engines f).generation ≡ n → ((x : ℕ) → x < n → AllAgree run e k x)
-    → VoteUpTo (Some (vote_for run e k)) best → IsFound run f t best → Adopts run f k best ⊎ MakesOwn run f k u best → Agrees run e f k best
+    → VoteUpTo (Some (vote_for run e k)) best → IsFound run f t best → AdoptsPending run f k best ⊎ MakesOwn run f k u best → Agrees run e f k best
 agrees_on run e f k n s t None u is own p now earlier upto found choice = absurd upto
 agrees_on run e f k n s t (Some v) u is own p now earlier upto found choice =
     agrees_by run e f k v u (vote_for_chosen run e f k n s t v is own p now earlier upto found) choice
@@ -209,7 +209,7 @@ pub record IsChosenBy (run : VolumeRun) (generation : ℕ) (c : CutData) : Type 
 
 pub chosen_by : (run : VolumeRun) (generation : ℕ) (c : CutData) → FollowsProtocol run → IsChosen run generation c → IsChosenBy run generation c
 chosen_by run generation c is chosen =
-    let Votes : ℕ → Type 0 = λ i. (s e : ℕ) × Makes run s i (Accepts e c.epoch)
+    let Votes : ℕ → Type 0 = λ i. (s e : ℕ) × MakesMove run s i (Accepts e c.epoch)
     × ((run.engines e).generation ≡ generation) × ((run.engines e).cuts c.epoch ≡ c) in
     let met = quorums_meet run Votes Votes is chosen chosen in
     let first = met.1 in
@@ -226,7 +226,7 @@ chosen_by run generation c is chosen =
             let x = chosen.2 i among in
             let its : HasAsked run x.1 x.0 = proposer_asked run x.1 c.epoch x.0 (voted run x.1 c.epoch x.0 i is x.2).proposed in
             let itself : x.1 ≡ e = one_of_generation run x.1 e x.0 first.0 is its asked (x.3 ∙ sym first.3) in
-            (x.0, subst (λ (y : ℕ). Makes run x.0 i (Accepts y c.epoch)) itself x.2),
+            (x.0, subst (λ (y : ℕ). MakesMove run x.0 i (Accepts y c.epoch)) itself x.2),
       );
     }
 
@@ -237,7 +237,7 @@ one_truncation run g h c d is one other same =
     let again : HasChosen run b.engine c.epoch = subst (λ (k : ℕ). HasChosen run b.engine k) (sym same) b.chosen in
     sym a.cut ∙ one_chosen run a.engine b.engine c.epoch is a.chosen again ∙ ap (λ (k : ℕ). (run.engines b.engine).cuts k) same ∙ b.cut
 
-pub sent_chosen : (run : VolumeRun) (t : ℕ) (c : CutData) → IsSent run t c → (g : ℕ) × IsChosen run g c
+pub sent_chosen : (run : VolumeRun) (t : ℕ) (c : CutData) → IsCutSent run t c → (g : ℕ) × IsChosen run g c
 sent_chosen run t c sent = (
   (run.engines sent.0).generation,
   (sent.2.0, sent.2.1, λ i among. let x = sent.2.2 i among in (x.0, sent.0, x.2, refl, sent.1)),
@@ -249,7 +249,7 @@ only_chosen run t i c is inside = sent_chosen run t c (all_sent run t is i c ins
 -- ---- one writer
 pub opener_made : (run : VolumeRun) (f k t : ℕ) → (run.engines f).opens ≡ k → (p : MayPropose run f k t) → MakesOwn run f k p.union p.best
 opener_made run f k t own p = ⊎_elim
-    (λ (adopts : Adopts run f k p.best). let lower : k < (run.engines f).opens = adopts.below in absurd (omega arith))
+    (λ (adopts : AdoptsPending run f k p.best). let lower : k < (run.engines f).opens = adopts.below in absurd (omega arith))
     (λ (makes : MakesOwn run f k p.union p.best). makes)
     p.choice
 

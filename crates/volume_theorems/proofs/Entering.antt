@@ -1,7 +1,7 @@
 -- How a member came to be one in its birth.
 use Rattle.std.proofs.Common.{◌≡◌, ℕ, zero, suc, ◌<◌, ◌⊎◌, ⊎_elim, inl, inr, refl, sym, ◌∙◌, subst, ap, arith, IsTrue}
 use Rattle.volume_theorems.specs.Nodes.{VolumeNode}
-use Rattle.volume_theorems.specs.Runs.{VolumeRun, Move, Makes, IsOneBirth}
+use Rattle.volume_theorems.specs.Runs.{VolumeRun, Move, MakesMove, IsOneBirth}
 use Rattle.volume_theorems.specs.Runs.Move.{Rests, ComesFresh, Learns, IsReplaced, IsCreated, IsFenced, Accepts, IsAdmitted}
 use Rattle.volume_theorems.specs.Protocol.{FollowsProtocol, IsReborn, Moves}
 use Rattle.volume_theorems.proofs.Births.{goes_on, next_birth}
@@ -16,7 +16,7 @@ Enters m = ⊥
 pub record HasEntered (run : VolumeRun) (i t : ℕ) : Type 0 where
   pub moment : ℕ
   pub before : moment < t
-  pub makes : Makes run moment i (run.moves moment)
+  pub makes : MakesMove run moment i (run.moves moment)
   pub enters : Enters (run.moves moment)
   pub same : IsOneBirth run i moment (suc moment)
   pub since : IsOneBirth run i (suc moment) t

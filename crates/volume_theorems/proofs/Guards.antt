@@ -1,9 +1,9 @@
 -- What holds of each node at each moment: it has no vote of a generation above its own, and none before it is a member.
 use Rattle.std.proofs.Common.{◌≡◌, ℕ, zero, suc, ◌<◌, ◌≤◌, ⊎_elim, Option, None, refl, sym, subst, arith, IsTrue, true}
-use Rattle.volume_theorems.specs.Nodes.{Content, Vote, VolumeNode, HasNothing, node_of, with_content, with_generation, with_vote}
+use Rattle.volume_theorems.specs.Nodes.{Content, Vote, VolumeNode, HasNothing, volume_node, with_content, with_generation, with_vote}
 use Rattle.volume_theorems.specs.Runs.{VolumeRun, Move}
 use Rattle.volume_theorems.specs.Runs.Move.{Rests, ComesFresh, Learns, IsReplaced, IsCreated, IsFenced, Accepts, IsAdmitted}
-use Rattle.volume_theorems.specs.Opening.{IsAmong, HasGathered, HasAsked, IsUnion}
+use Rattle.volume_theorems.specs.Opening.{IsInQuorum, HasGathered, HasAsked, IsUnion}
 use Rattle.volume_theorems.specs.Protocol.{FollowsProtocol, IsRaised, IsEntering, Moves}
 use Rattle.volume_theorems.proofs.Orders.{last_or_earlier, IsVoteWithin, within_higher}
 use Rattle.volume_theorems.proofs.Births.{made, goes_on}
@@ -18,20 +18,20 @@ asked_later run e s t upto is = record {
   shown = λ i among. let of = is.shown i among in let before : of.0 < s = of.1 in (of.0, omega arith, of.2);
 }
 
-pub gathered_before : (run : VolumeRun) (e t i : ℕ) → HasAsked run e t → IsAmong run e i → (run.engines e).gathered < t
+pub gathered_before : (run : VolumeRun) (e t i : ℕ) → HasAsked run e t → IsInQuorum run e i → (run.engines e).gathered < t
 gathered_before run e t i is among =
     let of = is.shown i among in
     let before : of.0 < t = of.1 in
     let after : (run.engines e).gathered ≤ of.0 = of.2.after in
     omega arith
 
-pub fenced_before : (run : VolumeRun) (e t i : ℕ) → HasAsked run e t → IsAmong run e i → (run.engines e).fenced i < t
+pub fenced_before : (run : VolumeRun) (e t i : ℕ) → HasAsked run e t → IsInQuorum run e i → (run.engines e).fenced i < t
 fenced_before run e t i is among =
     let early : (run.engines e).fenced i < (run.engines e).gathered = is.gathered.before i among in
     let late : (run.engines e).gathered < t = gathered_before run e t i is among in
     omega arith
 
-pub raised : (run : VolumeRun) (e i : ℕ) → FollowsProtocol run → HasGathered run e → IsAmong run e i
+pub raised : (run : VolumeRun) (e i : ℕ) → FollowsProtocol run → HasGathered run e → IsInQuorum run e i
     → IsRaised run e (run.nodes ((run.engines e).fenced i) i) (run.nodes (suc ((run.engines e).fenced i)) i)
 raised run e i is has among = made run ((run.engines e).fenced i) i (IsFenced e) is (has.fenced i among)
 
@@ -66,7 +66,7 @@ entered_guarded run t e i old new is all says =
     let here : IsVoteWithin says.vote (run.engines e).generation =
     subst (λ (v : Option Vote). IsVoteWithin v (run.engines e).generation) (sym one.2)
     (within_higher (run.nodes f one.0).accepted (run.nodes f one.0).generation (run.engines e).generation higher (all f upto one.0).within) in
-    let left : IsGuarded (node_of old.birth true (run.engines e).generation says.vote old.content) =
+    let left : IsGuarded (volume_node old.birth true (run.engines e).generation says.vote old.content) =
     record { outside = λ no. absurd (no refl); within = here } in
     subst (λ (n : VolumeNode). IsGuarded n) (sym says.new_is) left
 
@@ -81,7 +81,7 @@ guarded_after run t i IsReplaced new is all had says =
     let left : IsGuarded (with_content (run.nodes t i) new.content) = record { outside = had.outside; within = had.within } in
     subst (λ (n : VolumeNode). IsGuarded n) (sym says.same) left
 guarded_after run t i IsCreated new is all had says =
-    let left : IsGuarded (node_of (run.nodes t i).birth true 1 None (run.nodes t i).content) =
+    let left : IsGuarded (volume_node (run.nodes t i).birth true 1 None (run.nodes t i).content) =
     record { outside = λ no. absurd (no refl); within = tt } in
     subst (λ (n : VolumeNode). IsGuarded n) (sym says.new_is) left
 guarded_after run t i (IsFenced e) new is all had says =

@@ -3,10 +3,10 @@ use Rattle.std.proofs.Common.{◌≡◌, ℕ, suc, ◌<◌, ◌≤◌, ◌⊎◌
 use Rattle.std.specs.List.{Contains}
 use Rattle.redo_core.specs.Data.{CutData}
 use Rattle.volume_theorems.specs.Nodes.{Content, Vote, VolumeNode, GrowsTo}
-use Rattle.volume_theorems.specs.Runs.{VolumeRun, Makes, Many}
+use Rattle.volume_theorems.specs.Runs.{VolumeRun, MakesMove, Many}
 use Rattle.volume_theorems.specs.Runs.Move.{Accepts, IsAdmitted}
-use Rattle.volume_theorems.specs.Opening.{IsAmong, HasAsked, WasUnder, IsSent, IsUnion}
-use Rattle.volume_theorems.specs.Proposing.{Adopts, MakesOwn, MayPropose}
+use Rattle.volume_theorems.specs.Opening.{IsInQuorum, HasAsked, WasUnder, IsCutSent, IsUnion}
+use Rattle.volume_theorems.specs.Proposing.{AdoptsPending, MakesOwn, MayPropose}
 use Rattle.volume_theorems.specs.Protocol.{FollowsProtocol, IsEntering}
 use Rattle.volume_theorems.specs.Choosing.{IsChosen, HasOpened}
 use Rattle.volume_theorems.specs.Lasting.{IsReported, DurableLasts, OpensAbove, LoRises, LoIsPoint}
@@ -27,7 +27,7 @@ pub record IsClaim (run : VolumeRun) (e k epoch point : ℕ) : Type 0 where
   pub moment : ℕ
   pub proposed : MayPropose run e k moment
   pub held : Many run (WasUnder run e (λ n. (epoch ≤ n.content.epoch) × Contains n.content.points point))
-  pub upto : (t : ℕ) (c : CutData) → IsSent run t c → epoch < c.epoch → c.epoch ≤ k → point ≤ c.lo
+  pub upto : (t : ℕ) (c : CutData) → IsCutSent run t c → epoch < c.epoch → c.epoch ≤ k → point ≤ c.lo
 
 -- only engines of higher generations propose for later epochs
 only_higher : (run : VolumeRun) (e g k l s t : ℕ) → FollowsProtocol run → (run.engines e).opens ≡ k → MayPropose run e k s → MayPropose run g l t
@@ -41,7 +41,7 @@ only_higher run e g k l s t is opens own p above = ⊎_elim
     let itself : e ≡ g = one_of_generation run e g s t is (proposer_asked run e k s own) (proposer_asked run g l t p) equal in
     let again : (run.engines g).opens ≡ k = ap (λ (x : ℕ). (run.engines x).opens) (sym itself) ∙ opens in
     ⊎_elim
-    (λ (adopts : Adopts run g l p.best). let lower : l < (run.engines g).opens = adopts.below in absurd (omega arith))
+    (λ (adopts : AdoptsPending run g l p.best). let lower : l < (run.engines g).opens = adopts.below in absurd (omega arith))
     (λ (makes : MakesOwn run g l p.union p.best). let same : l ≡ (run.engines g).opens = makes.opens in absurd (omega arith))
     p.choice)
     rest)
@@ -49,10 +49,10 @@ only_higher run e g k l s t is opens own p above = ⊎_elim
     ⊎ (((run.engines g).generation < (run.engines e).generation) ⊎ ((run.engines e).generation ≡ (run.engines g).generation)) = grind arith in which)
 
 -- what an engine has sent was proposed before
-sent_proposed : (run : VolumeRun) (t : ℕ) (c : CutData) → FollowsProtocol run → (sent : IsSent run t c)
+sent_proposed : (run : VolumeRun) (t : ℕ) (c : CutData) → FollowsProtocol run → (sent : IsCutSent run t c)
     → (s : ℕ) × (s < t) × MayPropose run sent.0 c.epoch s
 sent_proposed run t c is sent =
-    let Votes : ℕ → Type 0 = λ i. (s : ℕ) × (s < t) × Makes run s i (Accepts sent.0 c.epoch) in
+    let Votes : ℕ → Type 0 = λ i. (s : ℕ) × (s < t) × MakesMove run s i (Accepts sent.0 c.epoch) in
     let met = quorums_meet run Votes Votes is sent.2 sent.2 in
     let x = met.1 in
     (x.0, x.1, (voted run sent.0 c.epoch x.0 met.0 is x.2).proposed)
@@ -63,7 +63,7 @@ AllAbove run e k point t =
     (f l : ℕ) → MayPropose run f l t → (run.engines e).generation < (run.engines f).generation → k < l → point ≤ ((run.engines f).cuts l).lo
 
 module _ (run : VolumeRun) (e k epoch point : ℕ) (is : FollowsProtocol run) (claim : IsClaim run e k epoch point) where
-  sent_above : (t x : ℕ) (c : CutData) → ((s : ℕ) → s < t → AllAbove run e k point s) → x ≤ t → IsSent run x c → epoch < c.epoch → point ≤ c.lo
+  sent_above : (t x : ℕ) (c : CutData) → ((s : ℕ) → s < t → AllAbove run e k point s) → x ≤ t → IsCutSent run x c → epoch < c.epoch → point ≤ c.lo
   sent_above t x c earlier order sent later = ⊎_elim
       (λ (low : c.epoch ≤ k). claim.upto x c sent later low)
       (λ (high : k < c.epoch).
@@ -79,7 +79,7 @@ module _ (run : VolumeRun) (e k epoch point : ℕ) (is : FollowsProtocol run) (c
   HasCome content = (epoch ≤ content.epoch) × Contains content.points point
 
   comes_on : (t x : ℕ) (old new : Content) → ((s : ℕ) → s < t → AllAbove run e k point s) → x ≤ t
-      → ((c : CutData) → Contains new.cuts c → IsSent run x c) → GrowsTo old new → HasCome old → HasCome new
+      → ((c : CutData) → Contains new.cuts c → IsCutSent run x c) → GrowsTo old new → HasCome old → HasCome new
   comes_on t x old new earlier order sent grows had =
       let first : epoch ≤ old.epoch = had.0 in
       let more : old.epoch ≤ new.epoch = grows.epoch in (
@@ -88,7 +88,7 @@ module _ (run : VolumeRun) (e k epoch point : ℕ) (is : FollowsProtocol run) (c
             (λ c inside (above : old.epoch < c.epoch) within. sent_above t x c earlier order (sent c inside) (omega arith)),
       )
 
-  in_union : (t x f j : ℕ) (u : Content) → ((s : ℕ) → s < t → AllAbove run e k point s) → x ≤ t → IsUnion run f x u → IsAmong run f j
+  in_union : (t x f j : ℕ) (u : Content) → ((s : ℕ) → s < t → AllAbove run e k point s) → x ≤ t → IsUnion run f x u → IsInQuorum run f j
       → HasCome (run.nodes ((run.engines f).fenced j) j).content → HasCome u
   in_union t x f j u earlier order union among had =
       let of = fenced_in_union run f x j u is union among in
@@ -100,7 +100,7 @@ module _ (run : VolumeRun) (e k epoch point : ℕ) (is : FollowsProtocol run) (c
   abbrev pub HasComeBy : ℕ → ℕ → ℕ → Type 0
   HasComeBy t x i = x ≤ t → HasCome (run.nodes x i).content
 
-  entered_come : (t x i f j : ℕ) → ((s : ℕ) → s < t → AllAbove run e k point s) → x ≤ t → IsAmong run f j
+  entered_come : (t x i f j : ℕ) → ((s : ℕ) → s < t → AllAbove run e k point s) → x ≤ t → IsInQuorum run f j
       → HasCome (run.nodes ((run.engines f).fenced j) j).content → IsEntering run x f i (run.nodes x i) (run.nodes (suc x) i)
       → HasCome (run.nodes (suc x) i).content
   entered_come t x i f j earlier order among had says =
@@ -122,7 +122,7 @@ module _ (run : VolumeRun) (e k epoch point : ℕ) (is : FollowsProtocol run) (c
   }
 
   adopted_above : (f l t : ℕ) (best : Option Vote) → ((s : ℕ) → s < t → AllAbove run e k point s) → ((run.engines f).cuts l).epoch ≡ l → k < l
-      → IsFound run f t best → Adopts run f l best → point ≤ ((run.engines f).cuts l).lo
+      → IsFound run f t best → AdoptsPending run f l best → point ≤ ((run.engines f).cuts l).lo
   adopted_above f l t None earlier of_epoch above found adopts = absurd adopts.pending
   adopted_above f l t (Some v) earlier of_epoch above found adopts =
       let w : WasProposed run t v = found.proposed in
@@ -143,7 +143,7 @@ module _ (run : VolumeRun) (e k epoch point : ℕ) (is : FollowsProtocol run) (c
       let early : (run.engines f).fenced found.0 < t = fenced_before run f t found.0 asked found.1 in
       let union : HasCome p.union = in_union t t f found.0 p.union earlier (omega arith) p.unites found.1 (found.2 (omega arith)) in
       ⊎_elim
-      (λ (adopts : Adopts run f l p.best). adopted_above f l t p.best earlier p.of_epoch above (best_found run f l t is p) adopts)
+      (λ (adopts : AdoptsPending run f l p.best). adopted_above f l t p.best earlier p.of_epoch above (best_found run f l t is p) adopts)
       (λ (makes : MakesOwn run f l p.union p.best). makes.last point union.1)
       p.choice
 
@@ -189,7 +189,7 @@ abbrev pub AllOriginate : VolumeRun → ℕ → CutData → ℕ → Type 0
 AllOriginate run k c t = (f : ℕ) → MayPropose run f k t → (run.engines f).cuts k ≡ c → HasOrigin run k c
 
 adopted_origin : (run : VolumeRun) (k f t : ℕ) (c : CutData) (best : Option Vote) → ((s : ℕ) → s < t → AllOriginate run k c s)
-    → ((run.engines f).cuts k).epoch ≡ k → (run.engines f).cuts k ≡ c → IsFromProposal run t best → Adopts run f k best → HasOrigin run k c
+    → ((run.engines f).cuts k).epoch ≡ k → (run.engines f).cuts k ≡ c → IsFromProposal run t best → AdoptsPending run f k best → HasOrigin run k c
 adopted_origin run k f t c None earlier of_epoch cut from adopts = absurd adopts.pending
 adopted_origin run k f t c (Some v) earlier of_epoch cut from adopts =
     let at : v.cut.epoch ≡ k = ap (λ (x : CutData). x.epoch) adopts.pending ∙ of_epoch in
@@ -198,13 +198,13 @@ adopted_origin run k f t c (Some v) earlier of_epoch cut from adopts =
 
 all_originate : (run : VolumeRun) (k : ℕ) (c : CutData) → FollowsProtocol run → (t : ℕ) → AllOriginate run k c t
 all_originate run k c is = by_time (AllOriginate run k c) (λ t earlier f p cut. ⊎_elim
-    (λ (adopts : Adopts run f k p.best). adopted_origin run k f t c p.best earlier p.of_epoch cut (best_found run f k t is p).proposed adopts)
+    (λ (adopts : AdoptsPending run f k p.best). adopted_origin run k f t c p.best earlier p.of_epoch cut (best_found run f k t is p).proposed adopts)
     (λ (makes : MakesOwn run f k p.union p.best).
     let own : HasOrigin run k c = record { engine = f; moment = t; opens = sym makes.opens; proposed = p; cut = cut } in own)
     p.choice)
 
 sent_same : (run : VolumeRun) (t a : ℕ) (c d : CutData) → FollowsProtocol run → HasChosen run a c.epoch → (run.engines a).cuts c.epoch ≡ c
-    → IsSent run t d → d.epoch ≡ c.epoch → d ≡ c
+    → IsCutSent run t d → d.epoch ≡ c.epoch → d ≡ c
 sent_same run t a c d is chosen cut sent same =
     let many : HasChosen run sent.0 d.epoch = (sent.2.0, sent.2.1, λ i among. let x = sent.2.2 i among in (x.0, x.2)) in
     let again : HasChosen run sent.0 c.epoch = subst (λ (x : ℕ). HasChosen run sent.0 x) same many in
@@ -259,7 +259,7 @@ opened_chosen run e epoch is opened =
       opened.accepted.1,
       λ i among.
           let x = opened.accepted.2 i among in
-          (x.0, e, subst (λ (k : ℕ). Makes run x.0 i (Accepts e k)) at x.1, refl, ap (λ (k : ℕ). (run.engines e).cuts k) (sym at)),
+          (x.0, e, subst (λ (k : ℕ). MakesMove run x.0 i (Accepts e k)) at x.1, refl, ap (λ (k : ℕ). (run.engines e).cuts k) (sym at)),
     )
 
 pub durable_lasts : DurableLasts

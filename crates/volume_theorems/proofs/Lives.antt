@@ -2,7 +2,7 @@
 use Rattle.std.proofs.Common.{◌≡◌, ℕ, zero, suc, ◌<◌, ◌≤◌, ⊎_elim, Option, Some, None, refl, sym, ◌∙◌, subst, arith, true}
 use Rattle.std.proofs.lemmas.Grind.{common_steps}
 use Rattle.redo_core.specs.Data.{CutData}
-use Rattle.volume_theorems.specs.Nodes.{Vote, VolumeNode, VoteUpTo, node_of, with_content, with_generation, with_vote}
+use Rattle.volume_theorems.specs.Nodes.{Vote, VolumeNode, VoteUpTo, volume_node, with_content, with_generation, with_vote}
 use Rattle.volume_theorems.specs.Runs.{VolumeRun, Move, IsOneBirth}
 use Rattle.volume_theorems.specs.Runs.Move.{Rests, ComesFresh, Learns, IsReplaced, IsCreated, IsFenced, Accepts, IsAdmitted}
 use Rattle.volume_theorems.specs.Protocol.{FollowsProtocol, IsLaterVote, Moves}
@@ -58,7 +58,7 @@ kept_after run t i IsReplaced new had says same =
     } in
     subst (λ (n : VolumeNode). IsLaterNode (run.nodes t i) n) (sym says.same) left
 kept_after run t i IsCreated new had says same =
-    let left : IsLaterNode (run.nodes t i) (node_of (run.nodes t i).birth true 1 None (run.nodes t i).content) = record {
+    let left : IsLaterNode (run.nodes t i) (volume_node (run.nodes t i).birth true 1 None (run.nodes t i).content) = record {
       member = λ m. refl;
       generation = λ m. absurd (says.out m);
       accepted = none_upto (run.nodes t i).accepted None (had.outside says.out);
@@ -88,7 +88,7 @@ kept_after run t i (Accepts e k) new had says same =
     } in
     subst (λ (n : VolumeNode). IsLaterNode (run.nodes t i) n) (sym says.new_is) left
 kept_after run t i (IsAdmitted e) new had says same =
-    let left : IsLaterNode (run.nodes t i) (node_of (run.nodes t i).birth true (run.engines e).generation says.vote (run.nodes t i).content) = record {
+    let left : IsLaterNode (run.nodes t i) (volume_node (run.nodes t i).birth true (run.engines e).generation says.vote (run.nodes t i).content) = record {
       member = λ m. refl;
       generation = λ m. absurd (says.out m);
       accepted = none_upto (run.nodes t i).accepted says.vote (had.outside says.out);

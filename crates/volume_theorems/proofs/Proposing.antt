@@ -6,7 +6,7 @@ use Rattle.redo_core.proofs.Members.{none_in}
 use Rattle.volume_theorems.specs.Nodes.{Content, Vote, VolumeNode}
 use Rattle.volume_theorems.specs.Runs.{VolumeRun, Move}
 use Rattle.volume_theorems.specs.Runs.Move.{Rests, ComesFresh, Learns, IsReplaced, IsCreated, IsFenced, Accepts, IsAdmitted}
-use Rattle.volume_theorems.specs.Opening.{HasAsked, IsSent}
+use Rattle.volume_theorems.specs.Opening.{HasAsked, IsCutSent}
 use Rattle.volume_theorems.specs.Proposing.{MayPropose}
 use Rattle.volume_theorems.specs.Protocol.{FollowsProtocol, IsVoting, IsEntering, Moves}
 use Rattle.volume_theorems.proofs.Orders.{by_time}
@@ -101,26 +101,26 @@ pub votes_proposed : (run : VolumeRun) (t j : ℕ) → FollowsProtocol run → I
 votes_proposed run t j is = by_time (AllProposed run) (λ x earlier. proposed_at run x is earlier) t j
 
 -- ---- truncations
-sent_later : (run : VolumeRun) (s t : ℕ) (c : CutData) → s ≤ t → IsSent run s c → IsSent run t c
+sent_later : (run : VolumeRun) (s t : ℕ) (c : CutData) → s ≤ t → IsCutSent run s c → IsCutSent run t c
 sent_later run s t c upto sent =
     (sent.0, sent.1, (sent.2.0, sent.2.1, λ i among. let x = sent.2.2 i among in let before : x.0 < s = x.1 in (x.0, omega arith, x.2)))
 
 abbrev pub AllSent : VolumeRun → ℕ → Type 0
-AllSent run t = (j : ℕ) (c : CutData) → Contains (run.nodes t j).content.cuts c → IsSent run t c
+AllSent run t = (j : ℕ) (c : CutData) → Contains (run.nodes t j).content.cuts c → IsCutSent run t c
 
 content_as : (run : VolumeRun) (t : ℕ) (old new : VolumeNode) (c : CutData) → new.content ≡ old.content
-    → ((x : CutData) → Contains old.content.cuts x → IsSent run t x) → Contains new.content.cuts c → IsSent run (suc t) c
+    → ((x : CutData) → Contains old.content.cuts x → IsCutSent run t x) → Contains new.content.cuts c → IsCutSent run (suc t) c
 content_as run t old new c same had inside =
     sent_later run t (suc t) c (omega arith) (had c (subst (λ (x : Content). Contains x.cuts c) same inside))
 
 sent_after : (run : VolumeRun) (t i : ℕ) (m : Move) (old new : VolumeNode) (c : CutData)
-    → ((x : CutData) → Contains old.content.cuts x → IsSent run t x) → Moves run t i m old new → Contains new.content.cuts c → IsSent run (suc t) c
+    → ((x : CutData) → Contains old.content.cuts x → IsCutSent run t x) → Moves run t i m old new → Contains new.content.cuts c → IsCutSent run (suc t) c
 sent_after run t i Rests old new c had says inside = content_as run t old new c (ap (λ (n : VolumeNode). n.content) says) had inside
 sent_after run t i ComesFresh old new c had says inside =
     absurd (none_in c (subst (λ (cuts : List CutData). Contains cuts c) says.nothing.cuts inside))
 sent_after run t i Learns old new c had says inside = ⊎_elim
     (λ (known : Contains old.content.cuts c). sent_later run t (suc t) c (omega arith) (had c known))
-    (λ (sent : IsSent run t c). sent_later run t (suc t) c (omega arith) sent)
+    (λ (sent : IsCutSent run t c). sent_later run t (suc t) c (omega arith) sent)
     (says.sent c inside)
 sent_after run t i IsReplaced old new c had says inside = sent_later run t (suc t) c (omega arith) (says.sent c inside)
 sent_after run t i IsCreated old new c had says inside = content_as run t old new c (ap (λ (n : VolumeNode). n.content) says.new_is) had inside

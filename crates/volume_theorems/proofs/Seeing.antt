@@ -1,9 +1,9 @@
 -- What a quorum had under one generation is found by each engine of a higher one.
 use Rattle.std.proofs.Common.{◌≡◌, ◌≢◌, ℕ, suc, ◌<◌, ◌≤◌, ◌⊎◌, ⊎_elim, Option, Some, refl, sym, ◌∙◌, subst, ap, arith, IsTrue}
 use Rattle.volume_theorems.specs.Nodes.{Content, Vote, VolumeNode, IsOfGeneration, VoteUpTo, GrowsTo}
-use Rattle.volume_theorems.specs.Runs.{VolumeRun, Move, Makes, IsOneBirth, Many}
+use Rattle.volume_theorems.specs.Runs.{VolumeRun, Move, MakesMove, IsOneBirth, Many}
 use Rattle.volume_theorems.specs.Runs.Move.{Rests, ComesFresh, Learns, IsReplaced, IsCreated, IsFenced, Accepts, IsAdmitted}
-use Rattle.volume_theorems.specs.Opening.{IsAmong, HasGathered, HasAsked, AnswersUnder, IsUnion}
+use Rattle.volume_theorems.specs.Opening.{IsInQuorum, HasGathered, HasAsked, AnswersUnder, IsUnion}
 use Rattle.volume_theorems.specs.Protocol.{FollowsProtocol, IsFirstMember, IsEntering}
 use Rattle.volume_theorems.specs.Lives.{IsLaterNode}
 use Rattle.volume_theorems.specs.Standing.{StandsFrom}
@@ -20,7 +20,7 @@ use Rattle.volume_theorems.proofs.Entering.{Enters, HasEntered, has_entered}
 -- a node of its quorum, when that was fenced.
 pub record IsHandedOn (run : VolumeRun) (Has : ℕ → ℕ → Type 0) : Type 0 where
   pub keeps : (t i : ℕ) → IsOneBirth run i t (suc t) → IsTrue (run.nodes t i).is_member → Has t i → Has (suc t) i
-  pub passes : (t i e j : ℕ) → Makes run t i (IsAdmitted e) → IsAmong run e j → Has ((run.engines e).fenced j) j → Has (suc t) i
+  pub passes : (t i e j : ℕ) → MakesMove run t i (IsAdmitted e) → IsInQuorum run e j → Has ((run.engines e).fenced j) j → Has (suc t) i
 
 -- at some moment at which the node answers what the engine asks under its generation, it had it
 abbrev pub HadUnder : VolumeRun → ℕ → (ℕ → ℕ → Type 0) → ℕ → Type 0
@@ -28,14 +28,14 @@ HadUnder run e Has i = (t : ℕ) × AnswersUnder run e t i × Has t i
 
 -- the engine found it at a node of its quorum
 abbrev pub Finds : VolumeRun → ℕ → (ℕ → ℕ → Type 0) → Type 0
-Finds run f Has = (j : ℕ) × IsAmong run f j × Has ((run.engines f).fenced j) j
+Finds run f Has = (j : ℕ) × IsInQuorum run f j × Has ((run.engines f).fenced j) j
 
-pub own_quorum : (run : VolumeRun) (e : ℕ) → HasGathered run e → Many run (IsAmong run e)
+pub own_quorum : (run : VolumeRun) (e : ℕ) → HasGathered run e → Many run (IsInQuorum run e)
 own_quorum run e has = ((run.engines e).quorum, has.many, λ i among. among)
 
-pub some_among : (run : VolumeRun) (e : ℕ) → FollowsProtocol run → HasGathered run e → (i : ℕ) × IsAmong run e i
+pub some_among : (run : VolumeRun) (e : ℕ) → FollowsProtocol run → HasGathered run e → (i : ℕ) × IsInQuorum run e i
 some_among run e is has =
-    let met = quorums_meet run (IsAmong run e) (IsAmong run e) is (own_quorum run e has) (own_quorum run e has) in
+    let met = quorums_meet run (IsInQuorum run e) (IsInQuorum run e) is (own_quorum run e has) (own_quorum run e has) in
     (met.0, met.1)
 
 -- ---- a node of both quorums, where it had it in another birth than the one that was fenced
@@ -90,7 +90,7 @@ module _ (run : VolumeRun) (e : ℕ) (Has : ℕ → ℕ → Type 0) (is : Follow
       both.1
 
   had_since : (j x y a n : ℕ) (m : Move) → IsElsewhere run e j x y → ((s : ℕ) → s < n → AllFind run e Has s) → a < y → y < n
-      → IsOneBirth run j a y → IsOneBirth run j (suc a) y → Makes run a j m → Enters m → Has y j
+      → IsOneBirth run j a y → IsOneBirth run j (suc a) y → MakesMove run a j m → Enters m → Has y j
   had_since j x y a n IsCreated w earlier first last same since makes enters =
       absurd (created_apart run e j x y a (run.nodes (suc a) j) is w same (made run a j IsCreated is makes))
   had_since j x y a n (IsAdmitted f) w earlier first last same since makes enters =
@@ -109,7 +109,7 @@ module _ (run : VolumeRun) (e : ℕ) (Has : ℕ → ℕ → Type 0) (is : Follow
   had_since j x y a n (IsFenced f) w earlier first last same since makes enters = absurd enters
   had_since j x y a n (Accepts f k) w earlier first last same since makes enters = absurd enters
 
-  had_when_fenced : (f t j x n : ℕ) → ((s : ℕ) → s < n → AllFind run e Has s) → (run.engines f).gathered ≡ n → HasAsked run f t → IsAmong run f j
+  had_when_fenced : (f t j x n : ℕ) → ((s : ℕ) → s < n → AllFind run e Has s) → (run.engines f).gathered ≡ n → HasAsked run f t → IsInQuorum run f j
       → (run.engines e).generation < (run.engines f).generation → HasAsked run e x
       → IsOfGeneration (run.nodes x j) (run.engines e).generation → Has x j → Has ((run.engines f).fenced j) j
   had_when_fenced f t j x n earlier now asked among higher own under had =
@@ -149,7 +149,7 @@ module _ (run : VolumeRun) (e : ℕ) (Has : ℕ → ℕ → Type 0) (is : Follow
 
   all_find : Many run (HadUnder run e Has) → (n : ℕ) → AllFind run e Has n
   all_find many = by_time (AllFind run e Has) (λ n earlier f t now asked higher.
-      let met = quorums_meet run (HadUnder run e Has) (IsAmong run f) is many (own_quorum run f asked.gathered) in
+      let met = quorums_meet run (HadUnder run e Has) (IsInQuorum run f) is many (own_quorum run f asked.gathered) in
       let had = met.1 in
       (met.0, met.2, had_when_fenced f t met.0 had.0 n earlier now asked met.2 higher had.1.asked had.1.under had.2))
 
@@ -177,7 +177,7 @@ votes_are_seen run e f vote best t is many asked higher greatest =
 
 -- ---- contents
 -- what a node had when it was fenced, and more, is in the union
-pub fenced_in_union : (run : VolumeRun) (e t j : ℕ) (u : Content) → FollowsProtocol run → IsUnion run e t u → IsAmong run e j
+pub fenced_in_union : (run : VolumeRun) (e t j : ℕ) (u : Content) → FollowsProtocol run → IsUnion run e t u → IsInQuorum run e j
     → (p : ℕ) × (p < t) × GrowsTo (run.nodes p j).content u × GrowsTo (run.nodes ((run.engines e).fenced j) j).content (run.nodes p j).content
 fenced_in_union run e t j u is union among =
     let of = union.of_all j among in
@@ -187,7 +187,7 @@ fenced_in_union run e t j u is union among =
     one_birth run j ((run.engines e).fenced j) of.0 is (omega arith) of.2.birth in
     (of.0, of.1, of.3, later.content (raised run e j is union.gathered among).member)
 
-epoch_in_union : (run : VolumeRun) (e t j epoch : ℕ) (u : Content) → FollowsProtocol run → IsUnion run e t u → IsAmong run e j
+epoch_in_union : (run : VolumeRun) (e t j epoch : ℕ) (u : Content) → FollowsProtocol run → IsUnion run e t u → IsInQuorum run e j
     → epoch ≤ (run.nodes ((run.engines e).fenced j) j).content.epoch → epoch ≤ u.epoch
 epoch_in_union run e t j epoch u is union among had =
     let of = fenced_in_union run e t j u is union among in

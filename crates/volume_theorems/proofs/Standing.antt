@@ -1,9 +1,9 @@
 -- What an engine that has asked its quorum may rely on.
 use Rattle.std.proofs.Common.{◌≡◌, ℕ, zero, suc, ◌<◌, ◌≤◌, ◌⊎◌, ⊎_elim, sym, ◌∙◌, subst, ap, arith, IsTrue}
 use Rattle.volume_theorems.specs.Nodes.{VolumeNode, IsOfGeneration}
-use Rattle.volume_theorems.specs.Runs.{VolumeRun, Move, Makes, IsOneBirth}
+use Rattle.volume_theorems.specs.Runs.{VolumeRun, Move, MakesMove, IsOneBirth}
 use Rattle.volume_theorems.specs.Runs.Move.{Rests, ComesFresh, Learns, IsReplaced, IsCreated, IsFenced, Accepts, IsAdmitted}
-use Rattle.volume_theorems.specs.Opening.{IsAmong, HasGathered, HasShown, HasAsked}
+use Rattle.volume_theorems.specs.Opening.{IsInQuorum, HasGathered, HasShown, HasAsked}
 use Rattle.volume_theorems.specs.Protocol.{FollowsProtocol, IsRaised, Moves}
 use Rattle.volume_theorems.specs.Lives.{IsLaterNode}
 use Rattle.volume_theorems.specs.Standing.{IsNotBelow, QuorumsStand, OneOfGeneration}
@@ -33,7 +33,7 @@ pub record IsHeld (run : VolumeRun) (e i t : ℕ) : Type 0 where
   pub under : IsOfGeneration (run.nodes t i) (run.engines e).generation
   pub birth : IsOneBirth run i ((run.engines e).fenced i) t
 
-held_until : (run : VolumeRun) (e i p q : ℕ) → FollowsProtocol run → HasGathered run e → IsAmong run e i → HasShown run e i p
+held_until : (run : VolumeRun) (e i p q : ℕ) → FollowsProtocol run → HasGathered run e → IsInQuorum run e i → HasShown run e i p
     → (run.engines e).fenced i < q → q ≤ p → IsHeld run e i q
 held_until run e i p q is has among shown first last =
     let f : ℕ = (run.engines e).fenced i in
@@ -48,7 +48,7 @@ held_until run e i p q is has among shown first last =
     let end : (run.nodes p i).generation ≡ (run.engines e).generation = shown.under.1 in
     record { under = (member, omega arith); birth = here }
 
-pub held_when_gathered : (run : VolumeRun) (e t i : ℕ) → FollowsProtocol run → HasAsked run e t → IsAmong run e i
+pub held_when_gathered : (run : VolumeRun) (e t i : ℕ) → FollowsProtocol run → HasAsked run e t → IsInQuorum run e i
     → IsHeld run e i (run.engines e).gathered
 held_when_gathered run e t i is asked among =
     let of = asked.shown i among in
@@ -57,14 +57,14 @@ held_when_gathered run e t i is asked among =
 -- ---- from then on
 -- the nodes of every quorum that was gathered by the moment
 abbrev pub AllStand : VolumeRun → ℕ → Type 0
-AllStand run t = (e s i : ℕ) → HasAsked run e s → IsAmong run e i → (run.engines e).gathered ≤ t → IsNotBelow (run.nodes t i) (run.engines e).generation
+AllStand run t = (e s i : ℕ) → HasAsked run e s → IsInQuorum run e i → (run.engines e).gathered ≤ t → IsNotBelow (run.nodes t i) (run.engines e).generation
 
 -- an engine that has gathered its quorum later is of no lower generation, if all stand at that moment
 higher_since : (run : VolumeRun) (e f s t : ℕ) → FollowsProtocol run → HasAsked run e s → HasAsked run f t
     → (run.engines e).gathered ≤ (run.engines f).gathered → AllStand run (run.engines f).gathered
     → (run.engines e).generation ≤ (run.engines f).generation
 higher_since run e f s t is one other order stand =
-    let met = quorums_meet run (IsAmong run e) (IsAmong run f) is
+    let met = quorums_meet run (IsInQuorum run e) (IsInQuorum run f) is
     ((run.engines e).quorum, one.gathered.many, λ i among. among) ((run.engines f).quorum, other.gathered.many, λ i among. among) in
     let held : IsHeld run f met.0 (run.engines f).gathered = held_when_gathered run f t met.0 is other met.2 in
     let upto : (run.engines e).generation ≤ (run.nodes (run.engines f).gathered met.0).generation = stand e s met.0 one met.1 order held.under.0 in
@@ -72,7 +72,7 @@ higher_since run e f s t is one other order stand =
     omega arith
 
 -- a node that is in a birth that had begun when the quorum was gathered is still a member
-still_member : (run : VolumeRun) (e s i r q : ℕ) → FollowsProtocol run → HasAsked run e s → IsAmong run e i
+still_member : (run : VolumeRun) (e s i r q : ℕ) → FollowsProtocol run → HasAsked run e s → IsInQuorum run e i
     → r ≤ (run.engines e).gathered → (run.engines e).gathered ≤ q → IsOneBirth run i r q → IsTrue (run.nodes q i).is_member
 still_member run e s i r q is asked among first last same =
     let held : IsHeld run e i (run.engines e).gathered = held_when_gathered run e s i is asked among in
@@ -83,7 +83,7 @@ still_member run e s i r q is asked among first last same =
 pub record StandsBefore (run : VolumeRun) (e i q : ℕ) : Type 0 where
   pub asked_by : ℕ
   pub asked : HasAsked run e asked_by
-  pub among : IsAmong run e i
+  pub among : IsInQuorum run e i
   pub gathered : (run.engines e).gathered ≤ q
   pub all : (s : ℕ) → s ≤ q → AllStand run s
 
@@ -140,7 +140,7 @@ next_stands run e i q is b =
     (λ says. stands_after run e i q (run.moves q) (run.nodes (suc q) i) is b had says.1)
     (goes_on run q i is)
 
-stands_now : (run : VolumeRun) (e s i t : ℕ) → FollowsProtocol run → HasAsked run e s → IsAmong run e i → (run.engines e).gathered ≡ t
+stands_now : (run : VolumeRun) (e s i t : ℕ) → FollowsProtocol run → HasAsked run e s → IsInQuorum run e i → (run.engines e).gathered ≡ t
     → IsNotBelow (run.nodes t i) (run.engines e).generation
 stands_now run e s i t is asked among now =
     let held : IsHeld run e i (run.engines e).gathered = held_when_gathered run e s i is asked among in
@@ -148,7 +148,7 @@ stands_now run e s i t is asked among now =
     let here : IsNotBelow (run.nodes (run.engines e).gathered i) (run.engines e).generation = λ m. omega arith in
     subst (λ (x : ℕ). IsNotBelow (run.nodes x i) (run.engines e).generation) now here
 
-stands_next : (run : VolumeRun) (t : ℕ) → FollowsProtocol run → ((s : ℕ) → s < t → AllStand run s) → (e s i : ℕ) → HasAsked run e s → IsAmong run e i
+stands_next : (run : VolumeRun) (t : ℕ) → FollowsProtocol run → ((s : ℕ) → s < t → AllStand run s) → (e s i : ℕ) → HasAsked run e s → IsInQuorum run e i
     → (run.engines e).gathered < t → IsNotBelow (run.nodes t i) (run.engines e).generation
 stands_next run zero is earlier e s i asked among before = absurd (omega arith)
 stands_next run (suc q) is earlier e s i asked among before =
@@ -187,7 +187,7 @@ same_fence run e f s t here one other =
 same_engine : (run : VolumeRun) (e f s t : ℕ) → FollowsProtocol run → HasAsked run e s → HasAsked run f t
     → (run.engines e).generation ≡ (run.engines f).generation → (run.engines e).gathered ≤ (run.engines f).gathered → e ≡ f
 same_engine run e f s t is one other same order =
-    let met = quorums_meet run (IsAmong run e) (IsAmong run f) is
+    let met = quorums_meet run (IsInQuorum run e) (IsInQuorum run f) is
     ((run.engines e).quorum, one.gathered.many, λ i among. among) ((run.engines f).quorum, other.gathered.many, λ i among. among) in
     let j : ℕ = met.0 in
     let x : ℕ = (run.engines e).fenced j in
@@ -212,8 +212,8 @@ same_engine run e f s t is one other same order =
     let own_again : (run.nodes (suc y) j).generation ≡ (run.engines f).generation = left_again.under.1 in
     ⊎_elim
     (λ (here : x ≡ y).
-    let fence : Makes run x j (IsFenced e) = one.gathered.fenced j met.1 in
-    let fence_again : Makes run y j (IsFenced f) = other.gathered.fenced j met.2 in
+    let fence : MakesMove run x j (IsFenced e) = one.gathered.fenced j met.1 in
+    let fence_again : MakesMove run y j (IsFenced f) = other.gathered.fenced j met.2 in
     same_fence run e f x y here fence.1 fence_again.1)
     (λ apart. ⊎_elim
     (λ (first : x < y).

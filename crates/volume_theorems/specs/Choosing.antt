@@ -2,14 +2,14 @@
 use Rattle.std.specs.Prelude.{◌≡◌, ℕ}
 use Rattle.std.specs.List.{Contains}
 use Rattle.redo_core.specs.Data.{CutData}
-use Rattle.volume_theorems.specs.Runs.{VolumeRun, Makes, Many}
+use Rattle.volume_theorems.specs.Runs.{VolumeRun, MakesMove, Many}
 use Rattle.volume_theorems.specs.Runs.Move.{Accepts}
 use Rattle.volume_theorems.specs.Protocol.{FollowsProtocol}
 
 -- a quorum has accepted the truncation, under one generation
 abbrev pub IsChosen : VolumeRun → ℕ → CutData → Type 0
 IsChosen run generation c =
-    Many run (λ i. (s e : ℕ) × Makes run s i (Accepts e c.epoch)
+    Many run (λ i. (s e : ℕ) × MakesMove run s i (Accepts e c.epoch)
     × ((run.engines e).generation ≡ generation) × ((run.engines e).cuts c.epoch ≡ c))
 
 -- Two chosen truncations of one epoch are equal.
@@ -27,7 +27,7 @@ OnlyChosen =
 -- a quorum has accepted the truncation that the engine made itself
 pub record HasOpened (run : VolumeRun) (e epoch : ℕ) : Type 0 where
   pub own : (run.engines e).opens ≡ epoch
-  pub accepted : Many run (λ i. (s : ℕ) × Makes run s i (Accepts e epoch))
+  pub accepted : Many run (λ i. (s : ℕ) × MakesMove run s i (Accepts e epoch))
 
 -- At most one engine opens an epoch, so at most one writes in it.
 abbrev pub OneWriter : Type 0

@@ -52,16 +52,16 @@ pub record GrowsTo (old new : Content) : Type 0 where
       → ((c : CutData) → Contains new.cuts c → old.epoch < c.epoch → c.epoch ≤ new.epoch → p ≤ c.lo) → Contains new.points p
 
 -- ---- what a move changes
-abbrev pub node_of : ℕ → Bool → ℕ → Option Vote → Content → VolumeNode
-node_of birth is_member generation accepted content =
+abbrev pub volume_node : ℕ → Bool → ℕ → Option Vote → Content → VolumeNode
+volume_node birth is_member generation accepted content =
     record { birth = birth; is_member = is_member; generation = generation; accepted = accepted; content = content }
 
 abbrev pub with_content : VolumeNode → Content → VolumeNode
-with_content n content = node_of n.birth n.is_member n.generation n.accepted content
+with_content n content = volume_node n.birth n.is_member n.generation n.accepted content
 
 abbrev pub with_generation : VolumeNode → ℕ → VolumeNode
-with_generation n generation = node_of n.birth n.is_member generation n.accepted n.content
+with_generation n generation = volume_node n.birth n.is_member generation n.accepted n.content
 
 abbrev pub with_vote : VolumeNode → ℕ → CutData → VolumeNode
 with_vote n generation cut =
-    node_of n.birth n.is_member n.generation (Some (record { generation = generation; cut = cut })) n.content
+    volume_node n.birth n.is_member n.generation (Some (record { generation = generation; cut = cut })) n.content

@@ -4,7 +4,7 @@ use Rattle.std.specs.List.{Contains}
 use Rattle.redo_core.specs.Data.{CutData}
 use Rattle.volume_theorems.specs.Nodes.{Content, Vote}
 use Rattle.volume_theorems.specs.Runs.{VolumeRun, IsOneBirth}
-use Rattle.volume_theorems.specs.Opening.{IsUnion, IsKnown, IsBest}
+use Rattle.volume_theorems.specs.Opening.{IsUnion, IsKnownToMany, IsBest}
 
 -- the vote is for the truncation
 abbrev pub IsVoteFor : Option Vote → CutData → Type 0
@@ -17,7 +17,7 @@ IsOfEpoch None epoch = ⊥
 IsOfEpoch (Some vote) epoch = vote.cut.epoch ≡ epoch
 
 -- the engine proposes the truncation that is pending
-pub record Adopts (run : VolumeRun) (e k : ℕ) (best : Option Vote) : Type 0 where
+pub record AdoptsPending (run : VolumeRun) (e k : ℕ) (best : Option Vote) : Type 0 where
   pub below : k < (run.engines e).opens
   pub pending : IsVoteFor best ((run.engines e).cuts k)
 
@@ -35,10 +35,10 @@ pub record MayPropose (run : VolumeRun) (e k t : ℕ) : Type 0 where
   pub unites : IsUnion run e t union
   pub next : k ≡ suc union.epoch
   pub of_epoch : ((run.engines e).cuts k).epoch ≡ k
-  pub known : IsKnown run e t union ((run.engines e).cuts k).lo
+  pub known : IsKnownToMany run e t union ((run.engines e).cuts k).lo
   pub best : Option Vote
   pub greatest : IsBest run e best
-  pub choice : Adopts run e k best ⊎ MakesOwn run e k union best
+  pub choice : AdoptsPending run e k best ⊎ MakesOwn run e k union best
 
 -- The engine admits node i with the vote, at the moment t: before it had gathered its quorum the node answered that it was no member, in the
 -- birth that it is in now; and the node has come as far as the union.

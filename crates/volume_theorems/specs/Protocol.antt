@@ -2,10 +2,10 @@
 use Rattle.std.specs.Prelude.{◌≡◌, ◌≢◌, ℕ, suc, ◌+◌, ◌<◌, ◌≤◌, ◌⊎◌, true, Option, Some, None, IsTrue}
 use Rattle.std.specs.List.{Contains}
 use Rattle.redo_core.specs.Data.{CutData}
-use Rattle.volume_theorems.specs.Nodes.{Vote, VolumeNode, HasNothing, IsOfGeneration, GrowsTo, node_of, with_content, with_generation, with_vote}
+use Rattle.volume_theorems.specs.Nodes.{Vote, VolumeNode, HasNothing, IsOfGeneration, GrowsTo, volume_node, with_content, with_generation, with_vote}
 use Rattle.volume_theorems.specs.Runs.{VolumeRun, Move}
 use Rattle.volume_theorems.specs.Runs.Move.{Rests, ComesFresh, Learns, IsReplaced, IsCreated, IsFenced, Accepts, IsAdmitted}
-use Rattle.volume_theorems.specs.Opening.{IsSent}
+use Rattle.volume_theorems.specs.Opening.{IsCutSent}
 use Rattle.volume_theorems.specs.Proposing.{MayPropose, MayAdmit}
 
 -- the vote is of this generation and of a later epoch
@@ -22,20 +22,20 @@ pub record IsReborn (run : VolumeRun) (t i : ℕ) (new : VolumeNode) : Type 0 wh
 pub record IsMore (run : VolumeRun) (t : ℕ) (old new : VolumeNode) : Type 0 where
   pub same : new ≡ with_content old new.content
   pub grows : GrowsTo old.content new.content
-  pub sent : (c : CutData) → Contains new.content.cuts c → Contains old.content.cuts c ⊎ IsSent run t c
+  pub sent : (c : CutData) → Contains new.content.cuts c → Contains old.content.cuts c ⊎ IsCutSent run t c
 
 -- no member loses its segment
 pub record IsExchanged (run : VolumeRun) (t : ℕ) (old new : VolumeNode) : Type 0 where
   pub out : ¬ (IsTrue old.is_member)
   pub same : new ≡ with_content old new.content
-  pub sent : (c : CutData) → Contains new.content.cuts c → IsSent run t c
+  pub sent : (c : CutData) → Contains new.content.cuts c → IsCutSent run t c
 
 -- The engine that creates the volume has heard twice from all nodes that they are no members, in the same birth. The run begins between
 -- the two answers, so it names the births that the nodes begin with.
 pub record IsFirstMember (run : VolumeRun) (i : ℕ) (old new : VolumeNode) : Type 0 where
   pub out : ¬ (IsTrue old.is_member)
   pub birth : old.birth ≡ (run.nodes 0 i).birth
-  pub new_is : new ≡ node_of old.birth true 1 None old.content
+  pub new_is : new ≡ volume_node old.birth true 1 None old.content
 
 -- only a member is fenced, and only to a generation above its own
 pub record IsRaised (run : VolumeRun) (e : ℕ) (old new : VolumeNode) : Type 0 where
@@ -54,7 +54,7 @@ pub record IsEntering (run : VolumeRun) (t e i : ℕ) (old new : VolumeNode) : T
   pub out : ¬ (IsTrue old.is_member)
   pub vote : Option Vote
   pub admits : MayAdmit run e i t vote
-  pub new_is : new ≡ node_of old.birth true (run.engines e).generation vote old.content
+  pub new_is : new ≡ volume_node old.birth true (run.engines e).generation vote old.content
 
 -- the move may be made by node i at the moment t, and leads from the old node to the new one
 abbrev pub Moves : VolumeRun → ℕ → ℕ → Move → VolumeNode → VolumeNode → Type 0

@@ -46,8 +46,8 @@ pub record VolumeRun : Type 0 where
   pub nodes : ℕ → ℕ → VolumeNode
 
 -- at the moment t node i makes this move
-abbrev pub Makes : VolumeRun → ℕ → ℕ → Move → Type 0
-Makes run t i move = (run.actor t ≡ i) × (run.moves t ≡ move)
+abbrev pub MakesMove : VolumeRun → ℕ → ℕ → Move → Type 0
+MakesMove run t i move = (run.actor t ≡ i) × (run.moves t ≡ move)
 
 -- at the two moments the node is in the same birth
 abbrev pub IsOneBirth : VolumeRun → ℕ → ℕ → ℕ → Type 0

@@ -2,7 +2,7 @@
 use Rattle.std.specs.Prelude.{◌≡◌, ℕ, ◌≤◌, IsTrue}
 use Rattle.volume_theorems.specs.Nodes.{VolumeNode, IsOfGeneration}
 use Rattle.volume_theorems.specs.Runs.{VolumeRun, IsOneBirth}
-use Rattle.volume_theorems.specs.Opening.{IsAmong, HasAsked}
+use Rattle.volume_theorems.specs.Opening.{IsInQuorum, HasAsked}
 use Rattle.volume_theorems.specs.Protocol.{FollowsProtocol}
 
 -- the node is no member, or of this generation or a higher one
@@ -17,7 +17,7 @@ pub record StandsFrom (run : VolumeRun) (e i : ℕ) : Type 0 where
   pub since : (t : ℕ) → (run.engines e).gathered ≤ t → IsNotBelow (run.nodes t i) (run.engines e).generation
 
 abbrev pub QuorumsStand : Type 0
-QuorumsStand = (run : VolumeRun) (e t i : ℕ) → FollowsProtocol run → HasAsked run e t → IsAmong run e i → StandsFrom run e i
+QuorumsStand = (run : VolumeRun) (e t i : ℕ) → FollowsProtocol run → HasAsked run e t → IsInQuorum run e i → StandsFrom run e i
 
 -- Of engines with one generation at most one has asked its whole quorum.
 abbrev pub OneOfGeneration : Type 0

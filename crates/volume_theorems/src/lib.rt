@@ -3,8 +3,8 @@
 //!
 //! A run (`specs/Runs`) has what each engine decides, and one move of one node a moment. A node may make a move that executes a request
 //! (`specs/Protocol`) at any moment, once or many times, as long as the engine could have sent that request before; and what an engine has
-//! sent depends only on answers that were given before, which it may have heard at any time (`specs/Opening`, `specs/Proposing`). That
-//! stands for every order of messages, for loss, and for repetition.
+//! sent depends only on answers that were given before, which it may have heard at any time (`specs/Opening`, `specs/Proposing`). So
+//! requests and answers may be late, repeated or lost.
 //!
 //! `one_birth`, `no_return`: what a node never takes back. `quorums_stand`, `one_of_generation`, `votes_are_seen`, `epochs_are_seen`: what an engine may rely on
 //! once its quorum has answered. `one_truncation`, `only_chosen`, `one_writer`: agreement on the truncation of each epoch.
