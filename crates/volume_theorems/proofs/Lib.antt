@@ -9,3 +9,4 @@ pub mod Seeing
 pub mod Proposing
 pub mod Choosing
 pub mod Lasting
+pub mod Sample

@@ -9,3 +9,4 @@ pub mod Standing
 pub mod Seeing
 pub mod Choosing
 pub mod Lasting
+pub mod Sample

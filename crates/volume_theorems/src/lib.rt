@@ -9,12 +9,14 @@
 //! `one_birth`, `no_return`: what a node never takes back. `quorums_stand`, `one_of_generation`, `votes_are_seen`, `epochs_are_seen`: what an engine may rely on
 //! once its quorum has answered. `one_truncation`, `only_chosen`, `one_writer`: agreement on the truncation of each epoch.
 //! `durable_lasts`, `opens_above`, `lo_rises`, `lo_is_point`: what was durable stays durable, and only whole commits are kept.
+//! `some_run`: the rules can be followed.
 #![tactic(auto)]
 
 ghost use Rattle.volume_theorems.specs.Lives.{OneBirth, NoReturn};
 ghost use Rattle.volume_theorems.specs.Standing.{QuorumsStand, OneOfGeneration};
 ghost use Rattle.volume_theorems.specs.Seeing.{VotesAreSeen, EpochsAreSeen};
 ghost use Rattle.volume_theorems.specs.Choosing.{OneTruncation, OnlyChosen, OneWriter};
+ghost use Rattle.volume_theorems.specs.Sample.{SomeRun};
 ghost use Rattle.volume_theorems.specs.Lasting.{DurableLasts, OpensAbove, LoRises, LoIsPoint};
 
 /// In one birth a member stays one, its generation does not fall, and its accepted truncation and its facts only rise.
@@ -80,4 +82,9 @@ pub fn lo_rises()
 /// `lo` of a chosen truncation is a commit point, or 0.
 pub fn lo_is_point()
     ensures { LoIsPoint }
+{}
+
+/// There is a run that follows the rules, with a commit point that is durable.
+pub fn some_run()
+    ensures { SomeRun }
 {}
