@@ -1,0 +1,47 @@
+"""The volume model keeps to the rules that the theorems of `volume_theorems` assume; most of its wrong implementations do not."""
+
+import time
+
+import pytest
+from model.volume_rules import faults, trace
+from model.volume_schedules import OPTIONS, SCHEDULES, Random, Schedule, show
+
+# What the rules do not speak of: records, when they are written, their backlinks and advances, and what readers conclude.
+OUTSIDE = {
+    "advances_above_the_durable_point",
+    "leaves_out_block_backlinks",
+    "reader_counts_plain_fronts",
+    "writes_before_the_truncation_is_chosen",
+    "writes_page_0_first",
+}
+
+
+def directed(name, mutants):
+    schedule = Schedule(mutants=mutants, **OPTIONS.get(name, {}))
+    SCHEDULES[name](schedule)
+    return schedule
+
+
+@pytest.mark.parametrize("name", SCHEDULES)
+def test_directed_schedule_keeps_to_the_rules(name):
+    schedule = directed(name, ())
+    run = trace(schedule.moves, **schedule.options)
+    assert faults(run) == [], show(schedule.moves, **schedule.options)
+    assert run.steps
+
+
+@pytest.mark.parametrize("mutant", sorted(set(SCHEDULES) - OUTSIDE))
+def test_mutant_breaks_a_rule(mutant):
+    schedule = directed(mutant, (mutant,))
+    assert faults(trace(schedule.moves, **schedule.options)), show(schedule.moves, **schedule.options)
+
+
+@pytest.mark.parametrize("nodes, quorum", [(3, 2), (4, 3), (6, 4)])
+def test_random_schedules_keep_to_the_rules(rng, nodes, quorum):
+    world, end, proposals = {"nodes": nodes, "quorum": quorum}, time.monotonic() + 5, 0
+    while time.monotonic() < end or not proposals:
+        run = Random(rng, **world)
+        run.run(rng.choice((30, 60, 100)))
+        traced = trace(run.moves, **world)
+        proposals += sum(len(decided.unions) for decided in traced.decided.values())
+        assert faults(traced) == [], show(run.moves, **world)
