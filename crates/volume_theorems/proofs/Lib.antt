@@ -10,3 +10,4 @@ pub mod Proposing
 pub mod Choosing
 pub mod Lasting
 pub mod Sample
+pub mod Contents

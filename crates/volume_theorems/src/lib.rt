@@ -9,13 +9,14 @@
 //! `one_birth`, `no_return`: what a node never takes back. `quorums_stand`, `one_of_generation`, `votes_are_seen`, `epochs_are_seen`: what an engine may rely on
 //! once its quorum has answered. `one_truncation`, `only_chosen`, `one_writer`: agreement on the truncation of each epoch.
 //! `durable_lasts`, `opens_above`, `lo_rises`, `lo_is_point`: what was durable stays durable, and only whole commits are kept.
-//! `some_run`: the rules can be followed.
+//! `parts_grow`, `fronts_reach`: what segments of a sound log have keeps to the rules. `some_run`: the rules can be followed.
 #![tactic(auto)]
 
 ghost use Rattle.volume_theorems.specs.Lives.{OneBirth, NoReturn};
 ghost use Rattle.volume_theorems.specs.Standing.{QuorumsStand, OneOfGeneration};
 ghost use Rattle.volume_theorems.specs.Seeing.{VotesAreSeen, EpochsAreSeen};
 ghost use Rattle.volume_theorems.specs.Choosing.{OneTruncation, OnlyChosen, OneWriter};
+ghost use Rattle.volume_theorems.specs.Contents.{PartsGrow, FrontsReach};
 ghost use Rattle.volume_theorems.specs.Sample.{SomeRun};
 ghost use Rattle.volume_theorems.specs.Lasting.{DurableLasts, OpensAbove, LoRises, LoIsPoint};
 
@@ -82,6 +83,16 @@ pub fn lo_rises()
 /// `lo` of a chosen truncation is a commit point, or 0.
 pub fn lo_is_point()
     ensures { LoIsPoint }
+{}
+
+/// What more facts of a sound log leave is later, as the rules about contents ask.
+pub fn parts_grow()
+    ensures { PartsGrow }
+{}
+
+/// A front at or above a commit point of its epoch has that commit point.
+pub fn fronts_reach()
+    ensures { FrontsReach }
 {}
 
 /// There is a run that follows the rules, with a commit point that is durable.
