@@ -1,0 +1,59 @@
+/* What the connections of a process to one volume share: a handle that reads, one that writes while somebody does, and whose turn it is. */
+#ifndef ENGINE_H
+#define ENGINE_H
+
+#include <sqlite3ext.h>
+
+#include "address.h"
+
+/* A handle of the volume, which is closed once it is retired and nobody uses it. */
+struct handle {
+    struct yieldcleat_volume *volume;
+    unsigned users;
+    bool is_retired;
+};
+
+/* A connection's part: the snapshot that it reads, and how many losses and fences of writers it has heard of. */
+struct member {
+    struct member *next;
+    bool reads;
+    uint64_t point;
+    unsigned losses, fences;
+};
+
+struct engine {
+    struct engine *next;
+    char *place;
+    uint64_t point; /* of the past, or YIELDCLEAT_FOLLOW */
+    unsigned connections;
+    struct yieldcleat_options options;
+    sqlite3_mutex *mutex; /* guards all below */
+    struct handle *reader, *writer;
+    struct member *members;
+    const struct member *owner; /* who is in a write transaction */
+    uint64_t published;         /* of the writer: its newest commit that the other connections see */
+    unsigned losses, fences;    /* writers that were lost, and those of them that were fenced */
+};
+
+/* The engine of a volume, made and opened where the process has none yet; the parameters of the first connection count. */
+int engine_open(const char *place, const struct address *address, bool may_create, struct engine **engine, struct report *report);
+
+/* Gives an engine back; the last connection closes its handles. Null is allowed. */
+void engine_close(struct engine *engine);
+
+/* The writer where there is one, or else the reader, for a call of the volume. */
+struct handle *engine_borrow(struct engine *engine);
+
+/* The writer, or null. */
+struct handle *engine_borrow_writer(struct engine *engine);
+
+/* Gives a handle back with the fault of the call. True where it was a writer that is fenced: the caller may try again, with the reader. */
+bool engine_return(struct engine *engine, struct handle *handle, enum yieldcleat_fault fault);
+
+/* Gives up the writer: it is fenced, or a commit of it is in doubt. */
+void engine_lose_writer(struct engine *engine, const struct handle *handle, enum yieldcleat_fault fault);
+
+/* Makes a handle out of an open volume, or closes the volume and returns null: there is no memory. */
+struct handle *handle_of(struct yieldcleat_volume *volume);
+
+#endif

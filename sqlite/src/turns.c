@@ -1,0 +1,147 @@
+#include "turns.h"
+SQLITE_EXTENSION_INIT3
+
+void turn_join(struct engine *engine, struct member *member) {
+    sqlite3_mutex_enter(engine->mutex);
+    *member = (struct member){.next = engine->members, .losses = engine->losses, .fences = engine->fences};
+    engine->members = member;
+    sqlite3_mutex_leave(engine->mutex);
+}
+
+void turn_leave(struct engine *engine, struct member *member) {
+    sqlite3_mutex_enter(engine->mutex);
+    struct member **link = &engine->members;
+    while (*link != member) link = &(*link)->next;
+    *link = member->next;
+    sqlite3_mutex_leave(engine->mutex);
+}
+
+enum yieldcleat_fault turn_newest(struct engine *engine, uint64_t *point) {
+    struct handle *handle = 0;
+    enum yieldcleat_fault fault = YIELDCLEAT_OK;
+    do {
+        handle = engine_borrow(engine);
+        fault = yieldcleat_volume_newest(handle->volume, point);
+    } while (engine_return(engine, handle, fault));
+    if (fault) return fault;
+    sqlite3_mutex_enter(engine->mutex);
+    if (engine->writer && engine->published > *point) *point = engine->published;
+    sqlite3_mutex_leave(engine->mutex);
+    return YIELDCLEAT_OK;
+}
+
+int turn_read(struct engine *engine, struct member *member, struct report *report) {
+    uint64_t point = 0;
+    enum yieldcleat_fault fault = turn_newest(engine, &point);
+    if (fault) return refuse_fault(report, READING, fault);
+    sqlite3_mutex_enter(engine->mutex);
+    member->point = point;
+    member->reads = true;
+    sqlite3_mutex_leave(engine->mutex);
+    return SQLITE_OK;
+}
+
+void turn_end_read(struct engine *engine, struct member *member) {
+    sqlite3_mutex_enter(engine->mutex);
+    member->reads = false;
+    sqlite3_mutex_leave(engine->mutex);
+}
+
+void turn_move(struct engine *engine, struct member *member, uint64_t point) {
+    sqlite3_mutex_enter(engine->mutex);
+    member->point = point;
+    sqlite3_mutex_leave(engine->mutex);
+}
+
+bool turn_has_losses(struct engine *engine, struct member *member) {
+    sqlite3_mutex_enter(engine->mutex);
+    bool has = member->losses != engine->losses;
+    member->losses = engine->losses;
+    sqlite3_mutex_leave(engine->mutex);
+    return has;
+}
+
+uint64_t turn_oldest(struct engine *engine) {
+    uint64_t oldest = UINT64_MAX;
+    sqlite3_mutex_enter(engine->mutex);
+    for (const struct member *member = engine->members; member; member = member->next) {
+        if (member->reads && member->point < oldest) oldest = member->point;
+    }
+    sqlite3_mutex_leave(engine->mutex);
+    return oldest;
+}
+
+bool turn_is_taken(struct engine *engine, const struct member *member) {
+    sqlite3_mutex_enter(engine->mutex);
+    bool is_taken = engine->owner && engine->owner != member;
+    sqlite3_mutex_leave(engine->mutex);
+    return is_taken;
+}
+
+void turn_publish(struct engine *engine, const struct member *member, bool ends) {
+    sqlite3_mutex_enter(engine->mutex);
+    if (engine->owner == member) {
+        engine->published = member->point;
+        if (ends) engine->owner = 0;
+    }
+    sqlite3_mutex_leave(engine->mutex);
+}
+
+static void give_up(struct engine *engine) {
+    sqlite3_mutex_enter(engine->mutex);
+    engine->owner = 0;
+    sqlite3_mutex_leave(engine->mutex);
+}
+
+/* Takes the turn where it is free. */
+static int claim(struct engine *engine, const struct member *member, bool *has_writer) {
+    sqlite3_mutex_enter(engine->mutex);
+    bool is_free = !engine->owner || engine->owner == member, is_fenced = engine->fences != member->fences;
+    if (is_free && !is_fenced) engine->owner = member;
+    *has_writer = engine->writer;
+    sqlite3_mutex_leave(engine->mutex);
+    if (is_fenced) return SQLITE_IOERR_LOCK;
+    return is_free ? SQLITE_OK : SQLITE_BUSY;
+}
+
+static enum yieldcleat_fault open_writer(struct engine *engine) {
+    struct yieldcleat_volume *volume = 0;
+    uint64_t point = 0;
+    enum yieldcleat_fault fault = yieldcleat_volume_open_writer(engine->place, &engine->options, &volume);
+    if (!fault) fault = yieldcleat_volume_newest(volume, &point);
+    if (fault) {
+        yieldcleat_volume_close(volume);
+        return fault;
+    }
+    struct handle *handle = handle_of(volume);
+    if (!handle) return YIELDCLEAT_NO_MEMORY;
+    sqlite3_mutex_enter(engine->mutex);
+    engine->writer = handle;
+    engine->published = point;
+    sqlite3_mutex_leave(engine->mutex);
+    return YIELDCLEAT_OK;
+}
+
+static bool is_newest(struct engine *engine, const struct member *member) {
+    sqlite3_mutex_enter(engine->mutex);
+    bool is = engine->published == member->point;
+    sqlite3_mutex_leave(engine->mutex);
+    return is;
+}
+
+int turn_write(struct engine *engine, struct member *member, struct report *report) {
+    bool has_writer = false;
+    int code = claim(engine, member, &has_writer);
+    if (code == SQLITE_IOERR_LOCK) {
+        return refuse(report, code, "lock for writing: another engine has opened the volume; open the database again to write");
+    }
+    if (code) return code;
+    enum yieldcleat_fault fault = has_writer ? YIELDCLEAT_OK : open_writer(engine);
+    if (fault) {
+        give_up(engine);
+        return refuse_fault(report, LOCKING, fault);
+    }
+    if (is_newest(engine, member)) return SQLITE_OK;
+    give_up(engine);
+    return SQLITE_BUSY_SNAPSHOT;
+}
