@@ -87,7 +87,8 @@ static int read_page(struct database *database, uint32_t number, size_t offset, 
     return SQLITE_IOERR_SHORT_READ;
 }
 
-/* SQLite keeps its cache where the counter of changes is what it was. It must not where commits have come in place of lost ones. */
+/* SQLite keeps its cache where the counter of changes is what it was. That is not enough here: connections read beside one that is in
+ * exclusive mode, in which SQLite counts no changes, and commits may have come in place of lost ones. */
 static void forget_cache(struct database *database, uint8_t *counter) {
     for (int place = 0; place < COUNTER_BYTES; place++) counter[place] = (uint8_t)~counter[place];
     database->forgets = false;

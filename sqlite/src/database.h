@@ -23,7 +23,7 @@ struct database {
     struct pages pages; /* of the view, and changed */
     uint32_t size;      /* in pages, with the changes */
     bool is_sent;       /* the view is a commit of this connection that nobody has waited for */
-    bool forgets;       /* SQLite's cache may have pages of a commit that was lost: the next look at the counter is to differ */
+    bool forgets;       /* SQLite's cache has pages of another state: the next look at the counter of changes is to differ */
     struct report report;
 };
 

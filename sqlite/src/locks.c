@@ -6,15 +6,15 @@ SQLITE_EXTENSION_INIT3
 static int begin_read(struct database *database) {
     int code = turn_read(database->engine, &database->member, &database->report);
     if (code) return code;
-    if (turn_has_losses(database->engine, &database->member)) {
-        database->forgets = true;
-        pages_cut(&database->pages, 0);
-    }
+    uint64_t before = database->view.point;
+    bool has_losses = turn_has_losses(database->engine, &database->member);
+    if (has_losses) pages_cut(&database->pages, 0);
     code = database_look(database, database->member.point);
     if (code) {
         turn_end_read(database->engine, &database->member);
         return code;
     }
+    if (has_losses || database->view.point != before) database->forgets = true;
     turn_move(database->engine, &database->member, database->view.point);
     database->lock = SQLITE_LOCK_SHARED;
     return SQLITE_OK;

@@ -1,0 +1,83 @@
+/* The calls of a library that is built with SQLITE_ENABLE_BATCH_ATOMIC_WRITE, which Debian's is not, made on the file itself.
+ *
+ *     batch LIBRARY URI */
+#include <sqlite3.h>
+#include <stdio.h>
+#include <stdlib.h>
+#include <string.h>
+
+enum { PAGE = 4096 };
+
+static sqlite3_file *file;
+
+static void expect(int is_so, const char *what) {
+    if (is_so) return;
+    fprintf(stderr, "not so: %s\n", what);
+    exit(1);
+}
+
+static sqlite3 *open_database(const char *library, const char *uri) {
+    sqlite3 *first = 0, *connection = 0;
+    expect(sqlite3_open(":memory:", &first) == SQLITE_OK, "a database in memory opens");
+    sqlite3_enable_load_extension(first, 1);
+    expect(sqlite3_load_extension(first, library, 0, 0) == SQLITE_OK, "the extension loads");
+    sqlite3_close(first);
+    expect(sqlite3_open_v2(uri, &connection, SQLITE_OPEN_URI | SQLITE_OPEN_READWRITE | SQLITE_OPEN_CREATE, 0) == SQLITE_OK, "it opens");
+    expect(sqlite3_exec(connection, "create table t(a)", 0, 0, 0) == SQLITE_OK, "a table is made");
+    sqlite3_file_control(connection, "main", SQLITE_FCNTL_FILE_POINTER, &file);
+    return connection;
+}
+
+static int control(int operation) { return file->pMethods->xFileControl(file, operation, 0); }
+
+static void put(int page, int byte) {
+    unsigned char bytes[PAGE];
+    memset(bytes, byte, sizeof bytes);
+    expect(file->pMethods->xWrite(file, bytes, PAGE, (sqlite3_int64)(page - 1) * PAGE) == SQLITE_OK, "a page is written");
+}
+
+static int has(int page, int byte) {
+    unsigned char bytes[PAGE];
+    int code = file->pMethods->xRead(file, bytes, PAGE, (sqlite3_int64)(page - 1) * PAGE);
+    return bytes[0] == byte && bytes[PAGE - 9] == byte && (code == SQLITE_OK || code == SQLITE_IOERR_SHORT_READ);
+}
+
+static void begin(void) {
+    expect(file->pMethods->xLock(file, SQLITE_LOCK_SHARED) == SQLITE_OK, "it is locked for reading");
+    expect(file->pMethods->xLock(file, SQLITE_LOCK_RESERVED) == SQLITE_OK, "it is locked for writing");
+    expect(control(SQLITE_FCNTL_BEGIN_ATOMIC_WRITE) == SQLITE_OK, "a batch begins");
+}
+
+static void commit(void) {
+    expect(control(SQLITE_FCNTL_SYNC) == SQLITE_OK && file->pMethods->xSync(file, SQLITE_SYNC_NORMAL) == SQLITE_OK, "it is committed");
+    expect(control(SQLITE_FCNTL_COMMIT_PHASETWO) == SQLITE_OK, "the transaction ends");
+    file->pMethods->xUnlock(file, SQLITE_LOCK_NONE);
+}
+
+int main(int count, char **words) {
+    if (count != 3) return 2;
+    sqlite3 *connection = open_database(words[1], words[2]);
+    expect(file->pMethods->xDeviceCharacteristics(file) & SQLITE_IOCAP_BATCH_ATOMIC, "batches are offered");
+    begin();
+    put(3, 'a');
+    put(4, 'a');
+    expect(control(SQLITE_FCNTL_COMMIT_ATOMIC_WRITE) == SQLITE_OK, "a batch is kept");
+    commit();
+    begin();
+    put(3, 'b');
+    put(5, 'b');
+    expect(control(SQLITE_FCNTL_ROLLBACK_ATOMIC_WRITE) == SQLITE_OK, "a batch is dropped");
+    expect(has(3, 'a') && has(5, 0), "what it wrote is gone");
+    put(4, 'c');
+    commit();
+    expect(file->pMethods->xLock(file, SQLITE_LOCK_SHARED) == SQLITE_OK, "it is locked again");
+    expect(has(3, 'a') && has(4, 'c') && has(5, 0), "what was committed is there");
+    begin();
+    put(3, 'd');
+    file->pMethods->xUnlock(file, SQLITE_LOCK_NONE);
+    expect(file->pMethods->xLock(file, SQLITE_LOCK_SHARED) == SQLITE_OK && has(3, 'a'), "what was not committed is gone");
+    file->pMethods->xUnlock(file, SQLITE_LOCK_NONE);
+    sqlite3_close(connection);
+    puts("all as expected");
+    return 0;
+}

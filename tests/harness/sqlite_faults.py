@@ -1,0 +1,183 @@
+"""What a connection returns where the volume fails, and that it goes on afterwards."""
+
+import os
+
+from harness.sqlite_worlds import (ABOVE, BELOW, FENCED, FULL, IO, NO_MEMORY, NO_QUORUM, NOT_FOUND, TIMEOUT,
+                                   content, is_whole, last_message, one, refused)
+
+READS = {NO_QUORUM: "SQLITE_IOERR_READ", BELOW: "SQLITE_IOERR_READ", ABOVE: "SQLITE_IOERR_READ", IO: "SQLITE_IOERR_READ", NO_MEMORY: "SQLITE_NOMEM"}
+CODES = {
+    "newest": READS,
+    "header": READS,
+    "read": READS,
+    "open_writer": {NO_QUORUM: "SQLITE_IOERR_LOCK", FULL: "SQLITE_FULL", IO: "SQLITE_IOERR_LOCK", NO_MEMORY: "SQLITE_NOMEM"},
+    "stage": {IO: "SQLITE_IOERR_WRITE", NO_MEMORY: "SQLITE_NOMEM"},
+    "commit": {NO_QUORUM: "SQLITE_IOERR_WRITE", FULL: "SQLITE_FULL", IO: "SQLITE_IOERR_WRITE", NO_MEMORY: "SQLITE_NOMEM"},
+    "wait": {TIMEOUT: "SQLITE_IOERR_FSYNC", IO: "SQLITE_IOERR_FSYNC"},
+}
+
+
+def made(world, name="volume", rows=400):
+    """A database with rows on many pages, in a file that no connection of this process has open."""
+    ours = world.open(name)
+    ours.execute("create table t(a integer primary key, b)")
+    many = f"with recursive c(n) as (select 1 union all select n + 1 from c where n < {rows})"
+    ours.execute(f"{many} insert into t select n, hex(zeroblob(100)) from c")
+    ours.close()
+
+
+def change(connection, number):
+    """Rows on several pages get a text that none had before."""
+    connection.execute("update t set b = 'changed ' || ? where a % 50 = ?", (number, number % 50))
+
+
+def check_faults(world):
+    """Each fault of each call has its error; the database is as before or, where a commit was in doubt, as after; and work goes on."""
+    made(world)
+    number = 0
+    for call, codes in CODES.items():
+        for fault, code in codes.items():
+            for mode in ("delete", "memory", "off"):
+                number += 10
+                ours, other = world.open(timeout=50), world.open()
+                ours.execute(f"pragma journal_mode = {mode}")
+                if call != "open_writer":
+                    change(ours, number)
+                    change(other, number + 1)
+                before = content(other)
+                world.fail(call, fault)
+                with refused(code):
+                    change(ours, number + 2)
+                    one(ours, "select count(*), sum(length(b)) from t")
+                world.heal()
+                assert not ours.in_transaction
+                assert content(ours) == before, f"{call}, {fault}, {mode}"
+                change(ours, number + 3)
+                assert content(ours) == content(other) and content(ours) != before and is_whole(other)
+                ours.close()
+                other.close()
+
+
+def check_in_doubt(world):
+    """After a commit in doubt the connection sees what the volume has, and works on; with it others."""
+    made(world)
+    number = 0
+    for mode in ("delete", "persist", "memory", "off"):
+        for locking in ("normal", "exclusive"):
+            for is_durable in (False, True):
+                number += 10
+                ours, other = world.open(), world.open()
+                ours.execute(f"pragma journal_mode = {mode}")
+                change(ours, number)
+                before = [one(it, "select group_concat(b) from t") for it in (ours, other)]
+                assert before[0] == before[1]
+                ours.execute(f"pragma locking_mode = {locking}")
+                world.doubt(is_durable)
+                with refused("SQLITE_IOERR_FSYNC", "in doubt", ours):
+                    change(ours, number + 1)
+                if locking == "exclusive":
+                    ours.close()
+                    ours = world.open()
+                after = [one(it, "select group_concat(b) from t") for it in (ours, other)]
+                assert after[0] == after[1] and (after[0] != before[0]) == is_durable
+                change(ours, number + 2)
+                assert is_whole(ours) and is_whole(other) and content(ours) == content(other)
+                ours.close()
+                other.close()
+
+
+def check_lost_writer(world):
+    """What synchronous = off had not made durable is gone when another engine opens the volume, also from SQLite's cache."""
+    for text in ("one", "two"):
+        made(world, text)
+        ours = world.open(text)
+        ours.execute("pragma synchronous = off")
+        change(ours, 1)
+        assert one(ours, "select b from t where a = 1") == "changed 1"
+        world.ask("work_change_to", text, 51)
+        assert one(ours, "select b from t where a = 1") == "changed 51"
+        assert is_whole(ours)
+        with refused("SQLITE_IOERR_LOCK", "another engine", ours):
+            change(ours, 101)
+        ours.close()
+
+
+def work_change_to(world, name, number):
+    change(world.open(name), int(number))
+
+
+def check_fences(world):
+    """Another process that writes fences this one, whose next commit fails; it reads on, and may open the database again to write."""
+    made(world)
+    ours = world.open()
+    change(ours, 1)
+    world.ask("work_change_to", "volume", 51)
+    assert one(ours, "select b from t where a = 1") == "changed 51"
+    with refused("SQLITE_IOERR_LOCK", "another engine", ours):
+        change(ours, 101)
+    again = world.open()
+    again.execute("begin immediate")
+    change(again, 151)
+    world.ask("work_change_to", "volume", 2)
+    with refused("SQLITE_IOERR_LOCK", "another engine", again):
+        again.execute("commit")
+    assert [one(it, f"select b from t where a = {place}") for it in (ours, again) for place in (1, 2)] == ["changed 51", "changed 2"] * 2
+    with refused("SQLITE_IOERR_LOCK", "another engine", again):
+        change(again, 201)
+    third = world.open()
+    change(third, 251)
+    for it in (ours, again, third):
+        assert one(it, "select b from t where a = 1") == "changed 251" and is_whole(it)
+
+
+def check_nodes(world):
+    """Without a write quorum nothing is written, and the message says how many nodes answer; work goes on when they are back."""
+    made(world)
+    ours = world.open()
+    change(ours, 1)
+    ours.execute("begin immediate")
+    change(ours, 51)
+    world.nodes(3)
+    with refused("SQLITE_IOERR_WRITE", "no write quorum: 3 of 6 nodes answer", ours):
+        ours.execute("commit")
+    with refused("SQLITE_IOERR_READ", "3 of 6", ours):
+        one(ours, "select count(*) from t")
+    world.nodes(4)
+    assert one(ours, "select b from t where a = 1") == "changed 1"
+    change(ours, 101)
+    assert one(world.open(), "select b from t where a = 1") == "changed 101" and is_whole(ours)
+    world.nodes(3)
+    with refused("SQLITE_CANTOPEN"):
+        world.open("new")
+    assert not os.path.exists(world.place("new"))
+    world.heal()
+    ours.execute("begin")
+    assert one(ours, "select count(*) from t") == 400
+    world.fail("read", NO_QUORUM)
+    world.fail("header", NOT_FOUND)
+    ours.execute("commit")
+    with refused("SQLITE_IOERR_READ"):
+        one(world.open(), "select sum(length(b)) from t")
+    assert "open" not in last_message(ours)
+    world.heal()
+    assert is_whole(ours)
+
+
+def check_fenced_calls(world):
+    """A fence that any call learns of leaves the database readable, and the commit undone for this connection."""
+    made(world)
+    for call in ("newest", "header", "read", "stage", "commit", "wait"):
+        ours = world.open()
+        change(ours, 1)
+        ours.execute("begin immediate")
+        change(ours, 51)
+        world.fail(call, FENCED)
+        try:
+            ours.execute("commit")
+            one(ours, "select count(*), sum(length(b)) from t")
+        except Exception as error:  # noqa: BLE001
+            assert error.sqlite_errorname == "SQLITE_IOERR_LOCK", error
+        assert call not in ("stage", "commit", "wait") or not ours.in_transaction
+        world.heal()
+        assert one(ours, "select b from t where a = 1") in ("changed 1", "changed 51") and is_whole(ours)
+        ours.close()

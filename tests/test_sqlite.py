@@ -1,0 +1,98 @@
+"""The VFS of `sqlite/` over the double of a volume: what databases do there, beside plain ones, in crashes, and where the volume fails."""
+
+import re
+import shutil
+import sqlite3
+import subprocess
+
+import pytest
+
+from harness import CASES, ROOT, environment
+from harness.shims import c_compiler
+from harness.sqlite_worlds import build, run, sanitizer
+
+CHECKS = {
+    "checks": ["random", "sizes", "spill", "vacuum", "snapshots", "readers", "threads", "turns", "past", "keep", "openings", "other_page_sizes",
+               "several_databases", "calls"],
+    "crashes": ["crashes"],
+    "faults": ["faults", "in_doubt", "lost_writer", "fences", "nodes", "fenced_calls"],
+}
+NAMES = [name for names in CHECKS.values() for name in names]
+SCRIPTS = dict(re.findall(r"(?ms)^-- == (.*?)\n(.*?)(?=^-- == |\Z)", (CASES / "sqlite.sql").read_text()))
+
+pytestmark = [
+    pytest.mark.xdist_group("sqlite"),  # which builds the extension once
+    pytest.mark.skipif(not hasattr(sqlite3.Connection, "enable_load_extension"), reason="this Python loads no extension; Debian's does"),
+    pytest.mark.skipif(not c_compiler(), reason="no C compiler with headers is on the path"),
+]
+needs_shell = pytest.mark.skipif(not shutil.which("sqlite3"), reason="no sqlite3 is on the path")
+
+
+@pytest.fixture(scope="module")
+def double(tmp_path_factory):
+    return build(tmp_path_factory.mktemp("double"))
+
+
+@pytest.fixture(scope="module")
+def sanitized(tmp_path_factory):
+    return build(tmp_path_factory.mktemp("sanitized"), "sanitized")
+
+
+@pytest.mark.parametrize("name", NAMES)
+def test_database(double, tmp_path, seed, seconds, name):
+    assert run(f"check_{name}", double, tmp_path / "databases", seed, seconds) == ""
+
+
+@pytest.mark.parametrize("name", NAMES)
+def test_database_sanitized(sanitized, tmp_path, seed, seconds, name):
+    assert run(f"check_{name}", sanitized, tmp_path / "databases", seed, seconds / 4, sanitizer()) == ""
+
+
+# The shell
+
+
+def shell(library, script, folder, over=(), settings=None):
+    """What the shell prints of a script, run on a volume in a folder, or on a file where there is no library."""
+    folder.mkdir()
+    place = f"file:{folder}/database" + ("?vfs=yieldcleat" if library else "")
+    text = (f".load {library.with_suffix('')}\n" if library else "") + f".open {place}\n{script}"
+    done = subprocess.run([*over, "sqlite3", "-batch"], input=text, capture_output=True, text=True, timeout=300, env=environment(**(settings or {})), check=False)
+    assert done.returncode in (0, 1), f"{done.returncode}\n{done.stdout[-500:]}{done.stderr[-3000:]}"
+    return done.stdout, re.sub(r"near line \d+", "", done.stderr)
+
+
+@needs_shell
+@pytest.mark.parametrize("name", SCRIPTS)
+def test_shell(double, tmp_path, name):
+    """A script prints what it prints over a plain file."""
+    ours, plain = shell(double, SCRIPTS[name], tmp_path / "ours"), shell(None, SCRIPTS[name], tmp_path / "plain")
+    assert ours == plain and "ok" in ours[0].split()
+    assert [path.name for path in (tmp_path / "ours").iterdir()] == ["database"]
+
+
+@needs_shell
+def test_shell_sanitized(sanitized, tmp_path):
+    """All scripts one after another; the shell frees all that it has, so what is left is a leak."""
+    script = "\n".join(SCRIPTS.values())
+    settings = sanitizer() | {"ASAN_OPTIONS": "detect_leaks=1"}
+    assert shell(sanitized, script, tmp_path / "ours", settings=settings)[0].count("ok\n") >= len(SCRIPTS)
+
+
+@needs_shell
+@pytest.mark.skipif(not shutil.which("valgrind"), reason="no valgrind is on the path")
+def test_shell_under_valgrind(double, tmp_path):
+    over = ["valgrind", "--quiet", "--error-exitcode=99", "--leak-check=full", "--errors-for-leak-kinds=definite"]
+    assert shell(double, SCRIPTS["first"], tmp_path / "ours", over) == shell(None, SCRIPTS["first"], tmp_path / "plain")
+
+
+# Calls that Debian's library does not make
+
+
+def test_batches(sanitized, tmp_path):
+    """A batch of writes is kept or dropped as a whole (`sqlite/tests/batch.c`)."""
+    program = tmp_path / "batch"
+    flags = ["-std=gnu11", "-g", "-Wall", "-Wextra", "-Wconversion", "-Wshadow", "-Werror"]
+    subprocess.run([c_compiler(), *flags, "-o", program, ROOT / "sqlite/tests/batch.c", "-lsqlite3"], check=True)
+    words = [program, sanitized.with_suffix(""), f"file:{tmp_path}/database?vfs=yieldcleat"]
+    done = subprocess.run(words, capture_output=True, text=True, env=environment(**sanitizer()), timeout=60, check=False)
+    assert (done.returncode, done.stderr, done.stdout) == (0, "", "all as expected\n")
