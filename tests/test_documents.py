@@ -11,7 +11,7 @@ import draw  # of tools/
 
 PAGES = [ROOT / "README.md", *sorted((ROOT / "docs").glob("*.md")), *sorted(ROOT.glob("*/README.md"))]
 EACH_PAGE = pytest.mark.parametrize("page", PAGES, ids=lambda page: str(page.relative_to(ROOT)))
-FOLDERS = "crates|docs|examples|tests|tools|bench|client|embedding|store|.ci"
+FOLDERS = "crates|docs|examples|tests|tools|bench|client|embedding|store|volume|sqlite|.ci"
 FILE = re.compile(rf"`((?:(?:{FOLDERS})/)?[A-Za-z_/*]+\.(?:md|py|rt|antt|txt|texts|requests|sh|c|h))`")
 MAP_ROW = re.compile(r"^\| `([a-z_]+)` \| [^|]* \|([^|]*)\|$", re.M)
 

@@ -11,9 +11,16 @@ from harness import CASES, ROOT, environment
 from harness.shims import c_compiler
 from harness.sqlite_worlds import build, run, sanitizer
 
+
+def has_headers():
+    """Whether this machine's C compiler finds what an extension of SQLite includes."""
+    command = [c_compiler() or "false", "-E", "-x", "c", "-"]
+    return subprocess.run(command, input=b"#include <sqlite3ext.h>\n", capture_output=True, check=False).returncode == 0
+
+
 CHECKS = {
-    "checks": ["random", "sizes", "spill", "vacuum", "snapshots", "readers", "threads", "turns", "past", "keep", "openings", "other_page_sizes",
-               "several_databases", "calls"],
+    "checks": ["random", "sizes", "spill", "vacuum", "snapshots", "readers", "threads", "writers", "waits", "turns", "past", "keep", "openings",
+               "other_page_sizes", "several_databases", "calls"],
     "crashes": ["crashes"],
     "faults": ["faults", "in_doubt", "lost_writer", "fences", "nodes", "fenced_calls"],
 }
@@ -23,7 +30,7 @@ SCRIPTS = dict(re.findall(r"(?ms)^-- == (.*?)\n(.*?)(?=^-- == |\Z)", (CASES / "s
 pytestmark = [
     pytest.mark.xdist_group("sqlite"),  # which builds the extension once
     pytest.mark.skipif(not hasattr(sqlite3.Connection, "enable_load_extension"), reason="this Python loads no extension; Debian's does"),
-    pytest.mark.skipif(not c_compiler(), reason="no C compiler with headers is on the path"),
+    pytest.mark.skipif(not has_headers(), reason="no C compiler with SQLite's headers is on the path"),
 ]
 needs_shell = pytest.mark.skipif(not shutil.which("sqlite3"), reason="no sqlite3 is on the path")
 

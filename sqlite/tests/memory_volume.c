@@ -314,8 +314,8 @@ enum yieldcleat_fault yieldcleat_volume_commit(struct yieldcleat_volume *volume,
 enum yieldcleat_fault yieldcleat_volume_wait(struct yieldcleat_volume *volume, uint64_t point, uint32_t milliseconds) {
     (void)milliseconds;
     int asked = doubt();
+    delay();
     enum yieldcleat_fault fault = enter(volume, WAIT);
-    if (!fault) delay();
     if (!fault && (!volume->is_writer || point > volume->state->last)) fault = fail(YIELDCLEAT_MISUSE, 0);
     if (!fault && asked >= 0) fault = flush(volume);
     if (!fault && asked) fault = fail(YIELDCLEAT_TIMEOUT, 0);

@@ -43,6 +43,8 @@ def check_random(world):
         if world.rng.random() < 0.1:
             ours.close()
             ours = world.open()
+    ours.execute("pragma synchronous = full")  # so that its point is one for all
+    assert transaction(ours, world.seed, 0) == transaction(plain, world.seed, 0)
     assert content(world.open(point=point(ours))) == content(plain)
     assert is_whole(ours)
     assert os.listdir(world.folder) == ["volume"]
@@ -98,8 +100,14 @@ def check_vacuum(world):
         few = one(ours, "pragma page_count")
         assert many > 50 and few < 10
         assert one(world.open(), "pragma page_count") == few and is_whole(ours)
-    ours.executescript("pragma auto_vacuum = full; vacuum")
-    assert one(world.open(), "pragma auto_vacuum") == 1
+    ours.executescript("pragma auto_vacuum = incremental; vacuum; insert into t(b) select hex(randomblob(2000)) from t, t")
+    before, pages = content(ours), one(ours, "pragma page_count")
+    for end in ("rollback", "commit"):
+        ours.execute("begin")
+        ours.execute("delete from t where a > 10")
+        ours.execute("pragma incremental_vacuum").fetchall()
+        ours.execute(end)
+        assert (content(ours) == before) == (one(world.open(), "pragma page_count") == pages) == (end == "rollback") and is_whole(ours)
 
 
 def check_snapshots(world):
@@ -182,6 +190,43 @@ def check_threads(world):
     for thread in threads:
         thread.join()
     assert errors == [] and one(world.open(), "select n from t") == 120
+
+
+def check_writers(world):
+    """Processes that write by turns fence each other; who is fenced has written nothing, and opens the database again."""
+    world.open().execute("create table t(n)").execute("insert into t values(0)")
+    helpers = [world.helper("work_increments", 12) for _ in range(3)]
+    for helper in helpers:
+        assert helper.wait(timeout=60) == 0
+    assert one(world.open(), "select n from t") == 3 * 12 and is_whole(world.open())
+
+
+def work_increments(world, count):
+    ours, done = world.open(busy=10), 0
+    while done < int(count):
+        try:
+            ours.execute("update t set n = n + 1")
+            done += 1
+        except sqlite3.OperationalError as error:
+            assert error.sqlite_errorname in ("SQLITE_IOERR_LOCK", "SQLITE_BUSY_SNAPSHOT"), error.sqlite_errorname
+            ours.close()
+            ours = world.open(busy=10)
+
+
+def check_waits(world):
+    """Nobody sees a commit before it is durable."""
+    ours, reader = world.open(), world.open()
+    ours.execute("create table t(n)")
+    writing = threading.Thread(target=ours.execute, args=("insert into t values(1)",))
+    world.double.memory_volume_delay(1_000_000)
+    before = world.calls("wait")
+    writing.start()
+    while world.calls("commit") < 2:
+        time.sleep(0.001)
+    seen = one(reader, "select count(*) from t")
+    assert (seen, world.calls("wait")) in {(0, before), (0, before + 1)} and writing.is_alive()
+    writing.join()
+    assert one(reader, "select count(*) from t") == 1
 
 
 def check_turns(world):

@@ -69,13 +69,15 @@ def check_in_doubt(world):
                 ours, other = world.open(), world.open()
                 ours.execute(f"pragma journal_mode = {mode}")
                 change(ours, number)
+                ours.execute(f"pragma locking_mode = {locking}")
+                change(ours, number + 3)
                 before = [one(it, "select group_concat(b) from t") for it in (ours, other)]
                 assert before[0] == before[1]
-                ours.execute(f"pragma locking_mode = {locking}")
                 world.doubt(is_durable)
                 with refused("SQLITE_IOERR_FSYNC", "in doubt", ours):
                     change(ours, number + 1)
                 if locking == "exclusive":
+                    assert one(ours, "select group_concat(b) from t") == before[0]
                     ours.close()
                     ours = world.open()
                 after = [one(it, "select group_concat(b) from t") for it in (ours, other)]

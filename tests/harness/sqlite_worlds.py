@@ -23,9 +23,9 @@ FENCED, NO_QUORUM, TIMEOUT, FULL, NOT_FOUND, BELOW, ABOVE, IO, NO_MEMORY, MISUSE
 KILLED = -1
 
 
-def build(folder, target="double", root=ROOT):
+def build(folder, target="double", root=ROOT, words=()):
     """The extension over the double, built out of the sources below a folder; its compiler's messages fail the test."""
-    command = ["make", "-s", "-C", root / "sqlite", f"BUILD={folder}", target]
+    command = ["make", "-s", "-C", root / "sqlite", f"BUILD={folder}", *words, target]
     done = subprocess.run(command, capture_output=True, text=True, check=False)
     assert (done.returncode, done.stderr) == (0, ""), done.stderr[-3000:]
     return Path(folder) / target / "yieldcleat.so"

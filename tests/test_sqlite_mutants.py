@@ -1,0 +1,63 @@
+"""Faults that the tests of the VFS must find: each is put into a copy of its sources, which is built, and one check must fail on it."""
+
+import pytest
+
+from harness.sqlite_worlds import build, copy_of_sources, run
+from test_sqlite import pytestmark  # noqa: F401
+
+# A file of `sqlite/src`, what is there, what is put in its place, and the check that finds it.
+MUTANTS = {
+    "journal_as_a_file": ("vfs.c", "if (flags & SQLITE_OPEN_MAIN_JOURNAL) {", "if (!name) {", "random"),
+    "header_without_the_size": ("commit.c", "header.size = size_after(database);", "header.size += !header.size;", "spill"),
+    "drops_the_last_run": ("changes.c", "changes->count = runs->count;", "changes->count = runs->count - (runs->count > 1);", "random"),
+    "drops_runs_beyond_the_limit": ("changes.c", "runs->at[place] = joined(runs, place);", "", "random"),
+    "skips_bytes_after_a_run": ("changes.c", "at = run.end - 1;", "at = run.end + GAP;", "random"),
+    "fills_too_much": ("changes.c", "return end - offset;", "return end + 1 - offset;", "random"),
+    "from_zeros_by_halves": ("changes.c", "changes->from_zeros ? &whole : &runs", "&runs", "random"),
+    "reads_without_a_snapshot": ("database.c", "number > database->view.header.highest", "turn_newest(database->engine, &database->view.point)", "snapshots"),
+    "moves_a_snapshot": ("locks.c", "if (database->lock == SQLITE_LOCK_NONE) code", "code", "turns"),
+    "keeps_a_stale_cache": ("locks.c", "database->forgets = true;", "", "turns"),
+    "keeps_pages_of_another_state": ("database.c", "if (view.point != database->view.point) pages_cut(&database->pages, 0);", "", "snapshots"),
+    "keeps_pages_of_a_lost_commit": ("commit.c", "database_return(database, &database->before);", "database->view = database->before;", "in_doubt"),
+    "undoes_a_commit_in_doubt": ("commit.c", "database_return(database, &database->before);", "", "in_doubt"),
+    "goes_on_after_doubt": ("commit.c", "engine_lose_writer(database->engine, handle, fault);\n        database", "database", "in_doubt"),
+    "does_not_wait": ("commit.c", "if (!database->is_sent) return SQLITE_OK;", "if (database) return SQLITE_OK;", "crashes"),
+    "ignores_a_fault_of_waiting": ("commit.c", "SYNCING, fault) : SQLITE_OK;", "SYNCING, fault) * 0 : SQLITE_OK;", "in_doubt"),
+    "writes_over_a_newer_state": ("turns.c", "bool is = engine->published == member->point;", "bool is = engine->published >= member->point;", "turns"),
+    "two_at_a_time": ("turns.c", "is_free = !engine->owner || engine->owner == member,", "is_free = true,", "turns"),
+    "fences_back": ("turns.c", "is_fenced = engine->fences != member->fences;", "is_fenced = false;", "fences"),
+    "shows_what_is_not_durable": ("commit.c", "database->is_sent = true;", "turn_publish(database->engine, &database->member, false);\n    database->is_sent = true;", "waits"),
+    "gives_up_read_points": ("commit.c", "mark < oldest ? mark : oldest", "mark < oldest ? mark : mark", "keep"),
+    "gives_up_no_points": ("commit.c", "yieldcleat_volume_advance(handle->volume, mark < oldest ? mark : oldest);", "(void)mark;\n    (void)oldest;", "keep"),
+    "keeps_what_is_not_committed": ("locks.c", "    pages_forget_changes(&database->pages);\n", "", "faults"),
+    "ends_super_journals": ("journal.c", "amount == sizeof end_of_name &&", "amount == 0 &&", "several_databases"),
+    "takes_super_journals": ("vfs.c", "if (flags & SQLITE_OPEN_SUPER_JOURNAL) return", "if (!flags) return", "several_databases"),
+    "takes_other_pages": ("database.c", "start[AT_RESERVED] != RESERVED", "start[AT_RESERVED] > RESERVED", "other_page_sizes"),
+    "takes_no_locks": ("address.c", '!sqlite3_uri_boolean(name, "nolock", 0) &&', "", "openings"),
+    "returns_too_far": ("commit.c", "database->before = database->view;", "", "in_doubt"),
+    "writes_to_the_past": ("address.c", ".is_read_only = point}", ".is_read_only = false}", "past"),
+}
+
+
+@pytest.fixture(scope="module")
+def copy(tmp_path_factory):
+    """A copy of the sources, and what they are built into, so that a mutant builds one file."""
+    folder = tmp_path_factory.mktemp("copy")
+    copy_of_sources(folder)
+    build(folder / "build", root=folder)
+    return folder
+
+
+@pytest.mark.parametrize("name", MUTANTS)
+def test_mutants(copy, tmp_path, seed, name):
+    file, old, new, check = MUTANTS[name]
+    path = copy / "sqlite/src" / file
+    text = path.read_text()
+    assert text.count(old) == 1, f"{text.count(old)} places"
+    path.write_text(text.replace(old, new))
+    try:
+        library = build(copy / "build", root=copy, words=["WARNINGS="])
+        found = run(f"check_{check}", library, tmp_path / "databases", seed, 3)
+    finally:
+        path.write_text(text)
+    assert found != "", "nobody noticed"
