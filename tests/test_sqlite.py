@@ -92,14 +92,33 @@ def test_shell_under_valgrind(double, tmp_path):
     assert shell(double, SCRIPTS["first"], tmp_path / "ours", over) == shell(None, SCRIPTS["first"], tmp_path / "plain")
 
 
-# Calls that Debian's library does not make
+# Programs in C
+
+
+def ran(folder, name, *words, flags=(), settings=None):
+    """What a program of `sqlite/tests` prints."""
+    warnings = ["-Wall", "-Wextra", "-Wconversion", "-Wshadow", "-Werror"]
+    program = folder / name
+    command = [c_compiler(), "-std=gnu11", "-g", "-O1", *warnings, *flags, "-o", program, ROOT / f"sqlite/tests/{name}.c", "-lsqlite3"]
+    subprocess.run(command, check=True)
+    done = subprocess.run([program, *map(str, words)], capture_output=True, text=True, env=environment(**(settings or {})), timeout=200, check=False)
+    assert (done.returncode, done.stderr) == (0, ""), f"{words}\n{done.stdout[-2000:]}{done.stderr[-3000:]}"
+    return done.stdout
+
+
+def test_changes(tmp_path, rng):
+    """The patches of random pairs of pages."""
+    flags = ["-fsanitize=address,undefined", "-I", ROOT / "volume/include", ROOT / "sqlite/src/changes.c"]
+    assert ran(tmp_path, "changes", rng.randrange(1 << 32), 1000, flags=flags) == "all as expected\n"
 
 
 def test_batches(sanitized, tmp_path):
-    """A batch of writes is kept or dropped as a whole (`sqlite/tests/batch.c`)."""
-    program = tmp_path / "batch"
-    flags = ["-std=gnu11", "-g", "-Wall", "-Wextra", "-Wconversion", "-Wshadow", "-Werror"]
-    subprocess.run([c_compiler(), *flags, "-o", program, ROOT / "sqlite/tests/batch.c", "-lsqlite3"], check=True)
-    words = [program, sanitized.with_suffix(""), f"file:{tmp_path}/database?vfs=yieldcleat"]
-    done = subprocess.run(words, capture_output=True, text=True, env=environment(**sanitizer()), timeout=60, check=False)
-    assert (done.returncode, done.stderr, done.stdout) == (0, "", "all as expected\n")
+    """Batches of writes, which Debian's library does not make, are kept or dropped as a whole."""
+    words = [sanitized.with_suffix(""), f"file:{tmp_path}/database?vfs=yieldcleat"]
+    assert ran(tmp_path, "batch", *words, settings=sanitizer()) == "all as expected\n"
+
+
+def test_memory(sanitized, tmp_path, rng):
+    """Allocations that fail, one a round."""
+    said = ran(tmp_path, "memory", sanitized.with_suffix(""), tmp_path, rng.randrange(80, 120), settings=sanitizer() | {"ASAN_OPTIONS": "detect_leaks=1"})
+    assert said.startswith("all as expected, up to allocation ")
