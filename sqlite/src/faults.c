@@ -47,10 +47,10 @@ static int code_of(enum purpose purpose, enum yieldcleat_fault fault) {
 int refuse_fault(struct report *report, enum purpose purpose, enum yieldcleat_fault fault) {
     struct yieldcleat_error error;
     yieldcleat_volume_last_error(&error);
-    const char *advice = "";
+    const char *advice = "", *message = fault == YIELDCLEAT_NO_MEMORY ? "out of memory" : error.message; /* perhaps of the VFS itself */
     if (fault == YIELDCLEAT_FENCED) advice = "; open the database again to write";
     if (fault == YIELDCLEAT_BELOW && purpose == READING) advice = "; begin a new transaction";
-    sqlite3_snprintf(sizeof latest.text, latest.text, "%s: %s%s", words[purpose], error.message, advice);
+    sqlite3_snprintf(sizeof latest.text, latest.text, "%s: %s%s", words[purpose], message, advice);
     return keep(report, code_of(purpose, fault));
 }
 
