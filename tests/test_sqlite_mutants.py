@@ -16,7 +16,7 @@ MUTANTS = {
     "from_zeros_by_halves": ("changes.c", "changes->from_zeros ? &whole : &runs", "&runs", "random"),
     "reads_without_a_snapshot": ("database.c", "number > database->view.header.highest", "turn_newest(database->engine, &database->view.point)", "snapshots"),
     "moves_a_snapshot": ("locks.c", "if (database->lock == SQLITE_LOCK_NONE) code", "code", "turns"),
-    "keeps_a_stale_cache": ("locks.c", "database->forgets = true;", "", "turns"),
+    "keeps_a_stale_cache": ("locks.c", ") database->forgets = true;", ") database->forgets = false;", "turns"),
     "keeps_pages_of_another_state": ("database.c", "if (view.point != database->view.point) pages_cut(&database->pages, 0);", "", "snapshots"),
     "keeps_pages_of_a_lost_commit": ("commit.c", "database_return(database, &database->before);", "database->view = database->before;", "in_doubt"),
     "undoes_a_commit_in_doubt": ("commit.c", "database_return(database, &database->before);", "", "in_doubt"),

@@ -23,7 +23,9 @@ struct database {
     struct pages pages; /* of the view, and changed */
     uint32_t size;      /* in pages, with the changes */
     bool is_sent;       /* the view is a commit of this connection that nobody has waited for */
-    bool forgets;       /* SQLite's cache has pages of another state: the next look at the counter of changes is to differ */
+    bool has_read;      /* there was a transaction, */
+    uint64_t cached;    /* and at this point it ended: SQLite's cache has pages of that state */
+    bool forgets;       /* the transaction is at another one: the next look at the counter of changes is to differ */
     struct report report;
 };
 

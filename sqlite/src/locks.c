@@ -6,7 +6,6 @@ SQLITE_EXTENSION_INIT3
 static int begin_read(struct database *database) {
     int code = turn_read(database->engine, &database->member, &database->report);
     if (code) return code;
-    uint64_t before = database->view.point;
     bool has_losses = turn_has_losses(database->engine, &database->member);
     if (has_losses) pages_cut(&database->pages, 0);
     code = database_look(database, database->member.point);
@@ -14,7 +13,7 @@ static int begin_read(struct database *database) {
         turn_end_read(database->engine, &database->member);
         return code;
     }
-    if (has_losses || database->view.point != before) database->forgets = true;
+    if (database->has_read && (has_losses || database->view.point != database->cached)) database->forgets = true;
     turn_move(database->engine, &database->member, database->view.point);
     database->lock = SQLITE_LOCK_SHARED;
     return SQLITE_OK;
@@ -48,7 +47,11 @@ int database_unlock(sqlite3_file *file, int lock) {
     struct database *database = (struct database *)file;
     if (lock >= database->lock) return SQLITE_OK;
     if (database->lock >= SQLITE_LOCK_RESERVED) end_write(database);
-    if (lock == SQLITE_LOCK_NONE) turn_end_read(database->engine, &database->member);
+    if (lock == SQLITE_LOCK_NONE) {
+        turn_end_read(database->engine, &database->member);
+        database->has_read = true;
+        database->cached = database->view.point;
+    }
     database->lock = lock;
     return SQLITE_OK;
 }

@@ -5,7 +5,7 @@
  * of the user's own. Each commit has a *commit point*, a number that rises from commit to commit, with gaps. It is *durable* once enough
  * nodes have it; then no crash of engines, and no loss of as many nodes as the volume bears, takes it back. Every page and header can be
  * read at each point from the least readable one on. At a point between two commits they are those of the earlier one; a part of a commit
- * is never visible. A volume without commits is at point 0.
+ * is never visible. A volume without commits is at point 0. The point of a commit that was lost may become that of another one.
  *
  * One handle at a time writes. Opening another one for writing fences the former, wherever it is: its calls fail with YIELDCLEAT_FENCED
  * from the moment at which it learns of that, and what it had not made durable may be lost, or not. Any number of handles read.
@@ -131,7 +131,7 @@ void yieldcleat_volume_discard(struct yieldcleat_volume *volume);
 enum yieldcleat_fault yieldcleat_volume_commit(struct yieldcleat_volume *volume, const void *header, size_t length, uint64_t *point);
 
 /* Waits until a commit of this handle is durable, for at most so many milliseconds, 0 being those of the options. Faults: TIMEOUT (the
- * commit is in doubt: wait again, or open the volume anew and look), FENCED (in doubt as well, until the newer writer has opened). */
+ * commit is in doubt: wait again, or open the volume again and look), FENCED (in doubt as well, until the newer writer has opened). */
 enum yieldcleat_fault yieldcleat_volume_wait(struct yieldcleat_volume *volume, uint64_t point, uint32_t milliseconds);
 
 /* Raises the least readable point, for all handles: nodes drop what only lower points need. A writer's call. A point that is not above
