@@ -1,9 +1,11 @@
 """Faults that the tests of the VFS must find: each is put into a copy of its sources, which is built, and one check must fail on it."""
 
 import pytest
+import test_sqlite
 
 from harness.sqlite_worlds import build, copy_of_sources, run
-from test_sqlite import pytestmark  # noqa: F401
+
+pytestmark = [pytest.mark.xdist_group("sqlite_mutants"), *test_sqlite.pytestmark[1:]]
 
 # A file of `sqlite/src`, what is there, what is put in its place, and the check that finds it.
 MUTANTS = {
