@@ -8,7 +8,8 @@ static int begin_read(struct database *database) {
     if (code) return code;
     bool has_losses = turn_has_losses(database->engine, &database->member);
     if (has_losses) pages_cut(&database->pages, 0);
-    code = database_look(database, database->member.point);
+    bool is_same = !has_losses && database->member.point == database->view.point; /* as it is where nobody has committed */
+    code = is_same ? SQLITE_OK : database_look(database, database->member.point);
     if (code) {
         turn_end_read(database->engine, &database->member);
         return code;

@@ -1,4 +1,5 @@
-/* The calls of a library that is built with SQLITE_ENABLE_BATCH_ATOMIC_WRITE, which Debian's is not, made on the file itself.
+/* The calls of a library that is built with SQLITE_ENABLE_BATCH_ATOMIC_WRITE, which Debian's is not, made on the file itself; and the
+ * greatest page.
  *
  *     batch LIBRARY URI */
 #include <sqlite3.h>
@@ -30,11 +31,13 @@ static sqlite3 *open_database(const char *library, const char *uri) {
 
 static int control(int operation) { return file->pMethods->xFileControl(file, operation, 0); }
 
-static void put(int page, int byte) {
+static int write_page(int page, int byte) {
     unsigned char bytes[PAGE];
     memset(bytes, byte, sizeof bytes);
-    expect(file->pMethods->xWrite(file, bytes, PAGE, (sqlite3_int64)(page - 1) * PAGE) == SQLITE_OK, "a page is written");
+    return file->pMethods->xWrite(file, bytes, PAGE, (sqlite3_int64)(page - 1) * PAGE);
 }
+
+static void put(int page, int byte) { expect(write_page(page, byte) == SQLITE_OK, "a page is written"); }
 
 static int has(int page, int byte) {
     unsigned char bytes[PAGE];
@@ -74,6 +77,8 @@ int main(int count, char **words) {
     expect(has(3, 'a') && has(4, 'c') && has(5, 0), "what was committed is there");
     begin();
     put(3, 'd');
+    put(65535, 'd');
+    expect(write_page(65536, 'd') == SQLITE_FULL, "the database is full");
     file->pMethods->xUnlock(file, SQLITE_LOCK_NONE);
     expect(file->pMethods->xLock(file, SQLITE_LOCK_SHARED) == SQLITE_OK && has(3, 'a'), "what was not committed is gone");
     file->pMethods->xUnlock(file, SQLITE_LOCK_NONE);

@@ -385,7 +385,7 @@ def check_several_databases(world):
 
 
 def check_calls(world):
-    """A commit is one mini-transaction, and the two modes of `synchronous` differ in whether it is waited for."""
+    """A commit is one mini-transaction, which `synchronous` waits for, or not; where nothing has changed nothing is read again."""
     ours = world.open()
     ours.execute("create table t(a)")
     for mode, waits in (("off", 0), ("normal", 1), ("full", 1)):
@@ -393,7 +393,8 @@ def check_calls(world):
         before = [world.calls(call) for call in ("commit", "wait")]
         ours.execute("insert into t values(randomblob(9000))")
         assert [world.calls(call) for call in ("commit", "wait")] == [before[0] + 1, before[1] + waits]
-        before = [world.calls(call) for call in ("commit", "wait", "stage")]
+        calls = ("commit", "wait", "stage", "header", "read")
+        before = [world.calls(call) for call in calls]
         ours.execute("select count(*) from t")
         ours.execute("begin immediate").execute("rollback")
-        assert [world.calls(call) for call in ("commit", "wait", "stage")] == before
+        assert [world.calls(call) for call in calls] == before
