@@ -1,7 +1,7 @@
 -- The lines of a capture, one after another.
 use Rattle.std.proofs.Common.{◌≡◌, ℕ, ◌<◌, eqb, List, [], ◌∷◌, ◌++◌, length, refl, sym, ap, ◌∙◌, append_assoc, arith}
 use Rattle.std.proofs.lemmas.List.Splits.{length-slice_split}
-use Rattle.script_text.specs.Parts.{parts_at}
+use Rattle.text.specs.Parts.{parts_at}
 use Rattle.fleet_tool.specs.Inspect.{line_text, parts_text}
 
 before_others : (line : List ℕ) (others : List (List ℕ)) → 0 < length others → parts_text (line ∷ others) ≡ line_text line ++ parts_text others

@@ -5,7 +5,7 @@ use Rattle.redo_core.specs.declared.facts.Fact.{Fact}
 use Rattle.redo_core.specs.declared.laws.LawFault.{LawFault}
 use Rattle.log_law.specs.Report.{Reports}
 use Rattle.log_law.specs.Breach.{ReportsBreach}
-use Rattle.script_text.specs.Parts.{parts_at}
+use Rattle.text.specs.Parts.{parts_at}
 use Rattle.script_text.specs.Script.{ScriptData, Rostered, rostered, script_of, facts_of}
 use Rattle.line_reasons.specs.TextReasons.{IsTextReason, IsGoodLine}
 use Rattle.fleet_tool.specs.declared.explaining.Reason.{Reason}

@@ -13,8 +13,8 @@ use Rattle.messages.specs.Pieces.{PieceData}
 use Rattle.redo_wire.specs.Values.{decoded_value}
 use Rattle.redo_wire.specs.declared.values.WireValue.{WireValue}
 use Rattle.redo_wire.specs.declared.values.WireValue.TheVariants.{Fact, Summary, Delta, Piece}
-use Rattle.script_text.specs.FactLine.{decoded}
-use Rattle.script_text.specs.Parts.{parts_at}
+use Rattle.text.specs.HexDigits.{decoded}
+use Rattle.text.specs.Parts.{parts_at}
 use Rattle.script_text.specs.FactText.{fact_text}
 
 -- ---- one value

@@ -16,8 +16,9 @@ use crate::placed_steps::answers;
 use fleet_core::Fleet;
 use log_law::{CheckFault, check_log};
 use redo_core::LawFault;
-use script_text::{Log, Script, ScriptError, read_facts, read_script, worded_line};
+use script_text::{Log, Script, ScriptError, read_facts, read_script};
 use std::alloc::{AllocError, Global};
+use text::worded_line;
 
 /// The outcome of an answered input, apart from its text.
 #[derive(Clone, Copy)]

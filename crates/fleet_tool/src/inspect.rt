@@ -9,8 +9,9 @@ ghost use Rattle.fleet_tool.specs.Inspect.{summary_text, delta_text, content_tex
 use redo_wire::{
     Delta, Piece, PieceContent, Summary, WireError, WireFault, WireValue, decode_value,
 };
-use script_text::{decoded, fact_text, first_part, labelled, worded};
+use script_text::fact_text;
 use std::alloc::{AllocError, Global};
+use text::{decoded, first_part, labelled, worded};
 
 fn fault_text(alloc: Global, fault: WireFault) -> Result<String, AllocError>
     ensures { IfOk result (λ s. string_bytes s ≡ codes "wire " ++ decimal (fault_number fault)) }

@@ -4,16 +4,16 @@ ghost use Rattle.std.specs.Prelude.{◌≡◌, [], ◌∷◌, ◌++◌, OnOk, co
 ghost use Rattle.hex.specs.Hex.{encode_lower};
 ghost use Rattle.script_steps.specs.Shown.{ShowsInside};
 ghost use Rattle.fleet_core.specs.Replies.{HasCome};
-ghost use Rattle.script_text.specs.Encoded.{worded_line};
+ghost use Rattle.text.specs.Wording.{worded_line};
 ghost use Rattle.fleet_tool.specs.Lines.{shown_bytes, front_text, uncovered_text, line_of};
 
 use fleet_core::Reply;
 use gossip_core::Shown;
 use redo_core::Page;
 use script_steps::Step;
-use script_text::worded_line;
 use segment_core::Front;
 use std::alloc::{AllocError, Global};
+use text::worded_line;
 
 /// The bytes of a page that the step yields: only a read yields any.
 fn shown_bytes<'a>(step: Step<usize>, page: &'a Page) -> &'a [u8]

@@ -1,9 +1,9 @@
 -- Bytes that arrive in pieces have the lines that they have as a whole.
 use Rattle.std.proofs.Common.{◌≡◌, ℕ, ◌<◌, Bool, cond, eqb, List, [], ◌∷◌, ◌++◌, length, refl, sym, ap, ◌∙◌, rules}
 use Rattle.std.specs.List.{onto_first}
-use Rattle.script_text.specs.Parts.{parts_at}
+use Rattle.text.specs.Parts.{parts_at}
 use Rattle.framing.specs.Lines.{glued}
-use Rattle.script_text.proofs.PatchEncoding.{some_parts}
+use Rattle.text.proofs.Split.{some_parts}
 
 pub glued_none : (parts : List (List ℕ)) → glued [] parts ≡ parts
 glued_none parts = search rules

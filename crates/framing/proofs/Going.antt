@@ -3,14 +3,14 @@ use Rattle.std.proofs.Common.{◌≡◌, ℕ, List, [], ◌∷◌, ◌++◌, tak
 use Rattle.std.specs.Prelude.{OnErr, ◌||◌}
 use Rattle.std.specs.List.{concat}
 use Rattle.std.specs.Io.KnownBytes.{Appends}
-use Rattle.script_text.specs.Parts.{parts_at}
+use Rattle.text.specs.Parts.{parts_at}
 use Rattle.framing.specs.Watching.{device_of, has_failed}
 use Rattle.framing.specs.Lines.{AnswersLine, AnswersFirst, glued}
 use Rattle.framing.specs.LinesServed.{EndsWith, IsCutOff}
 use Rattle.framing.specs.declared.devices.watched.Watched.{Watched}
 use Rattle.framing.proofs.LinesAnswered.{first_none, first_more, first_both, joined_none, joined_more, joined_both, joined_cut}
 use Rattle.framing.proofs.Gluing.{glued_none, parts_go_on}
-use Rattle.script_text.proofs.PatchEncoding.{some_parts}
+use Rattle.text.proofs.Split.{some_parts}
 use Rattle.std.proofs.KnownBytes.{Appends-trans}
 
 -- The lines before the rest are answered, and a part of the next line has arrived.

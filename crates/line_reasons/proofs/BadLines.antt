@@ -2,8 +2,8 @@
 use Rattle.std.proofs.Common.{◌-◌, ◌<◌, ◌⊎◌, length, map, get_or, take, drop, Bor, ◌≡◌, ℕ, List, [], ◌∷◌, Option, Some, None, inl, inr, sym, ◌∙◌, arith, rules}
 use Rattle.std.proofs.lemmas.Grind.{common_steps}
 use Rattle.std.specs.Prelude.{IsSome, slice_get}
-use Rattle.script_text.specs.Parts.{parts_at, first_parts}
-use Rattle.script_text.specs.Fields.{read_by}
+use Rattle.text.specs.Parts.{parts_at, first_parts}
+use Rattle.text.specs.Fields.{read_by}
 use Rattle.script_text.specs.StepLine.{step_forms, step_line}
 use Rattle.script_text.specs.Script.{nodes_form, nodes_in_line}
 use Rattle.line_reasons.specs.declared.lines.Place.{Place}

@@ -7,12 +7,12 @@ use Rattle.redo_core.specs.Shape.{max_number, max_patches, cut_fault, advance_fa
 use Rattle.redo_core.specs.declared.shapes.ShapeFault.{ShapeFault}
 use Rattle.redo_core.specs.declared.facts.Fact.{Fact}
 use Rattle.redo_core.specs.declared.facts.Fact.TheVariants.{Record, Cut, Advance}
-use Rattle.script_text.specs.Parts.{◌>>=◌, parts_at, first_parts}
-use Rattle.script_text.specs.Fields.{numbers_of, of_two, of_three, of_five}
+use Rattle.text.specs.Parts.{◌>>=◌, parts_at, first_parts}
+use Rattle.text.specs.Fields.{numbers_of, of_two, of_three, of_five}
 use Rattle.script_text.specs.declared.contents.Head.{Head}
 use Rattle.script_text.specs.FactLine.{Contents, contents_of, unless, shaped, head_numbers, record_limits, record_line, cut_line, advance_line, fact_line}
-use Rattle.script_text.proofs.FirstParts.{few_are_all, none_of}
-use Rattle.script_text.proofs.Forms.{numbers_apart}
+use Rattle.text.proofs.FirstParts.{few_are_all, none_of}
+use Rattle.text.proofs.Forms.{numbers_apart}
 use Rattle.script_text.proofs.RecordContents.{no_record}
 use Rattle.line_reasons.specs.declared.reasons.NumberFault.{NumberFault}
 use Rattle.line_reasons.specs.declared.reasons.LineReason.{LineReason}

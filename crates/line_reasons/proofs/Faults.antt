@@ -1,11 +1,11 @@
 -- Faults of numbers.
 use Rattle.std.proofs.Common.{◌≡◌, ℕ, ◌<◌, ◌≤◌, true, List, [], ◌∷◌, length, get_or, Option, Some, None, zero, suc, refl, arith, rules}
 use Rattle.std.specs.Str.{all_ascii_digits}
-use Rattle.script_text.specs.Number.{value_from, decimal_value}
-use Rattle.script_text.specs.Parts.{◌>>=◌}
-use Rattle.script_text.specs.Fields.{numbers_of}
-use Rattle.script_text.proofs.Numbers.{digits_of_undigit, digits_of_large, digits_of_good}
-use Rattle.script_text.proofs.Forms.{numbers_apart}
+use Rattle.text.specs.Number.{value_from, decimal_value}
+use Rattle.text.specs.Parts.{◌>>=◌}
+use Rattle.text.specs.Fields.{numbers_of}
+use Rattle.text.proofs.Numbers.{digits_of_undigit, digits_of_large, digits_of_good}
+use Rattle.text.proofs.Forms.{numbers_apart}
 use Rattle.line_reasons.specs.declared.reasons.NumberFault.{NumberFault}
 use Rattle.line_reasons.specs.declared.reasons.LineReason.{LineReason}
 use Rattle.line_reasons.specs.NumberFaults.{IsNumberFault}

@@ -3,9 +3,9 @@ use Rattle.std.proofs.Common.{get_or, ◌≡◌, ℕ, Bool, cond, List, [], ◌�
 use Rattle.std.proofs.lemmas.Grind.{common_steps}
 use Rattle.std.proofs.lemmas.Slice.Zip.{AllZip-long}
 use Rattle.std.specs.Prelude.{bytes_eq, MatchBool}
-use Rattle.script_text.specs.Parts.{◌>>=◌}
-use Rattle.script_text.specs.Fields.{Form, numbers_of, made_by, read_by}
-use Rattle.script_text.proofs.Forms.{numbers_within}
+use Rattle.text.specs.Parts.{◌>>=◌}
+use Rattle.text.specs.Fields.{Form, numbers_of, made_by, read_by}
+use Rattle.text.proofs.Forms.{numbers_within}
 use Rattle.line_reasons.specs.declared.reasons.LineReason.{LineReason}
 use Rattle.line_reasons.specs.declared.reasons.LineReason.TheVariants.{CarriageReturn, UnknownWord, FieldCount, AdvanceFieldCount, Field, Zero, PastPage, ManyPatches, Patch, Shape}
 use Rattle.line_reasons.specs.FormReasons.{IsFormReason, IsReasonBy}

@@ -1,8 +1,8 @@
 -- The first parts of a text, and all of them.
 use Rattle.std.proofs.Common.{◌≡◌, ℕ, ◌+◌, ◌<◌, List, None, arith}
-use Rattle.script_text.specs.Parts.{parts_at, first_parts}
-use Rattle.script_text.specs.Fields.{Form, read_by}
-use Rattle.script_text.proofs.FirstParts.{few_are_all, AreShort, longer_than_forms}
+use Rattle.text.specs.Parts.{parts_at, first_parts}
+use Rattle.text.specs.Fields.{Form, read_by}
+use Rattle.text.proofs.FirstParts.{few_are_all, AreShort, longer_than_forms}
 
 -- what is read of the first parts by short forms is what is read of all
 pub read_first : {A : Type 0} (n : ℕ) (forms : List (Form A)) (c : ℕ) (text : List ℕ) → AreShort n forms → n + 1 < 66

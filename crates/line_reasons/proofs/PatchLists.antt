@@ -5,15 +5,15 @@ use Rattle.std.specs.Prelude.{bytes_eq}
 use Rattle.std.proofs.lemmas.List.{map_more, take_all, length-take}
 use Rattle.redo_core.specs.Shape.{max_patches}
 use Rattle.redo_core.specs.declared.patches.Patch as patches
-use Rattle.script_text.specs.Parts.{◌>>=◌, parts_at, first_parts}
+use Rattle.text.specs.Parts.{◌>>=◌, parts_at, first_parts}
 use Rattle.script_text.specs.FactLine.{patch_of, each_patch, Contents, contents, contents_from, contents_of}
-use Rattle.script_text.proofs.Options.{bind_some, some_is, true_is, no_test}
+use Rattle.text.proofs.Options.{bind_some, some_is, true_is, no_test}
 use Rattle.line_reasons.specs.declared.reasons.LineReason.TheVariants.{ManyPatches, Patch}
 use Rattle.line_reasons.specs.declared.reasons.LineReason.{LineReason}
 use Rattle.line_reasons.specs.declared.reasons.PatchFault.{PatchFault}
 use Rattle.line_reasons.proofs.PatchWords.{faulty_word}
 use Rattle.line_reasons.specs.ContentsReasons.{begins_anew, patch_words, IsFaultyPatch, IsListReason, IsContentsReason}
-use Rattle.script_text.proofs.Split.{some_parts}
+use Rattle.text.proofs.Split.{some_parts}
 
 none_left : (o : Option patches.Patch) (os : Option (List patches.Patch)) → os ≡ None → (o >>= (λ p. os >>= (λ ps. Some (p ∷ ps)))) ≡ None
 none_left o os e = search rules

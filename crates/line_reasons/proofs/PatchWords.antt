@@ -2,12 +2,13 @@
 use Rattle.std.proofs.Common.{◌≡◌, ◌≢◌, ℕ, ◌<◌, inl, inr, Bool, ◌&&◌, List, [], ◌∷◌, length, Option, Some, None, refl, sym, ap, ◌∙◌, arith, rules}
 use Rattle.std.specs.Prelude.{IsSome, is_some, MatchBool}
 use Rattle.hex.specs.Hex.{decode_of}
-use Rattle.script_text.specs.Parts.{◌>>=◌, parts_at}
-use Rattle.script_text.specs.Number.{decimal_value}
-use Rattle.script_text.specs.Fields.{numbers_of}
-use Rattle.script_text.specs.FactLine.{decoded, patch_at, patch_from, patch_of}
+use Rattle.text.specs.Parts.{◌>>=◌, parts_at}
+use Rattle.text.specs.Number.{decimal_value}
+use Rattle.text.specs.Fields.{numbers_of}
+use Rattle.text.specs.HexDigits.{decoded}
+use Rattle.script_text.specs.FactLine.{patch_at, patch_from, patch_of}
 use Rattle.script_text.proofs.RecordContents.{read_whole}
-use Rattle.script_text.proofs.Split.{some_parts, parts_joined}
+use Rattle.text.proofs.Split.{some_parts, parts_joined}
 use Rattle.script_text.proofs.Results.{found}
 use Rattle.line_reasons.specs.declared.reasons.PatchFault.{PatchFault}
 use Rattle.line_reasons.specs.declared.reasons.PatchFault.TheVariants.{Colon, Place, NoBytes, Digits, FillBytes}

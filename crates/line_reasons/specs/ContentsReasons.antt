@@ -1,7 +1,7 @@
 -- What is wrong with field 7 of a record.
 use Rattle.std.specs.Prelude.{◌≡◌, ◌≢◌, ◌<◌, ◌+◌, ℕ, Bool, false, List, [], ◌∷◌, length, slice_index_or, bytes_eq, codes, if◌then◌else◌}
 use Rattle.redo_core.specs.Shape.{max_patches}
-use Rattle.script_text.specs.Parts.{parts_at}
+use Rattle.text.specs.Parts.{parts_at}
 use Rattle.line_reasons.specs.declared.reasons.LineReason.{LineReason}
 use Rattle.line_reasons.specs.declared.reasons.LineReason.TheVariants.{ManyPatches, Patch}
 use Rattle.line_reasons.specs.declared.reasons.PatchFault.{PatchFault}

@@ -3,7 +3,7 @@ use Rattle.std.specs.Prelude.{◌≡◌, ◌≢◌, ◌⊎◌, ℕ, List, [], �
 use Rattle.redo_core.specs.Data.{record_with, cut_of, advance_of}
 use Rattle.redo_core.specs.Shape.{max_number, max_readers, record_fault, cut_fault, advance_fault}
 use Rattle.redo_core.specs.declared.shapes.ShapeFault.{ShapeFault}
-use Rattle.script_text.specs.Fields.{numbers_of}
+use Rattle.text.specs.Fields.{numbers_of}
 use Rattle.script_text.specs.declared.contents.Head.{Head}
 use Rattle.script_text.specs.FactLine.{Contents, contents_of, head_numbers, record_limits}
 use Rattle.line_reasons.specs.declared.reasons.LineReason.{LineReason}

@@ -1,7 +1,7 @@
 -- What is wrong with a line of a word and numbers.
 use Rattle.std.specs.Prelude.{◌≡◌, ◌<◌, ◌+◌, ◌-◌, ℕ, List, [], ◌∷◌, length, slice_index, Some, None, bytes_eq, MatchBool}
 use Rattle.redo_core.specs.Shape.{page_len}
-use Rattle.script_text.specs.Fields.{Form, form, of_one, numbers_of}
+use Rattle.text.specs.Fields.{Form, form, of_one, numbers_of}
 use Rattle.script_text.specs.Script.{positive}
 use Rattle.line_reasons.specs.declared.reasons.LineReason.{LineReason}
 use Rattle.line_reasons.specs.declared.reasons.LineReason.TheVariants.{UnknownWord, Zero, PastPage}

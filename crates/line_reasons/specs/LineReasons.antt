@@ -1,9 +1,9 @@
 -- Whether a line is read where it stands, and why it is not.
 use Rattle.std.specs.Prelude.{◌≡◌, ◌⊎◌, ◌-◌, ℕ, List, [], ◌∷◌, length, IsSome, slice_get, Some}
-use Rattle.script_text.specs.Parts.{first_parts}
+use Rattle.text.specs.Parts.{first_parts}
 use Rattle.script_text.specs.FactLine.{fact_of, fact_line}
 use Rattle.script_text.specs.StepLine.{step_of, step_forms}
-use Rattle.script_text.specs.Fields.{read_by}
+use Rattle.text.specs.Fields.{read_by}
 use Rattle.script_text.specs.Script.{nodes_form, nodes_in_line}
 use Rattle.line_reasons.specs.declared.lines.Place.{Place}
 use Rattle.line_reasons.specs.declared.lines.Place.TheVariants.{Facts, Nodes, Steps}

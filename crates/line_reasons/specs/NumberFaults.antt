@@ -1,7 +1,7 @@
 -- Why a word is no number up to a limit.
 use Rattle.std.specs.Prelude.{◌≡◌, ◌<◌, ℕ, true, false, List, [], length, slice_index}
 use Rattle.std.specs.Str.{all_ascii_digits}
-use Rattle.script_text.specs.Number.{value_from}
+use Rattle.text.specs.Number.{value_from}
 use Rattle.line_reasons.specs.declared.reasons.NumberFault.{NumberFault}
 use Rattle.line_reasons.specs.declared.reasons.NumberFault.TheVariants.{Empty, NotDigits, LeadingZero, Above}
 

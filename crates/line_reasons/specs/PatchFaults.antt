@@ -1,9 +1,9 @@
 -- Why a word is no patch.
 use Rattle.std.specs.Prelude.{◌≡◌, ◌≢◌, ◌⊎◌, ℕ, List, [], ◌∷◌, length, Some, None, IsSome}
 use Rattle.hex.specs.Hex.{decode_of}
-use Rattle.script_text.specs.Parts.{parts_at}
-use Rattle.script_text.specs.Fields.{numbers_of}
-use Rattle.script_text.specs.FactLine.{decoded}
+use Rattle.text.specs.Parts.{parts_at}
+use Rattle.text.specs.Fields.{numbers_of}
+use Rattle.text.specs.HexDigits.{decoded}
 use Rattle.line_reasons.specs.declared.reasons.PatchFault.{PatchFault}
 use Rattle.line_reasons.specs.declared.reasons.PatchFault.TheVariants.{Colon, Place, NoBytes, Digits, FillBytes}
 

@@ -7,8 +7,9 @@ ghost use Rattle.line_reasons.specs.ContentsReasons.{begins_anew, patch_words, I
 use crate::patches::patch_fault;
 use crate::reasons::LineReason;
 use redo_core::{MAX_PATCHES, Patch};
-use script_text::{first_parts, is_word, read_patch};
+use script_text::read_patch;
 use std::alloc::{AllocError, Global};
+use text::{first_parts, is_word};
 
 /// Whether the page begins anew, and the patches.
 #[derive(Drop)]

@@ -11,8 +11,8 @@ use crate::limits::{READERS, SHORT};
 use crate::numbers::numbers;
 use crate::reasons::LineReason;
 use redo_core::{Advance, Cut, MAX_NUMBER, Record};
-use script_text::is_word;
 use std::alloc::{AllocError, Global};
+use text::is_word;
 
 /// The shape of a record.
 fn shaped_record(

@@ -2,7 +2,7 @@
 
 ghost use Rattle.std.specs.Prelude.{◌≡◌, ◌<◌, ◌^◌, ◌∷◌, [], IsSome, MatchResult, map};
 ghost use Rattle.std.specs.List.{All};
-ghost use Rattle.script_text.specs.Fields.{numbers_of, made_by, read_by};
+ghost use Rattle.text.specs.Fields.{numbers_of, made_by, read_by};
 ghost use Rattle.line_reasons.specs.FieldReasons.{IsFieldReason};
 ghost use Rattle.line_reasons.specs.FormReasons.{count_form, IsFormReason, IsReasonBy};
 

@@ -9,8 +9,8 @@ use crate::forms::counted;
 use crate::limits::NODES;
 use crate::reasons::LineReason;
 use crate::steps::step;
-use script_text::first_parts;
 use std::alloc::{AllocError, Global};
+use text::first_parts;
 
 /// What kind of line is wanted: a fact, the number of nodes, or a step behind so many facts.
 #[derive(Clone, Copy, Debug, PartialEq, Eq)]

@@ -3,13 +3,13 @@
 ghost use Rattle.std.specs.Prelude.{◌≡◌, ◌≤◌, ◌<◌, ◌^◌, ◌↔◌, IsTrue, length, slice_index, IfOk, MatchResult, Some, None, map};
 ghost use Rattle.std.specs.List.{All, AllZip};
 ghost use Rattle.std.specs.Str.{all_ascii_digits};
-ghost use Rattle.script_text.specs.Number.{decimal_value};
-ghost use Rattle.script_text.specs.Fields.{numbers_of};
+ghost use Rattle.text.specs.Number.{decimal_value};
+ghost use Rattle.text.specs.Fields.{numbers_of};
 ghost use Rattle.line_reasons.specs.NumberFaults.{IsNumberFault};
 ghost use Rattle.line_reasons.specs.FieldReasons.{IsFaultOf, IsFieldReason};
 
 use crate::reasons::{LineReason, NumberFault};
-use script_text::read_number;
+use text::read_number;
 
 fn is_digits(word: &[u8]) -> bool
     ensures { result ≡ all_ascii_digits word.now }

@@ -1,14 +1,14 @@
 //! Patches.
 
 ghost use Rattle.std.specs.Prelude.{◌≡◌, ◌≢◌, ◌∷◌, [], length, None, MatchBool, MatchOption, IfOk};
-ghost use Rattle.script_text.specs.Parts.{parts_at};
+ghost use Rattle.text.specs.Parts.{parts_at};
 ghost use Rattle.script_text.specs.FactLine.{patch_of};
 ghost use Rattle.line_reasons.specs.PatchFaults.{IsPatchPlace, IsNoPatchPlace, IsPatchFault};
 
 use crate::limits::{PAGE, SHORT};
 use crate::reasons::PatchFault;
-use script_text::{decoded, first_part, read_number};
 use std::alloc::{AllocError, Global};
+use text::{decoded, first_part, read_number};
 
 /// Whether the word is a place: an offset, or an offset and a length round a star.
 fn is_place(word: &[u8]) -> bool
@@ -22,7 +22,7 @@ fn is_place(word: &[u8]) -> bool
 }
 
 /// The place and the digits round the one colon of a word.
-#[tactic(auto, using(script_text::proofs::Split::some_parts))]
+#[tactic(auto, using(text::proofs::Split::some_parts))]
 fn round_colon(word: &[u8]) -> Option<(&[u8], &[u8])>
     ensures { MatchOption result (length (parts_at 58 word.now) ≢ 2) (λ p. parts_at 58 word.now ≡ p.0.now ∷ p.1.now ∷ []) }
 {

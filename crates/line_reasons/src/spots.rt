@@ -1,10 +1,10 @@
 //! A line of a text, by its number.
 
 ghost use Rattle.std.specs.Prelude.{◌≡◌, ◌≤◌, ◌<◌, ◌↔◌, length, slice_get, Some, IsTrue, IfSome, MatchOption, if◌then◌else◌};
-ghost use Rattle.script_text.specs.Parts.{parts_at};
+ghost use Rattle.text.specs.Parts.{parts_at};
 ghost use Rattle.line_reasons.specs.Spots.{go_with, IsSpot};
 
-use script_text::{first_part, is_word};
+use text::{first_part, is_word};
 
 /// A line of a text.
 #[derive(Clone, Copy)]
@@ -29,7 +29,7 @@ fn first_go(is_script: bool, go: Option<usize>, before: usize, line: &[u8]) -> O
 }
 
 /// The first line, and whether LF ends it.
-#[tactic(auto, using(script_text::proofs::Split::some_parts))]
+#[tactic(auto, using(text::proofs::Split::some_parts))]
 fn first_line(text: &[u8]) -> (&[u8], bool)
     ensures line { slice_get (parts_at 10 text.now) 0 ≡ Some result.0.now }
     ensures ended { IsTrue result.1 ↔ 1 < length (parts_at 10 text.now) }

@@ -1,7 +1,7 @@
 //! Step lines.
 
 ghost use Rattle.std.specs.Prelude.{◌∷◌, IsSome, MatchResult, map};
-ghost use Rattle.script_text.specs.Fields.{made_by, read_by};
+ghost use Rattle.text.specs.Fields.{made_by, read_by};
 ghost use Rattle.script_text.specs.StepLine.{take_form, fold_form, discard_form, front_form, read_form, join_form, same_form, covers_form, wipe_form, ask_form, answer_form, absorb_form, message_forms, step_forms};
 ghost use Rattle.line_reasons.specs.FormReasons.{IsFormReason, IsReasonBy};
 
@@ -10,7 +10,7 @@ use crate::limits::{MESSAGE, PAGE, SHORT};
 use crate::numbers::numbers;
 use crate::reasons::LineReason;
 use redo_core::MAX_NUMBER;
-use script_text::is_word;
+use text::is_word;
 
 fn take(facts: u32, fields: &[&[u8]]) -> Result<(), LineReason>
     ensures { MatchResult result (λ _. IsSome (made_by (take_form facts) (map (λ x. x.now) fields.now))) (IsFormReason (take_form facts) (map (λ x. x.now) fields.now)) }

@@ -1,7 +1,7 @@
 //! A line of a whole text.
 
 ghost use Rattle.std.specs.Prelude.{◌≡◌, ◌<◌, ◌-◌, Some, IfOk, IfSome, MatchOption};
-ghost use Rattle.script_text.specs.Parts.{parts_at};
+ghost use Rattle.text.specs.Parts.{parts_at};
 ghost use Rattle.script_text.specs.Script.{opening_of};
 ghost use Rattle.line_reasons.specs.TextReasons.{IsLineReason, IsReadInPlace, IsEndedReason, IsGoodEnded, IsRestReason, IsGoodRest, IsTextReason, IsGoodLine};
 ghost use Rattle.line_reasons.specs.LineReasons.{IsReadThere};
@@ -11,8 +11,9 @@ use crate::limits::{LINES, READERS};
 use crate::lines::{Place, line_reason};
 use crate::reasons::TextReason;
 use crate::spots::{Spot, find_spot};
-use script_text::{is_word, read_opening};
+use script_text::read_opening;
 use std::alloc::{AllocError, Global};
+use text::is_word;
 
 /// Why what stands behind the last LF is bad.
 fn rest_reason(is_script: bool, spot: Spot) -> Option<TextReason>

@@ -1,7 +1,7 @@
 -- A line asks what its first words ask: no request has as many as are looked at.
 use Rattle.std.proofs.Common.{◌≡◌, ℕ, ◌<◌, List, [], ◌∷◌, length, None, Err, ap, arith, rules}
-use Rattle.script_text.specs.Parts.{parts_at, most_parts, first_parts}
-use Rattle.script_text.proofs.FirstParts.{few_are_all, longer_than_forms}
+use Rattle.text.specs.Parts.{parts_at, most_parts, first_parts}
+use Rattle.text.proofs.FirstParts.{few_are_all, longer_than_forms}
 use Rattle.node_stream.specs.Reading.{open_form, read_form, fold_form, freeze_form, piece_form, stage_form, next_form, numbers_line, formed, words_line, request_of}
 use Rattle.node_stream.specs.declared.faults.LineFault.TheVariants as fault
 

@@ -1,7 +1,7 @@
 -- What a frame asks.
 use Rattle.std.specs.Prelude.{ℕ, ◌+◌, ◌==◌, nat_lt, List, length, take, drop, position, option_map, Option, Some, None, Result, Ok, Err, codes, bytes_eq, if◌then◌else◌}
 use Rattle.replica.specs.declared.requests.Request.TheVariants as request
-use Rattle.script_text.specs.Number.{decimal_value}
+use Rattle.text.specs.Number.{decimal_value}
 use Rattle.node_stream.specs.Asking.{asked}
 use Rattle.node_stream.specs.Reading.{◌>>=◌, fact_in, summary_in, delta_in, piece_in, most_of, answer_within, request_of}
 use Rattle.node_stream.specs.declared.asked.Asked.{Asked}

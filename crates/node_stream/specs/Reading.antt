@@ -12,10 +12,10 @@ use Rattle.redo_wire.specs.DeltaReading.{decoded_delta}
 use Rattle.redo_wire.specs.PieceReading.{decoded_piece}
 use Rattle.redo_wire.specs.declared.faults.WireFault.{WireFault}
 use Rattle.replica.specs.declared.requests.Request.TheVariants as request
-use Rattle.script_text.specs.Number.{decimal_value}
-use Rattle.script_text.specs.Parts.{parts_at}
-use Rattle.script_text.specs.FactLine.{decoded}
-use Rattle.script_text.specs.Fields.{Form, form, of_one, of_two, read_by}
+use Rattle.text.specs.Number.{decimal_value}
+use Rattle.text.specs.Parts.{parts_at}
+use Rattle.text.specs.HexDigits.{decoded}
+use Rattle.text.specs.Fields.{Form, form, of_one, of_two, read_by}
 use Rattle.node_stream.specs.Asking.{asked, shown}
 use Rattle.node_stream.specs.declared.asked.Asked.{Asked}
 use Rattle.node_stream.specs.declared.faults.LineFault.{LineFault}

@@ -13,8 +13,8 @@ use crate::requests::read_line;
 use crate::values::{delta_in, fact_in, piece_in, summary_in};
 use memchr::memchr;
 use replica::Request;
-use script_text::{is_word, read_number};
 use std::alloc::Global;
+use text::{is_word, read_number};
 
 /// The place of the first space.
 fn first_space(text: &[u8]) -> Option<usize>

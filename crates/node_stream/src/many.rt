@@ -11,8 +11,8 @@ use crate::frame_node::{answer_one, memory};
 use crate::frame_requests::halves;
 use framing::frames::{AnswerFrames, FrameAnswer, count_frames, split_frame};
 use replica::Replica;
-use script_text::is_word;
 use std::alloc::Global;
+use text::is_word;
 
 /// The most requests in a frame: so many answers of 17 bytes, with their lengths, are within 64 MiB.
 const MOST: usize = 3_195_660;

@@ -1,7 +1,7 @@
 //! Request lines of a word alone, and of a word and numbers.
 
 ghost use Rattle.std.specs.Prelude.{◌≡◌, map, IfSome};
-ghost use Rattle.script_text.specs.Fields.{made_by};
+ghost use Rattle.text.specs.Fields.{made_by};
 ghost use Rattle.node_stream.specs.Asking.{IsInside};
 ghost use Rattle.node_stream.specs.Reading.{lone_word, open_form, read_form, fold_form, freeze_form};
 ghost use Rattle.node_stream.specs.Reading.{piece_form, stage_form, next_form, numbers_line};
@@ -9,7 +9,7 @@ ghost use Rattle.node_stream.specs.Reading.{piece_form, stage_form, next_form, n
 use crate::asked::{Asked, Window};
 use redo_core::{Key, MAX_NUMBER, MAX_READERS, Roster};
 use replica::Request;
-use script_text::{is_word, read_numbers};
+use text::{is_word, read_numbers};
 
 /// An epoch or a page.
 const SHORT: u64 = 65535;

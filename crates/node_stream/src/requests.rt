@@ -10,8 +10,8 @@ use crate::faults::{LineError, LineFault};
 use crate::numbered::{LONG, numbers, word};
 use crate::values::{delta, fact, piece, summary};
 use replica::Request;
-use script_text::{first_parts, is_word, read_number};
 use std::alloc::Global;
+use text::{first_parts, is_word, read_number};
 
 #[tactic(auto, unfolding(crate::specs::Reading::take_line))]
 fn take(alloc: Global, digits: &[u8]) -> Result<Asked, LineError>

@@ -7,8 +7,8 @@ use redo_core::Fact;
 use redo_wire::{
     Delta, Piece, Summary, WireError, decode_delta, decode_fact, decode_piece, decode_summary,
 };
-use script_text::decoded;
 use std::alloc::Global;
+use text::decoded;
 
 /// The bytes of hexadecimal digits of either case.
 #[tactic(auto, unfolding(crate::specs::Reading::bytes_of_digits))]

@@ -2,7 +2,7 @@
 
 ghost use Rattle.std.specs.Prelude.{◌≡◌, ◌++◌, [], ◌∷◌, IfOk, codes};
 ghost use Rattle.framing.specs.AnswerText.{text_of};
-ghost use Rattle.script_text.specs.Encoded.{worded_line};
+ghost use Rattle.text.specs.Wording.{worded_line};
 ghost use Rattle.node_stream.specs.Telling.{three_numbers, held_line, refusal_line, shown_line};
 ghost use Rattle.node_stream.specs.Telling.{gap_line, status_start, status_end, fault_line};
 
@@ -12,9 +12,9 @@ use framing::lines::Answer;
 use gossip_core::Shown;
 use redo_core::Cut;
 use replica::Status;
-use script_text::{labelled, worded_line};
 use segment_core::{Front, Gap, Refusal};
 use std::alloc::{AllocError, Global};
+use text::{labelled, worded_line};
 
 /// Words, and numbers after them.
 pub fn numbers(alloc: Global, words: &str, numbers: &[u64]) -> Result<Answer, AllocError>

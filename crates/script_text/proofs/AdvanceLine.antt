@@ -5,13 +5,13 @@ use Rattle.redo_core.specs.Data.{advance_of}
 use Rattle.redo_core.specs.Shape.{max_number, max_readers}
 use Rattle.redo_core.specs.declared.facts.Fact.{Fact}
 use Rattle.redo_core.specs.declared.facts.Fact.TheVariants.{Advance}
-use Rattle.script_text.specs.Number.{decimal_value}
-use Rattle.script_text.specs.Parts.{◌>>=◌, parts_at}
-use Rattle.script_text.specs.Fields.{numbers_of, first_of, field_of, of_one}
+use Rattle.text.specs.Number.{decimal_value}
+use Rattle.text.specs.Parts.{◌>>=◌, parts_at}
+use Rattle.text.specs.Fields.{numbers_of, first_of, field_of, of_one}
 use Rattle.script_text.specs.FactLine.{shaped, advance_line}
-use Rattle.script_text.proofs.Forms.{numbers_apart}
+use Rattle.text.proofs.Forms.{numbers_apart}
 use Rattle.script_text.proofs.Results.{found}
-use Rattle.script_text.proofs.Split.{some_parts}
+use Rattle.text.proofs.Split.{some_parts}
 
 abbrev advance_by : ℕ → ℕ → ℕ → Option Fact
 advance_by epoch point reader = shaped (Advance (advance_of epoch reader point))

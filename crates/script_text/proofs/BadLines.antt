@@ -6,16 +6,16 @@ use Rattle.std.proofs.Math.Seq.{take-add, take-append_seam}
 use Rattle.std.proofs.lemmas.List.{append_cancel_right}
 use Rattle.redo_core.specs.declared.facts.Fact.{Fact}
 use Rattle.script_text.specs.FactLine.{fact_of}
-use Rattle.script_text.specs.Number.{digits_of}
+use Rattle.text.specs.Number.{digits_of}
 use Rattle.script_text.specs.StepLine.{step_of}
-use Rattle.script_text.specs.Parts.{parts_at}
+use Rattle.text.specs.Parts.{parts_at}
 use Rattle.script_text.specs.Script.{ScriptData, rostered, most, or_bad, within, asking, with_fact, nodes_in_line, roster_in_line, lines_from, nodes_from, script_from, opened, script_of, facts_of}
 use Rattle.script_text.specs.Laws.{BadScriptLineIsLeast, BadFactLineIsLeast}
 use Rattle.script_text.specs.Encoded.{AreFacts, AsksSteps, IsLog, IsScript, Encodes, Begins, IsLeastBadLine}
 use Rattle.script_text.proofs.Results.{end, bad_is, refused, one_of, found, within_ok, within_bad, some_left, room_is, ended}
 use Rattle.script_text.proofs.Scripts.{lines_next, script_next}
 use Rattle.script_text.proofs.Rosters.{Reader, facts_reader, steps_reader, opened_plain, opened_named, opened_last, opened_read, rostered_is_encoded, rostered_is_read, scripts_are_encoded, logs_are_encoded}
-use Rattle.script_text.proofs.Split.{some_parts}
+use Rattle.text.proofs.Split.{some_parts}
 
 -- Where a reader stops: behind the lines before, which more lines would complete, at a line that no others complete.
 record Stops {A : Type 0} (read : List (List ℕ) → Result A ℕ) (at : ℕ) (parts : List (List ℕ)) (stop : ℕ) : Type 0 where

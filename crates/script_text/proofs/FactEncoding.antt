@@ -7,14 +7,15 @@ use Rattle.redo_core.specs.Shape.{max_number, max_readers, record_fault, cut_fau
 use Rattle.redo_core.specs.declared.shapes.ShapeFault.{ShapeFault}
 use Rattle.redo_core.specs.declared.facts.Fact.{Fact}
 use Rattle.redo_core.specs.declared.facts.Fact.TheVariants.{Record, Cut, Advance}
-use Rattle.script_text.specs.Parts.{◌>>=◌, parts_at}
-use Rattle.script_text.specs.Fields.{numbers_of, of_two, of_three, of_five}
+use Rattle.text.specs.Parts.{◌>>=◌, parts_at}
+use Rattle.text.specs.Fields.{numbers_of, of_two, of_three, of_five}
 use Rattle.script_text.specs.FactLine.{Contents, unless, shaped, contents_of, record_line, cut_line, advance_line, fact_line, fact_of}
 use Rattle.script_text.specs.Laws.{FactLinesAreEncoded}
-use Rattle.script_text.specs.Encoded.{EncodesForm, EncodesRecord, EncodesCut, EncodesAdvance, EncodesFact}
-use Rattle.script_text.proofs.Forms.{AreLimits, AreWithin, two_is, three_is, five_is, numbers_are, numbers_are_read, numbers_lack_space, said_form, form_fields}
-use Rattle.script_text.proofs.Options.{bind_some, either}
-use Rattle.script_text.proofs.Split.{AllLack, parts_joined, joined_parts}
+use Rattle.text.specs.Wording.{EncodesForm}
+use Rattle.script_text.specs.Encoded.{EncodesRecord, EncodesCut, EncodesAdvance, EncodesFact}
+use Rattle.text.proofs.Forms.{AreLimits, AreWithin, two_is, three_is, five_is, numbers_are, numbers_are_read, numbers_lack_space, said_form, form_fields}
+use Rattle.text.proofs.Options.{bind_some, either}
+use Rattle.text.proofs.Split.{AllLack, parts_joined, joined_parts}
 use Rattle.script_text.proofs.PatchEncoding.{contents_are_encoded, contents_are_read, contents_lack_space}
 
 -- ---- what is read is encoded

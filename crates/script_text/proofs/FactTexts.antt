@@ -9,7 +9,7 @@ use Rattle.redo_core.specs.Data.{RecordData}
 use Rattle.redo_core.specs.Shape.{is_empty_patch, is_patch_off_page, record_fault}
 use Rattle.redo_core.specs.declared.patches.Patch.{Patch}
 use Rattle.script_text.specs.FactText.{patch_text, between_commas, contents_text, record_text, IsReadBack}
-use Rattle.script_text.specs.Encoded.{EncodesPatch, EncodesContents, EncodesRecord, worded, worded_line, labelled}
+use Rattle.script_text.specs.Encoded.{EncodesPatch, EncodesContents, EncodesRecord}
 
 patch_encoded : (p : Patch) → is_empty_patch p ≡ false → is_patch_off_page p ≡ false → IsReadBack p → EncodesPatch (patch_text p) p
 patch_encoded p some inside back = grind (arith, common_steps)
@@ -47,19 +47,3 @@ joined_between f (x ∷ xs) some = commas f x xs
 
 pub none_between : {X : Type 0} (f : X → List ℕ) (xs : List X) → length xs ≡ 0 → codes "-" ≡ between_commas (map f xs)
 none_between f xs none = grind (arith, common_steps)
-
--- ---- words and numbers
-
-pub worded_behind : (word numbers : List ℕ) → word ++ flat_map (λ n. 32 ∷ decimal n) numbers ≡ worded word numbers
-worded_behind word [] = append-nil word
-worded_behind word (n ∷ ns) = ap (λ (t : List ℕ). word ++ (32 ∷ t)) (worded_behind (decimal n) ns)
-
-pub worded_ended : (word numbers : List ℕ) → worded word numbers ++ codes "\n" ≡ worded_line word numbers
-worded_ended word [] = refl
-worded_ended word (n ∷ ns) = append_assoc word (32 ∷ worded (decimal n) ns) (codes "\n") ∙ ap (λ (t : List ℕ). word ++ (32 ∷ t)) (worded_ended (decimal n) ns)
-
-pub labels_in_row : (numbers : List (Bor (List ℕ) × ℕ)) → flat_map (λ p. p.0.now ++ decimal p.1) numbers ≡ labelled numbers
-labels_in_row [] = refl
-labels_in_row (p ∷ []) = append-nil (p.0.now ++ decimal p.1)
-labels_in_row (p ∷ q ∷ ps) = append_assoc p.0.now (decimal p.1) (flat_map (λ r. r.0.now ++ decimal r.1) (q ∷ ps))
-    ∙ ap (λ (t : List ℕ). p.0.now ++ (decimal p.1 ++ t)) (labels_in_row (q ∷ ps))

@@ -1,15 +1,7 @@
-pub mod Options
-pub mod Split
-pub mod FirstPart
-pub mod Numbers
-pub mod Cursor
-pub mod Forms
 pub mod Results
-pub mod FirstParts
 pub mod Words
 pub mod RecordLine
 pub mod AdvanceLine
-pub mod Loops
 pub mod PatchEncoding
 pub mod RecordContents
 pub mod StepEncoding

@@ -4,13 +4,13 @@ use Rattle.std.proofs.lemmas.Grind.{common_steps}
 use Rattle.std.specs.Prelude.{bytes_eq}
 use Rattle.redo_core.specs.declared.facts.Fact.{Fact}
 use Rattle.script_steps.specs.declared.steps.Step.{Step}
-use Rattle.script_text.specs.Parts.{parts_at}
+use Rattle.text.specs.Parts.{parts_at}
 use Rattle.script_text.specs.FactLine.{fact_of}
 use Rattle.script_text.specs.StepLine.{step_of}
 use Rattle.script_text.specs.Script.{most, nodes_in_line, roster_in_line, lines_from, nodes_from, script_from, opening_with, opening_by, opening_of, with_facts, within}
 use Rattle.script_text.proofs.Results.{bad, some_left}
 use Rattle.script_text.proofs.Scripts.{script_next}
-use Rattle.script_text.proofs.Split.{some_parts}
+use Rattle.text.proofs.Split.{some_parts}
 
 bad_either : {A : Type 0} (b : Bool) (at : ℕ) → cond b (Err at) (Err at) ≡ bad {A = A} at
 bad_either b at = search rules

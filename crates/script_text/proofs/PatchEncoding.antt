@@ -11,16 +11,15 @@ use Rattle.hex.proofs.HexLemmas.{decode_of-ok}
 use Rattle.redo_core.specs.Writes.{WriteData}
 use Rattle.redo_core.specs.declared.patches.Patch.{Patch}
 use Rattle.redo_core.specs.declared.patches.Patch.TheVariants.{Bytes, Fill}
-use Rattle.script_text.specs.Number.{decimal_value}
-use Rattle.script_text.specs.Parts.{◌>>=◌, parts_at}
-use Rattle.script_text.specs.FactLine.{decoded, write_at, fill_at, patch_at, patch_from, patch_of, each_patch, Contents, contents, contents_from, contents_of}
+use Rattle.text.specs.Number.{decimal_value}
+use Rattle.text.specs.Parts.{◌>>=◌, parts_at}
+use Rattle.text.specs.HexDigits.{decoded}
+use Rattle.script_text.specs.FactLine.{write_at, fill_at, patch_at, patch_from, patch_of, each_patch, Contents, contents, contents_from, contents_of}
 use Rattle.script_text.specs.FactText.{behind_init}
 use Rattle.script_text.specs.Encoded.{EncodesPatch, EncodesContents}
-use Rattle.script_text.proofs.Numbers.{numbers_are_decimals, decimal_is_read, lacks_decimal}
-use Rattle.script_text.proofs.Options.{here, some_is, bind_some, either, true_is, no_test}
-use Rattle.script_text.proofs.Split.{lacks, AllLack, parts_joined, joined_parts, lacks_passing, lacks_append, lacks_joined}
--- proofs of the crates above cite it from here
-pub use Rattle.script_text.proofs.Split.{some_parts}
+use Rattle.text.proofs.Numbers.{numbers_are_decimals, decimal_is_read, lacks_decimal}
+use Rattle.text.proofs.Options.{here, some_is, bind_some, either, true_is, no_test}
+use Rattle.text.proofs.Split.{lacks, AllLack, parts_joined, joined_parts, lacks_passing, lacks_append, lacks_joined}
 
 abbrev write : ℕ → List ℕ → WriteData
 write o bytes = record { offset = o; bytes = bytes }

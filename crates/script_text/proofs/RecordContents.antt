@@ -12,14 +12,15 @@ use Rattle.redo_core.specs.declared.patches.Patch.{Patch}
 use Rattle.redo_core.specs.declared.facts.Fact.{Fact}
 use Rattle.redo_core.specs.declared.facts.Fact.TheVariants.{Record}
 use Rattle.script_text.specs.declared.contents.Head.{Head}
-use Rattle.script_text.specs.Number.{decimal_value}
-use Rattle.script_text.specs.Parts.{◌>>=◌, parts_at}
-use Rattle.script_text.specs.Fields.{field_of}
-use Rattle.script_text.specs.FactLine.{decoded, write_at, write_of, fill_at, fill_of, patch_at, patch_from, patch_of, each_patch, contents, contents_from, contents_of, FitNoRecord, unless, shaped, record_of_patches, record_of_contents}
-use Rattle.script_text.proofs.Numbers.{numbers_are_decimals, lacks_decimal}
-use Rattle.script_text.proofs.Options.{here}
-use Rattle.script_text.proofs.Cursor.{no_number}
-use Rattle.script_text.proofs.Split.{some_parts, lacks, parts_joined, joined_parts, lacks_passing}
+use Rattle.text.specs.Number.{decimal_value}
+use Rattle.text.specs.Parts.{◌>>=◌, parts_at}
+use Rattle.text.specs.Fields.{field_of}
+use Rattle.text.specs.HexDigits.{decoded}
+use Rattle.script_text.specs.FactLine.{write_at, write_of, fill_at, fill_of, patch_at, patch_from, patch_of, each_patch, contents, contents_from, contents_of, FitNoRecord, unless, shaped, record_of_patches, record_of_contents}
+use Rattle.text.proofs.Numbers.{numbers_are_decimals, lacks_decimal}
+use Rattle.text.proofs.Options.{here}
+use Rattle.text.proofs.Cursor.{no_number}
+use Rattle.text.proofs.Split.{some_parts, lacks, parts_joined, joined_parts, lacks_passing}
 
 -- ---- one patch
 

@@ -3,11 +3,11 @@ use Rattle.std.proofs.Common.{◌≡◌, ℕ, ◌<◌, List, [], ◌∷◌, leng
 use Rattle.redo_core.specs.Data.{record_with}
 use Rattle.redo_core.specs.declared.facts.Fact.{Fact}
 use Rattle.redo_core.specs.declared.facts.Fact.TheVariants.{Record}
-use Rattle.script_text.specs.Parts.{◌>>=◌, parts_at}
-use Rattle.script_text.specs.Fields.{numbers_then, of_five}
+use Rattle.text.specs.Parts.{◌>>=◌, parts_at}
+use Rattle.text.specs.Fields.{numbers_then, of_five}
 use Rattle.script_text.specs.declared.contents.Head.{Head}
 use Rattle.script_text.specs.FactLine.{Contents, contents_of, shaped, record_of_contents, head_numbers, record_limits, record_line}
-use Rattle.script_text.proofs.Split.{some_parts}
+use Rattle.text.proofs.Split.{some_parts}
 
 -- ---- numbers, and the fields behind them
 

@@ -6,16 +6,17 @@ use Rattle.std.proofs.lemmas.Option.{none-some}
 use Rattle.std.proofs.lemmas.Slice.Zip.{AllZip-long}
 use Rattle.redo_core.specs.declared.facts.Fact.{Fact}
 use Rattle.script_steps.specs.declared.steps.Step.{Step}
-use Rattle.script_text.specs.Parts.{parts_at}
+use Rattle.text.specs.Parts.{parts_at}
 use Rattle.script_text.specs.FactLine.{fact_line, fact_of}
 use Rattle.script_text.specs.StepLine.{IsInRange}
 use Rattle.script_text.specs.Script.{ScriptData, Rostered, rostered, within, roster_in_line, lines_from, script_from, Opening, opening_with, opening_of, below, opened}
 use Rattle.script_text.specs.Laws.{ScriptsAreEncoded, LogsAreEncoded}
-use Rattle.script_text.specs.Encoded.{worded, EncodesFact, EncodesStep, EncodesRoster, IsRostered, AreFacts, AsksSteps}
+use Rattle.text.specs.Wording.{worded}
+use Rattle.script_text.specs.Encoded.{EncodesFact, EncodesStep, EncodesRoster, IsRostered, AreFacts, AsksSteps}
 use Rattle.script_text.proofs.FactEncoding.{fact_lines_are_encoded}
 use Rattle.script_text.proofs.Results.{end, found, within_ok, ended}
 use Rattle.script_text.proofs.Scripts.{Counts, count_is_encoded, count_is_read, facts_are_read, facts_are_encoded, steps_are_read, steps_are_encoded}
-use Rattle.script_text.proofs.Split.{some_parts}
+use Rattle.text.proofs.Split.{some_parts}
 
 -- ---- the line of a roster
 

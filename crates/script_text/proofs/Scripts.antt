@@ -8,17 +8,18 @@ use Rattle.std.proofs.lemmas.Option.{none-some}
 use Rattle.redo_core.specs.Shape.{max_number}
 use Rattle.redo_core.specs.declared.facts.Fact.{Fact}
 use Rattle.script_steps.specs.declared.steps.Step.{Step}
-use Rattle.script_text.specs.Parts.{◌>>=◌, parts_at}
-use Rattle.script_text.specs.Fields.{Form, form, of_one, read_by}
+use Rattle.text.specs.Parts.{◌>>=◌, parts_at}
+use Rattle.text.specs.Fields.{Form, form, of_one, read_by}
 use Rattle.script_text.specs.FactLine.{fact_line, fact_of}
 use Rattle.script_text.specs.StepLine.{step_of}
 use Rattle.script_text.specs.Script.{ScriptData, most, most_nodes, positive, nodes_in_line, or_bad, within, asking, with_fact, lines_from, nodes_from, script_from}
-use Rattle.script_text.specs.Encoded.{worded, EncodesFact, EncodesStep, AreFacts, AsksSteps}
+use Rattle.text.specs.Wording.{worded}
+use Rattle.script_text.specs.Encoded.{EncodesFact, EncodesStep, AreFacts, AsksSteps}
 use Rattle.script_text.proofs.FactEncoding.{fact_lines_are_encoded}
-use Rattle.script_text.proofs.Forms.{Reads, form_fields, read_has, both_same}
-use Rattle.script_text.proofs.Options.{true_is, no_test}
+use Rattle.text.proofs.Forms.{Reads, form_fields, read_has, both_same}
+use Rattle.text.proofs.Options.{true_is, no_test}
 use Rattle.script_text.proofs.Results.{end, not_good, past, one_of, or_bad_ok, within_ok, some_left, room, room_is, ended}
-use Rattle.script_text.proofs.Split.{lacks}
+use Rattle.text.proofs.Split.{lacks}
 use Rattle.script_text.proofs.StepEncoding.{step_lines_are_encoded}
 
 pub AllZip-with : {A B : Type 0} (R S : A → B → Type 0) (xs : List A) (ys : List B) → ((a : A) (b : B) → R a b → S a b) → AllZip R xs ys → AllZip S xs ys

@@ -4,14 +4,14 @@ use Rattle.std.specs.List.{AllByRecursion}
 use Rattle.std.proofs.lemmas.Bool.Decides.{nat_tests}
 use Rattle.script_steps.specs.declared.steps.Step.{Step}
 use Rattle.script_steps.specs.declared.steps.Step.TheVariants.{Take, Fold, Discard, Front, Read, Join, Same, Covers, Wipe, Ask, Answer, Absorb}
-use Rattle.script_text.specs.Parts.{◌>>=◌, parts_at}
-use Rattle.script_text.specs.Fields.{of_one, of_two, of_five}
+use Rattle.text.specs.Parts.{◌>>=◌, parts_at}
+use Rattle.text.specs.Fields.{of_one, of_two, of_five}
 use Rattle.script_text.specs.StepLine.{take, read, take_form, fold_form, discard_form, front_form, read_form, join_form, same_form, covers_form, wipe_form, ask_form, answer_form, absorb_form, message_forms, step_forms, step_line, step_of}
 use Rattle.script_text.specs.Script.{most}
 use Rattle.script_text.specs.Laws.{StepLinesAreEncoded}
 use Rattle.script_text.specs.Encoded.{EncodesStep}
-use Rattle.script_text.proofs.Forms.{Reads, five_is, formed_by, fields_by, read_has}
-use Rattle.script_text.proofs.Options.{here, some_is, tested}
+use Rattle.text.proofs.Forms.{Reads, five_is, formed_by, fields_by, read_has}
+use Rattle.text.proofs.Options.{here, some_is, tested}
 
 -- ---- what is read is encoded
 

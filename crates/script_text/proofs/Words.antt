@@ -4,11 +4,11 @@ use Rattle.std.specs.Prelude.{bytes_eq}
 use Rattle.std.proofs.lemmas.List.{take-append-drop}
 use Rattle.std.specs.List.{AllByRecursion}
 use Rattle.std.specs.Cmp.Lexicographic.{pointwise, same_text}
-use Rattle.script_text.specs.Parts.{◌>>=◌, parts_at}
-use Rattle.script_text.specs.Fields.{Form, numbers_of, made_by, read_by}
+use Rattle.text.specs.Parts.{◌>>=◌, parts_at}
+use Rattle.text.specs.Fields.{Form, numbers_of, made_by, read_by}
 use Rattle.script_text.specs.FactLine.{record_line, cut_line, advance_line, fact_line, fact_of}
 use Rattle.script_text.specs.StepLine.{step_forms, take_form, step_line, step_of}
-use Rattle.script_text.proofs.FirstParts.{none_of}
+use Rattle.text.proofs.FirstParts.{none_of}
 
 -- forms that have a number
 abbrev HaveNumbers : {A : Type 0} → List (Form A) → Type 0

@@ -1,7 +1,6 @@
 -- What lines and texts are, without their reader.
-use Rattle.std.specs.Prelude.{◌≡◌, ℕ, ◌+◌, ◌-◌, ◌≤◌, ◌<◌, ◌⊎◌, List, [], ◌∷◌, ◌++◌, map, length, take, Bool, false, None, Ok, codes}
+use Rattle.std.specs.Prelude.{◌≡◌, ℕ, ◌+◌, ◌-◌, ◌≤◌, ◌<◌, ◌⊎◌, List, [], ◌∷◌, ◌++◌, length, take, Bool, false, None, Ok, codes}
 use Rattle.std.specs.List.{AllZip, join_with_byte}
-use Rattle.std.specs.Borrow.{Bor}
 use Rattle.std.specs.Fmt.{decimal}
 use Rattle.hex.specs.Hex.{decode_of}
 use Rattle.redo_core.specs.Data.{RecordData, CutData, AdvanceData}
@@ -14,32 +13,13 @@ use Rattle.redo_core.specs.declared.facts.Fact.{Fact}
 use Rattle.redo_core.specs.declared.facts.Fact.TheVariants.{Record, Cut, Advance}
 use Rattle.script_steps.specs.declared.steps.Step.{Step}
 use Rattle.script_steps.specs.declared.steps.Step.TheVariants.{Take, Fold, Discard, Front, Read, Join, Same, Covers, Wipe, Ask, Answer, Absorb}
-use Rattle.script_text.specs.Parts.{parts_at}
-use Rattle.script_text.specs.Fields.{Form}
+use Rattle.text.specs.Parts.{parts_at}
+use Rattle.text.specs.Wording.{spaced, worded, EncodesBy}
 use Rattle.script_text.specs.FactText.{behind_init}
 use Rattle.script_text.specs.StepLine.{take_form, fold_form, discard_form, front_form, read_form, join_form, same_form, covers_form, wipe_form, ask_form, answer_form, absorb_form}
 use Rattle.script_text.specs.Script.{ScriptData, Rostered, most, most_nodes}
 
 -- ---- lines
-
--- fields between single spaces
-abbrev pub spaced : List (List ℕ) → List ℕ
-spaced fields = join_with_byte 32 fields
-
--- a word and numbers
-abbrev pub worded : List ℕ → List ℕ → List ℕ
-worded word numbers = spaced (word ∷ map decimal numbers)
-
--- the same as a line, with its LF
-abbrev pub worded_line : List ℕ → List ℕ → List ℕ
-worded_line word [] = word ++ codes "\n"
-worded_line word (n ∷ ns) = word ++ (32 ∷ worded_line (decimal n) ns)
-
--- numbers, each behind its label
-abbrev pub labelled : List (Bor (List ℕ) × ℕ) → List ℕ
-labelled [] = []
-labelled ((label, n) ∷ []) = label.now ++ decimal n
-labelled ((label, n) ∷ next ∷ others) = label.now ++ (decimal n ++ labelled (next ∷ others))
 
 -- an offset, a colon, and at least one byte in hex digits of either case
 pub record EncodesBytes (text : List ℕ) (w : WriteData) : Type 0 where
@@ -92,15 +72,6 @@ abbrev pub EncodesFact : List ℕ → Fact → Type 0
 EncodesFact line (Record r) = EncodesRecord line r
 EncodesFact line (Cut c) = EncodesCut line c
 EncodesFact line (Advance a) = EncodesAdvance line a
-
--- a word, and numbers, each with its limit
-pub record EncodesForm (line word limits numbers : List ℕ) : Type 0 where
-  pub all : line ≡ worded word numbers
-  pub limited : AllZip (λ n limit. n ≤ limit) numbers limits
-
--- the word of a form, and numbers within its limits
-abbrev pub EncodesBy : {A : Type 0} → Form A → List ℕ → List ℕ → Type 0
-EncodesBy f line numbers = EncodesForm line f.word f.limits numbers
 
 -- the line encodes the step, behind that many facts
 abbrev pub EncodesStep : ℕ → List ℕ → Step ℕ → Type 0

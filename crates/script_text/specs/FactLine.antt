@@ -1,7 +1,6 @@
 -- The fact of a line, by the line's fields.
-use Rattle.std.specs.Prelude.{ℕ, ◌<◌, ◌==◌, Bool, true, false, List, [], ◌∷◌, length, Option, Some, None, Result, Ok, Err, codes, bytes_eq, if◌then◌else◌}
+use Rattle.std.specs.Prelude.{ℕ, ◌<◌, ◌==◌, Bool, true, false, List, [], ◌∷◌, length, Option, Some, None, codes, bytes_eq, if◌then◌else◌}
 use Rattle.hex.specs.Hex.{decode_of}
-use Rattle.hex.specs.declared.error.FromHexError.{FromHexError}
 use Rattle.redo_core.specs.Data.{record_with, cut_of, advance_of}
 use Rattle.redo_core.specs.Shape.{max_number, max_patches, max_readers, record_fault, cut_fault, advance_fault}
 use Rattle.redo_core.specs.declared.shapes.ShapeFault.{ShapeFault}
@@ -10,16 +9,12 @@ use Rattle.redo_core.specs.declared.patches.Patch.TheVariants.{Bytes, Fill}
 use Rattle.redo_core.specs.declared.facts.Fact.{Fact}
 use Rattle.redo_core.specs.declared.facts.Fact.TheVariants.{Record, Cut, Advance}
 use Rattle.script_text.specs.declared.contents.Head.{Head}
-use Rattle.script_text.specs.Number.{decimal_value}
-use Rattle.script_text.specs.Parts.{◌>>=◌, parts_at}
-use Rattle.script_text.specs.Fields.{numbers_of, of_two, of_three, of_five}
+use Rattle.text.specs.Number.{decimal_value}
+use Rattle.text.specs.Parts.{◌>>=◌, parts_at}
+use Rattle.text.specs.Fields.{numbers_of, of_two, of_three, of_five}
+use Rattle.text.specs.HexDigits.{decoded}
 
 -- ---- patches
-
--- the bytes of hexadecimal digits
-abbrev pub decoded : Result (List ℕ) FromHexError → Option (List ℕ)
-decoded (Ok bytes) = Some bytes
-decoded (Err e) = None
 
 -- at least one byte, from an offset on
 abbrev pub write_at : List ℕ → List ℕ → Option Patch

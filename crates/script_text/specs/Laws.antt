@@ -1,17 +1,11 @@
 -- The laws that tie the reading functions to what lines and texts are.
-use Rattle.std.specs.Prelude.{◌≡◌, ℕ, ◌<◌, ◌≤◌, ◌^◌, ◌↔◌, List, Some, Ok, Err}
-use Rattle.std.specs.Fmt.{decimal}
+use Rattle.std.specs.Prelude.{◌≡◌, ℕ, ◌≤◌, ◌↔◌, List, Some, Ok, Err}
 use Rattle.redo_core.specs.declared.facts.Fact.{Fact}
 use Rattle.script_steps.specs.declared.steps.Step.{Step}
-use Rattle.script_text.specs.Number.{decimal_value}
 use Rattle.script_text.specs.FactLine.{fact_of}
 use Rattle.script_text.specs.StepLine.{step_of}
 use Rattle.script_text.specs.Script.{ScriptData, Rostered, most, script_of, facts_of}
 use Rattle.script_text.specs.Encoded.{EncodesFact, EncodesStep, IsLog, IsScript, Encodes, IsLeastBadLine}
-
--- The words that are numbers are just those that decimal writes.
-abbrev pub NumbersAreDecimals : Type 0
-NumbersAreDecimals = (limit n : ℕ) (word : List ℕ) → limit < 2 ^ 64 → (decimal_value limit word ≡ Some n) ↔ ((word ≡ decimal n) × (n ≤ limit))
 
 -- A line is read as a fact exactly where it encodes it.
 abbrev pub FactLinesAreEncoded : Type 0

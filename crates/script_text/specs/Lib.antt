@@ -1,6 +1,3 @@
-pub mod Number
-pub mod Parts
-pub mod Fields
 pub mod FactLine
 pub mod FactText
 pub mod StepLine

@@ -3,8 +3,8 @@ use Rattle.std.specs.Prelude.{ℕ, ◌+◌, ◌==◌, nat_le, if◌then◌else�
 use Rattle.redo_core.specs.Shape.{max_readers}
 use Rattle.redo_core.specs.declared.facts.Fact.{Fact}
 use Rattle.script_steps.specs.declared.steps.Step.{Step}
-use Rattle.script_text.specs.Parts.{parts_at}
-use Rattle.script_text.specs.Fields.{Form, form, of_one, read_by}
+use Rattle.text.specs.Parts.{parts_at}
+use Rattle.text.specs.Fields.{Form, form, of_one, read_by}
 use Rattle.script_text.specs.FactLine.{fact_of}
 use Rattle.script_text.specs.StepLine.{step_of}
 

@@ -5,8 +5,8 @@ use Rattle.script_steps.specs.declared.steps.Step.{Step}
 use Rattle.script_steps.specs.declared.steps.Step.TheVariants.{Take, Fold, Discard, Front, Read, Join, Same, Covers, Wipe, Ask, Answer, Absorb}
 use Rattle.script_steps.specs.Naming.{NamedIs}
 use Rattle.script_steps.specs.Shown.{ShowsInside}
-use Rattle.script_text.specs.Parts.{parts_at}
-use Rattle.script_text.specs.Fields.{Form, form, of_one, of_two, of_five, read_by}
+use Rattle.text.specs.Parts.{parts_at}
+use Rattle.text.specs.Fields.{Form, form, of_one, of_two, of_five, read_by}
 
 -- places count from 1
 abbrev pub take : ℕ → ℕ → Option (Step ℕ)

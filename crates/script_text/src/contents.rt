@@ -3,16 +3,14 @@
 ghost use Rattle.std.specs.Prelude.{true, ◌≡◌, ◌≤◌, ◌*◌, ◌⊎◌, [], ◌∷◌, length, IfOk, IfSome, IfNone, MatchOption, option_map};
 ghost use Rattle.std.specs.Fmt.{decimal};
 ghost use Rattle.redo_core.specs.Shape.{max_patches};
-ghost use Rattle.script_text.specs.Parts.{parts_at};
-ghost use Rattle.script_text.specs.Fields.{field_of};
+ghost use Rattle.text.specs.Parts.{parts_at};
+ghost use Rattle.text.specs.Fields.{field_of};
 ghost use Rattle.script_text.specs.FactLine.{write_of, fill_of, patch_of, each_patch, contents_of, FitNoRecord, record_of_patches, record_of_contents};
 
-use crate::fields::{first_part, is_word};
-use crate::hexed::{decoded, put_bytes};
 use crate::limits::{PAGE, SHORT};
-use crate::number::{number, number_before};
 use redo_core::{Fact, MAX_PATCHES, Patch, Record, Write};
 use std::alloc::{AllocError, Global};
+use text::{decoded, first_part, is_word, number_before, put_bytes, read_number};
 
 /// The numbers of a record's line.
 #[derive(Clone, Copy)]
@@ -28,7 +26,7 @@ pub struct Head {
 const SHORT_WRITE: usize = 16;
 
 /// The patch of at most so many bytes from an offset on.
-#[tactic(auto, using(crate::proofs::Numbers::decimal_is_read))]
+#[tactic(auto, using(text::proofs::Numbers::decimal_is_read))]
 fn short_write(alloc: Global, offset: u16, digits: &[u8]) -> Result<Option<Patch>, AllocError>
     requires { length digits.now ≤ 2 * SHORT_WRITE }
     ensures { IfOk result (λ o. o ≡ write_of (decimal offset) digits.now) }
@@ -43,7 +41,7 @@ fn short_write(alloc: Global, offset: u16, digits: &[u8]) -> Result<Option<Patch
 }
 
 /// The patch of any number of bytes from an offset on.
-#[tactic(auto, using(crate::proofs::Numbers::decimal_is_read))]
+#[tactic(auto, using(text::proofs::Numbers::decimal_is_read))]
 fn long_write(alloc: Global, offset: u16, digits: &[u8]) -> Result<Option<Patch>, AllocError>
     ensures { IfOk result (λ o. o ≡ write_of (decimal offset) digits.now) }
 {
@@ -78,8 +76,8 @@ fn fill(offset: &[u8], len: &[u8], digits: &[u8]) -> Option<Patch>
     if !put_bytes(digits, &mut byte) {
         return None;
     }
-    let offset = number(offset, SHORT)?;
-    let len = number(len, PAGE)?;
+    let offset = read_number(offset, SHORT)?;
+    let len = read_number(len, PAGE)?;
     Some(Patch::Fill {
         offset: offset as u16,
         len: len as u16,

@@ -9,9 +9,9 @@ ghost use Rattle.redo_core.specs.declared.patches.Patch.TheVariants.{Bytes, Fill
 ghost use Rattle.script_text.specs.FactText.{patch_text, behind_init, between_commas, record_text, cut_text, advance_text, fact_text, IsReadBack};
 ghost use Rattle.script_text.specs.Encoded.{EncodesRecord, EncodesCut, EncodesAdvance, EncodesFact};
 
-use crate::wording::worded;
 use redo_core::{Advance, Body, Cut, Fact, Patch, Record, Write};
 use std::alloc::{AllocError, Global};
+use text::worded;
 
 /// The digits of the bytes, in lower case.
 fn digits(alloc: Global, bytes: &[u8]) -> Result<String, AllocError>

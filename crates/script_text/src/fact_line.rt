@@ -3,16 +3,15 @@
 ghost use Rattle.std.specs.Prelude.{◌≡◌, ◌≤◌, ◌∷◌, IfOk, option_map};
 ghost use Rattle.redo_core.specs.Data.{advance_of};
 ghost use Rattle.redo_core.specs.Shape.{max_readers};
-ghost use Rattle.script_text.specs.Parts.{parts_at};
-ghost use Rattle.script_text.specs.Fields.{numbers_then};
+ghost use Rattle.text.specs.Parts.{parts_at};
+ghost use Rattle.text.specs.Fields.{numbers_then};
 ghost use Rattle.script_text.specs.FactLine.{shaped, head_numbers, record_limits, record_line, cut_line, advance_line, fact_line, fact_of};
 
 use crate::contents::{Head, of_word, record_of};
-use crate::fields::{first_part, is_one_part, is_word};
 use crate::limits::SHORT;
-use crate::number::{field, first_field, last_field, three_fields};
 use redo_core::{Advance, Cut, Fact, MAX_NUMBER, MAX_READERS};
 use std::alloc::{AllocError, Global};
+use text::{field, first_field, first_part, is_one_part, is_word, last_field, three_fields};
 
 /// The numbers of the fields behind `rec`, and the text behind them, which tells the contents where it is one field.
 fn record_fields(fields: &[u8]) -> Option<(Head, &[u8])>

@@ -1,11 +1,6 @@
 //! Laws of the grammar.
 
-ghost use Rattle.script_text.specs.Laws.{NumbersAreDecimals, FactLinesAreEncoded, StepLinesAreEncoded, ScriptsAreEncoded, LogsAreEncoded, BadScriptLineIsLeast, BadFactLineIsLeast};
-
-/// The words that are read as numbers are what `Display` writes of them.
-pub fn numbers_are_decimals()
-    ensures { NumbersAreDecimals }
-{}
+ghost use Rattle.script_text.specs.Laws.{FactLinesAreEncoded, StepLinesAreEncoded, ScriptsAreEncoded, LogsAreEncoded, BadScriptLineIsLeast, BadFactLineIsLeast};
 
 /// What is read of a line is encoded there, and what is encoded there is read.
 pub fn lines_are_encoded()

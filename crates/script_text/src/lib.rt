@@ -10,23 +10,15 @@
 mod contents;
 mod encoding;
 mod fact_line;
-mod fields;
-mod hexed;
 mod laws;
 mod limits;
-mod number;
 mod opening;
 mod script;
 mod step_line;
-mod wording;
 
 pub use contents::patch as read_patch;
 pub use encoding::fact_text;
 pub use fact_line::fact as read_fact;
-pub use fields::{first_part, first_parts, is_word};
-pub use hexed::decoded;
-pub use laws::{bad_lines_are_least, lines_are_encoded, numbers_are_decimals, scripts_are_encoded};
-pub use number::{number as read_number, numbers as read_numbers};
+pub use laws::{bad_lines_are_least, lines_are_encoded, scripts_are_encoded};
 pub use opening::{Opening, read_opening};
 pub use script::{Log, Script, ScriptError, read_facts, read_script};
-pub use wording::{labelled, worded, worded_line};

@@ -1,13 +1,12 @@
 //! How a text opens: with a roster, or without.
 
 ghost use Rattle.std.specs.Prelude.{◌≡◌, ◌≤◌, drop};
-ghost use Rattle.script_text.specs.Parts.{parts_at};
-ghost use Rattle.script_text.specs.Fields.{made_by};
+ghost use Rattle.text.specs.Parts.{parts_at};
+ghost use Rattle.text.specs.Fields.{made_by};
 ghost use Rattle.script_text.specs.Script.{opening_with, opening_of, roster_form, roster_in_line};
 
-use crate::fields::{first_part, is_word};
-use crate::number::last_field;
 use redo_core::{MAX_READERS, Roster};
+use text::{first_part, is_word, last_field};
 
 /// The roster of a text, how many lines name it, one or none, and what stands below them.
 #[derive(Drop)]

@@ -1,8 +1,8 @@
 //! Whole scripts.
 
 ghost use Rattle.std.specs.Prelude.{◌≡◌, ◌≤◌, ◌+◌, length, All, IfOk};
-ghost use Rattle.script_text.specs.Fields.{made_by};
-ghost use Rattle.script_text.specs.Parts.{parts_at};
+ghost use Rattle.text.specs.Fields.{made_by};
+ghost use Rattle.text.specs.Parts.{parts_at};
 ghost use Rattle.script_text.specs.FactLine.{fact_of};
 ghost use Rattle.script_text.specs.StepLine.{step_of, IsInRange};
 ghost use Rattle.script_text.specs.Script.{lines_from, nodes_from, nodes_form, nodes_in_line, script_from, script_of, facts_of, most, within, with_facts};
@@ -10,13 +10,12 @@ ghost use Rattle.script_text.specs.Outcome.{Gives, log_data, script_data, asked_
 ghost use Rattle.script_text.specs.declared.script.ScriptError.TheVariants.{Memory};
 
 use crate::fact_line::{fact, shared_fact};
-use crate::fields::{first_part, is_word};
-use crate::number::last_field;
 use crate::opening::read_opening;
 use crate::step_line::step;
 use redo_core::{Fact, Roster};
 use script_steps::Step;
 use std::alloc::{AllocError, AllocFailed, Global};
+use text::{first_part, is_word, last_field};
 
 /// The facts of a log, in the order of their lines, and its roster.
 #[derive(Drop)]

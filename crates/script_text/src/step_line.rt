@@ -1,16 +1,15 @@
 //! Step lines.
 
 ghost use Rattle.std.specs.Prelude.{◌≡◌, ◌≤◌, ◌∷◌};
-ghost use Rattle.script_text.specs.Parts.{parts_at};
+ghost use Rattle.text.specs.Parts.{parts_at};
 ghost use Rattle.script_text.specs.Script.{most};
-ghost use Rattle.script_text.specs.Fields.{made_by, read_by};
+ghost use Rattle.text.specs.Fields.{made_by, read_by};
 ghost use Rattle.script_text.specs.StepLine.{take_form, fold_form, discard_form, front_form, read_form, join_form, same_form, covers_form, wipe_form, ask_form, answer_form, absorb_form, message_forms, step_line, step_of};
 
-use crate::fields::{first_part, is_word};
 use crate::limits::{MESSAGE, PAGE, SHORT};
-use crate::number::{field, last_field, three_fields, two_fields};
 use redo_core::MAX_NUMBER;
 use script_steps::Step;
+use text::{field, first_part, is_word, last_field, three_fields, two_fields};
 
 fn take(facts: usize, fields: &[u8]) -> Option<Step<usize>>
     requires { facts ≤ most }

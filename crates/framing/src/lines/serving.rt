@@ -3,7 +3,7 @@
 ghost use Rattle.std.specs.Prelude.{◌≡◌, ℕ, List, [], ◌∷◌, OnOk, OnErr, IfErr, take};
 ghost use Rattle.std.specs.List.{concat};
 ghost use Rattle.std.specs.Io.KnownBytes.{Appends};
-ghost use Rattle.script_text.specs.Parts.{parts_at};
+ghost use Rattle.text.specs.Parts.{parts_at};
 ghost use Rattle.framing.specs.LineKeeping.{HoldsLine, line_limit};
 ghost use Rattle.framing.specs.Lines.{AnswersFirst, glued};
 ghost use Rattle.framing.specs.LinesServed.{EndsLines, EndsWith, BreaksOff, Serves};
@@ -12,9 +12,9 @@ ghost use Rattle.framing.specs.Watching.{device_of, has_failed};
 use crate::devices::{RunFault, Watched, write_all};
 use crate::lines::machine::LineMachine;
 use crate::lines::pending::Pending;
-use script_text::first_part;
 use std::alloc::Global;
 use std::io::{Read, Write};
+use text::first_part;
 
 /// Answers each line that ends in the bytes, and keeps the bytes after the last LF.
 fn answer_bytes<M: LineMachine, W: Write>(

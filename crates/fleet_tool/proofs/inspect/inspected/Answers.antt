@@ -1,5 +1,5 @@
 use Rattle.std.proofs.Common.{string_bytes}
-use Rattle.script_text.specs.Parts.{parts_at}
+use Rattle.text.specs.Parts.{parts_at}
 use Rattle.fleet_tool.specs.Inspect.{parts_text}
 use Rattle.fleet_tool.proofs.Captures.{line_told}
 use Rattle.fleet_tool.proofs.inspect.inspected.Goals as goal

@@ -1,7 +1,7 @@
 use Rattle.std.proofs.Common.{◌≡◌, ℕ, List, [], Bor, Some, length, map, take, ap, ◌∙◌, arith}
 use Rattle.std.proofs.lemmas.Grind.{common_steps}
 use Rattle.std.proofs.lemmas.List.{length-map, take-map, get_or-map}
-use Rattle.script_text.specs.Fields.{numbers_of}
+use Rattle.text.specs.Fields.{numbers_of}
 use Rattle.script_text.specs.FactLine.{record_limits, contents_of}
 use Rattle.line_reasons.proofs.FormLines.{numbers_long, five_are}
 use Rattle.line_reasons.proofs.FactLines.{record_judged, contents_judged}

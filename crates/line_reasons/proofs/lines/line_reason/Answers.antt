@@ -1,7 +1,7 @@
 use Rattle.std.proofs.Common.{◌≡◌, List, ℕ, Bor, map, arith, rules}
 use Rattle.std.proofs.lemmas.Grind.{common_steps}
 use Rattle.std.proofs.lemmas.Option.{MatchOption-at_some}
-use Rattle.script_text.specs.Parts.{first_parts}
+use Rattle.text.specs.Parts.{first_parts}
 use Rattle.line_reasons.proofs.BadLines.{read_is, told_is, parts_split}
 use Rattle.line_reasons.proofs.lines.line_reason.Goals as goal
 

@@ -1,7 +1,7 @@
 use Rattle.std.proofs.Common.{arith, rules}
 use Rattle.std.proofs.lemmas.Grind.{common_steps}
-use Rattle.script_text.proofs.Forms.{numbers_within}
-use Rattle.script_text.proofs.Loops.{numbers_read}
+use Rattle.text.proofs.Forms.{numbers_within}
+use Rattle.text.proofs.Loops.{numbers_read}
 use Rattle.line_reasons.proofs.numbers.numbers.Goals as goal
 
 pub loop-i-preserved : goal.loop-i-preserved

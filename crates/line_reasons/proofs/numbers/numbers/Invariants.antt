@@ -1,6 +1,6 @@
 use Rattle.std.proofs.Common.{◌≡◌, map, take, drop, length}
-use Rattle.script_text.specs.Fields.{numbers_of}
-use Rattle.script_text.proofs.Loops.{with_front}
+use Rattle.text.specs.Fields.{numbers_of}
+use Rattle.text.proofs.Loops.{with_front}
 use Rattle.line_reasons.proofs.numbers.numbers.Given as goal
 
 -- the numbers so far, and then those of the other fields

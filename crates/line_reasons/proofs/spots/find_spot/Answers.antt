@@ -1,8 +1,8 @@
 use Rattle.std.proofs.Common.{ℕ, List, length, refl, sym, ap, ◌∙◌, arith, rules}
 use Rattle.std.proofs.lemmas.Grind.{common_steps}
 use Rattle.std.proofs.lemmas.List.{length-drop}
-use Rattle.script_text.specs.Parts.{parts_at}
-use Rattle.script_text.proofs.Split.{some_parts}
+use Rattle.text.specs.Parts.{parts_at}
+use Rattle.text.proofs.Split.{some_parts}
 use Rattle.line_reasons.proofs.GoLines.{go_next, go_none, get_dropped}
 use Rattle.line_reasons.proofs.spots.find_spot.Goals as goal
 

@@ -1,4 +1,4 @@
-use Rattle.script_text.proofs.FirstPart.{first_is}
+use Rattle.text.proofs.FirstPart.{first_is}
 use Rattle.node_stream.proofs.frame_requests.first_space.Goals as goal
 
 pub returns-clause-place : goal.returns-clause-place

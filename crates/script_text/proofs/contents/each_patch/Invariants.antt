@@ -1,7 +1,7 @@
 use Rattle.std.proofs.Common.{◌≡◌, length}
-use Rattle.script_text.specs.Parts.{parts_at}
+use Rattle.text.specs.Parts.{parts_at}
 use Rattle.script_text.specs.FactLine.{each_patch}
-use Rattle.script_text.proofs.Loops.{with_front}
+use Rattle.text.proofs.Loops.{with_front}
 use Rattle.script_text.proofs.contents.each_patch.Given as goal
 
 -- the patches so far, and then those of what is left

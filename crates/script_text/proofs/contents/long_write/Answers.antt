@@ -1,6 +1,6 @@
 use Rattle.std.proofs.Common.{arith}
 use Rattle.std.proofs.lemmas.Grind.{common_steps}
-use Rattle.script_text.proofs.Numbers.{decimal_is_read}
+use Rattle.text.proofs.Numbers.{decimal_is_read}
 use Rattle.script_text.proofs.contents.long_write.Goals as goal
 
 pub returns : goal.returns

@@ -1,6 +1,6 @@
 use Rattle.std.proofs.Common.{arith, rules}
 use Rattle.std.proofs.lemmas.Grind.{common_steps}
-use Rattle.script_text.proofs.Cursor.{part_behind, none_behind, no_front}
+use Rattle.text.proofs.Cursor.{part_behind, none_behind, no_front}
 use Rattle.script_text.proofs.contents.offset_before.Goals as goal
 use Rattle.script_text.proofs.contents.offset_before.Goals.{in_default-via-then-rest-lt1, in_default-via-else-rest-lt1+in_default-1}
 

@@ -1,5 +1,5 @@
 use Rattle.std.proofs.Common.{◌+◌}
-use Rattle.script_text.specs.Parts.{parts_at}
+use Rattle.text.specs.Parts.{parts_at}
 use Rattle.script_text.specs.Outcome.{asked_data}
 use Rattle.script_text.proofs.Rosters.{asked_in_range}
 use Rattle.script_text.proofs.script.read_script.Goals as goal

@@ -1,5 +1,5 @@
 use Rattle.std.proofs.Common.{◌≡◌, ◌≤◌, ◌+◌, length}
-use Rattle.script_text.specs.Parts.{parts_at}
+use Rattle.text.specs.Parts.{parts_at}
 use Rattle.script_text.specs.StepLine.{step_of}
 use Rattle.script_text.specs.Script.{lines_from, most}
 use Rattle.script_text.proofs.Lines.{with_said}

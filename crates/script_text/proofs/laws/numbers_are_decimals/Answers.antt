@@ -1,5 +1,0 @@
-use Rattle.script_text.proofs.Numbers.{numbers_are_decimals}
-use Rattle.script_text.proofs.laws.numbers_are_decimals.Goals as goal
-
-pub returns : goal.returns
-returns c = numbers_are_decimals

@@ -1,7 +1,0 @@
-use Rattle.std.proofs.Common.{arith}
-use Rattle.std.proofs.lemmas.Grind.{common_steps}
-use Rattle.script_text.proofs.Cursor.{one_more_field}
-use Rattle.script_text.proofs.number.last_field.Goals as goal
-
-pub returns-in-Some-clause-value : goal.returns-in-Some-clause-value
-returns-in-Some-clause-value c = grind (arith, common_steps, one_more_field)

@@ -1,9 +1,0 @@
-use Rattle.std.proofs.Common.{arith}
-use Rattle.std.proofs.lemmas.Grind.{common_steps}
-use Rattle.script_text.proofs.FactTexts.{worded_behind}
-use Rattle.script_text.proofs.wording.worded.Goals as goal
-
-pub returns : goal.returns
-returns c =
-    let whole = worded_behind c.args.word.now c.args.numbers.now in
-    grind (arith, common_steps)

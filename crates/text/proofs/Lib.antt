@@ -1,0 +1,9 @@
+pub mod Options
+pub mod Split
+pub mod FirstPart
+pub mod Numbers
+pub mod Cursor
+pub mod Forms
+pub mod FirstParts
+pub mod Loops
+pub mod WordedTexts

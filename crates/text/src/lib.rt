@@ -1,0 +1,21 @@
+//! The parts of a text: fields, decimal numbers, hexadecimal digits, and words followed by numbers.
+//!
+//! Whatever the grammar above is, a field is a number in one way, `read_number`, and a text is cut at a separator in one way, `first_part`.
+//! `field` and its like read a line's numbers one by one, without a list of its fields; `read_numbers` reads them from such a list.
+//! `numbers_are_decimals`: the words that are read as numbers are those that `Display` writes.
+#![tactic(auto)]
+
+mod fields;
+mod hexed;
+mod laws;
+mod number;
+mod wording;
+
+pub use fields::{first_part, first_parts, is_one_part, is_word};
+pub use hexed::{decoded, put_bytes};
+pub use laws::numbers_are_decimals;
+pub use number::{
+    field, first_field, last_field, number as read_number, number_before, numbers as read_numbers,
+    three_fields, two_fields,
+};
+pub use wording::{labelled, worded, worded_line};
