@@ -108,7 +108,7 @@ admitted old new asked out same =
 
 -- ---- each request
 leaves : (old : GuardData) (asked : Request) (told : Reply) (new : GuardData) → IsGuardReply old asked told new → Leaves old new (AdmitsInOrder asked)
-leaves old request.Status told new says = unchanged old new (Unit {0}) says.1
+leaves old request.Status told new says = unchanged old new (Unit {0}) says.3
 leaves old (request.Fence generation) told new says =
     ⊎_elim (λ yes. fenced old new generation (Unit {0}) yes.0.0 yes.0.1 yes.2) (λ no. unchanged old new (Unit {0}) no.1.1) says
 leaves old (request.As generation birth asked) told new says =

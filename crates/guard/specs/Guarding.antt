@@ -44,8 +44,11 @@ abbrev pub Declines : GuardData → Reply → GuardData → Type 0
 Declines old told new = NamesNode old told × (new ≡ old)
 
 -- ---- requests
+-- the node says what it is, with the front of its segment
 abbrev pub ReportsGuard : GuardData → Reply → GuardData → Type 0
-ReportsGuard old told new = (told ≡ reply.Status old.generation old.birth old.is_member old.accepted) × (new ≡ old)
+ReportsGuard old told new =
+    (front : Front) × Fronts old.replica.cached.segment (replica_reply.Front front)
+    × (told ≡ reply.Status old.generation old.birth old.is_member front old.accepted) × (new ≡ old)
 
 -- a member of a lower generation gets this one
 abbrev pub Fences : GuardData → ℕ → Reply → GuardData → Type 0

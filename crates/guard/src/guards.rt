@@ -2,7 +2,7 @@ ghost use Rattle.std.specs.Prelude.{◌≡◌, ◌↔◌, IsTrue};
 ghost use Rattle.guard.specs.Data.{fresh_guard};
 ghost use Rattle.guard.specs.Asked.{IsGuarded, ReplacesSegment};
 ghost use Rattle.guard.specs.Guarding.{IsGuardReply, IsUnder, HasLater, NamesNode};
-ghost use Rattle.guard.specs.Guarding.{Fences, AsksUnder, Proposes, Admits, AsksPlainly};
+ghost use Rattle.guard.specs.Guarding.{ReportsGuard, Fences, AsksUnder, Proposes, Admits, AsksPlainly};
 ghost use Rattle.guard.specs.Refusing.{IsGuardRefusal, IsAfterGuardRefusal};
 ghost use Rattle.replica.specs.AtSegment.{Fronts};
 ghost use Rattle.replica.specs.declared.replies.Reply.TheVariants as replica_reply;
@@ -82,12 +82,7 @@ impl Guard {
         ensures refused { IsGuardRefusal result → IsAfterGuardRefusal request self.old self.new }
     {
         match request {
-            Request::Status => Reply::Status {
-                generation: self.generation,
-                birth: self.birth,
-                is_member: self.is_member,
-                accepted: self.accepted,
-            },
+            Request::Status => self.report(),
             Request::Fence { generation } => self.fence(generation),
             Request::As {
                 generation,
@@ -101,6 +96,19 @@ impl Guard {
             } => self.propose(generation, birth, cut),
             Request::Admit(admission) => self.admit(admission),
             Request::Plain(request) => self.ask_plainly(request),
+        }
+    }
+
+    fn report(&mut self) -> Reply
+        ensures { ReportsGuard self.old result self.new }
+    {
+        let front = self.front();
+        Reply::Status {
+            generation: self.generation,
+            birth: self.birth,
+            is_member: self.is_member,
+            front,
+            accepted: self.accepted,
         }
     }
 

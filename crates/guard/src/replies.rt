@@ -1,12 +1,15 @@
 use crate::requests::AcceptedCut;
+use segment_core::Front;
 
 /// What a guard replies to a request. Each reply to an engine names the generation and the birth that it answers for.
 #[derive(Drop)]
 pub enum Reply {
+    /// What the node is, and how far its segment has come.
     Status {
         generation: u64,
         birth: u64,
         is_member: bool,
+        front: Front,
         accepted: Option<AcceptedCut>,
     },
     /// The node has this generation.

@@ -25,7 +25,7 @@ pub struct Admission {
 /// A request to a guard.
 #[derive(Drop)]
 pub enum Request {
-    /// The generation, the birth, the membership and the accepted truncation.
+    /// The generation, the birth, the membership, the front and the accepted truncation.
     Status,
     /// Raise the generation to this one.
     Fence {
