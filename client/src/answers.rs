@@ -1,5 +1,6 @@
 //! From the bytes of answers to values. Each function reads one kind of answer, and gives the error that another answer says.
 
+use crate::engines;
 use crate::errors::{Error, ReadFault, Refused, SnapshotFault, StagingFault, Uncovered, WireFault};
 
 /// Whether a fact has changed what the segment means.
@@ -157,6 +158,7 @@ pub fn error_of(answer: &[u8]) -> Error {
             .map(Error::Refused)
             .or_else(|| staging(answer).map(Error::Staging))
             .or_else(|| numbered(answer))
+            .or_else(|| engines::declined(answer).map(Error::Declined))
             .unwrap_or_else(|| Error::Strange(answer.to_vec())),
     }
 }

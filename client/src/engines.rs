@@ -1,6 +1,6 @@
 //! The calls of an engine that is one of several: a node answers the engine of one generation alone.
 
-use crate::answers::{self, Front};
+use crate::answers::{self, error_of, Front};
 use crate::calls::Calls;
 use crate::errors::Error;
 use crate::facts::Truncation;
@@ -130,7 +130,8 @@ fn accepted(numbers: &[u64]) -> Option<Option<Accepted>> {
     }
 }
 
-fn declined(answer: &[u8]) -> Option<Declined> {
+/// Why an engine's request was not carried out, or a plain one for a member's sake.
+pub(crate) fn declined(answer: &[u8]) -> Option<Declined> {
     match answer {
         b"unguarded" => return Some(Declined::Unguarded),
         b"member" => return Some(Declined::Member),
@@ -148,11 +149,6 @@ fn declined(answer: &[u8]) -> Option<Declined> {
     }
     let [epoch, complete] = numbers(answer, "behind")?.try_into().ok()?;
     Some(Declined::Behind { epoch: epoch.try_into().ok()?, complete })
-}
-
-/// Why a request of an engine was not carried out, by its answer.
-pub fn error_of(answer: &[u8]) -> Error {
-    declined(answer).map_or_else(|| answers::error_of(answer), Error::Declined)
 }
 
 pub fn membership(answer: &[u8]) -> Result<Membership, Error> {
@@ -183,21 +179,11 @@ pub fn headed(answer: &[u8], name: Name) -> Result<&[u8], Error> {
 
 /// Whether the answer says that the node has accepted the truncation of this epoch from this engine.
 pub fn proposed(answer: &[u8], name: Name, epoch: u16) -> Result<(), Error> {
-    let wanted = format!("accepted {} {} {epoch}", name.generation, name.birth);
-    if answer == wanted.as_bytes() {
-        Ok(())
-    } else {
-        Err(error_of(answer))
-    }
+    answers::done(answer, &format!("accepted {} {} {epoch}", name.generation, name.birth))
 }
 
 pub fn admitted(answer: &[u8], name: Name) -> Result<(), Error> {
-    let wanted = format!("admitted {} {}", name.generation, name.birth);
-    if answer == wanted.as_bytes() {
-        Ok(())
-    } else {
-        Err(error_of(answer))
-    }
+    answers::done(answer, &format!("admitted {} {}", name.generation, name.birth))
 }
 
 // ---- Calls

@@ -39,6 +39,11 @@ enum {
  * in the forked child of a process that has threads. */
 unsigned char yieldcleat_serve(int input, int output);
 
+/* The same for a node of a birth of its own, where several engines may ask it: a number that no earlier life of the node had. Draw it at
+ * random where the node is fresh, keep it with the request log, and pass the kept one where the node comes back from its files.
+ * yieldcleat_serve is this with birth 0. docs/EMBEDDING.md, "Several engines", has the requests. */
+unsigned char yieldcleat_serve_as(int input, int output, unsigned long long birth);
+
 #ifdef __cplusplus
 }
 #endif

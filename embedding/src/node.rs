@@ -63,7 +63,7 @@ impl Node {
         Node::open_as(readers, 0)
     }
 
-    /// The same with a birth: a number that no earlier life of this node had. Nodes of a volume need one.
+    /// The same for a node of a birth of its own, where several engines may ask it: no earlier life of the node had this number.
     pub fn open_as(readers: u8, birth: u64) -> Result<Node, Error> {
         let not_started = |error: io::Error| Error::NotStarted(error.kind());
         Node::over(io::pipe().map_err(not_started)?, io::pipe().map_err(not_started)?, readers, birth)
@@ -187,7 +187,7 @@ mod tests {
     #[test]
     fn refused_facts_do_not_block_in_narrow_pipes() {
         soon(|| {
-            let mut node = Node::over(narrow(), narrow(), 1).unwrap();
+            let mut node = Node::over(narrow(), narrow(), 1, 0).unwrap();
             let (facts, others): (Vec<_>, Vec<_>) = (1..=3000).map(|number| (record(number, 1), record(number, 2))).unzip();
             let taken = node.take_all(facts.iter().map(Vec::as_slice)).unwrap();
             assert_eq!(taken, vec![Ok(Taken::Changed); 3000]);

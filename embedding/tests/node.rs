@@ -3,6 +3,7 @@
 use std::io::Write;
 use std::os::unix::net::UnixStream;
 use std::thread;
+use yieldcleat::{engines, Admission, Declined, EngineCalls, Membership, Name};
 use yieldcleat::{frames, requests, Advance, Calls, Error, Front, Gap, Key, Node, Patch, ReadFault, Record, Refused, SnapshotFault};
 use yieldcleat::{StagingFault, Status, Taken, Truncation, Uncovered, WireFault};
 
@@ -181,4 +182,27 @@ fn a_torn_request_is_not_answered() {
     assert_eq!(node.ask(&requests::open(2)), Ok(&b"opened"[..]));
     assert_eq!(node.ask(b""), Ok(&b"bad request"[..]));
     assert_eq!(node.close(), Some(Status::InputEnded));
+}
+
+#[test]
+fn a_node_answers_one_engine() {
+    let mut node = Node::open_as(1, u64::MAX).unwrap();
+    let name = Name { generation: 2, birth: u64::MAX };
+    assert_eq!(node.fence(2), Err(Error::Declined(Declined::Fresh { birth: u64::MAX })));
+    node.take(&record(1)).unwrap();
+    let admission = Admission { name, epoch: 0, complete: 2, accepted: None };
+    assert_eq!(node.admit(&admission), Err(Error::Declined(Declined::Behind { epoch: 0, complete: 1 })));
+    assert_eq!(node.admit(&Admission { complete: 1, ..admission }), Ok(()));
+    let front = Front { epoch: 0, complete: 1, min: 0 };
+    let is = Membership { generation: 2, birth: u64::MAX, is_member: true, front, accepted: None };
+    assert_eq!(node.membership(), Ok(is));
+    let request = engines::many_under(name, [&b"front"[..], &[b"take ", record(2).as_slice()].concat(), b"finish"]).unwrap();
+    let answers = frames::inside(node.ask(&request).unwrap()).unwrap().iter().map(|it| it.to_vec()).collect::<Vec<_>>();
+    let told: Vec<_> = answers.iter().map(|it| engines::headed(it, name)).collect();
+    assert_eq!(told, [Ok(&b"front 0 1 0"[..]), Ok(b"changed"), Err(Error::Declined(Declined::Unguarded))]);
+    assert_eq!(node.front_under(name), Ok(Front { complete: 2, ..front }));
+    assert_eq!(node.propose(name, &Truncation { epoch: 1, lo: 1, hi: 5 }), Ok(()));
+    assert_eq!(node.fence(3).unwrap().accepted.unwrap().cut, Truncation { epoch: 1, lo: 1, hi: 5 });
+    assert_eq!(node.front_under(name), Err(Error::Declined(Declined::Stale { generation: 3 })));
+    assert_eq!(node.finish(), Err(Error::Declined(Declined::Member)));
 }
