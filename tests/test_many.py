@@ -105,3 +105,13 @@ def test_as_many_requests_as_a_frame_has_room_for(fleet_node, tmp_path):
 def test_too_many_requests_are_not_carried_out(fleet_node, tmp_path):
     told, _ = run(fleet_node, many([record(1), *[b""] * MOST]) + frame(b"front"), tmp_path)
     assert difference(told, [b"long", b"front 0 0 0"]) is None
+
+
+@pytest.mark.parametrize("size, wanted", [(91, (b"as 1 0 changed", b"front 0 2 0")), (92, (b"long", b"front 0 1 0"))])
+def test_a_request_of_an_engine_near_the_limit(fleet_node, tmp_path, size, wanted):
+    """It is carried out only where 220 bytes and a length are left for its answer."""
+    count, left = divmod(LIMIT, 4 + 5 + 4096)
+    assert left - (4 + 5 + 91) == 4 + 220
+    requests = [*[b"read 7 1 0 4096"] * count, b"read 7 1 0 %d" % size, b"as 1 0 " + record(2)]
+    (*_, told, front), _ = run(fleet_node, frame(record(1)) + frame(b"admit 1 0 0 1") + many(requests) + frame(b"front"), tmp_path)
+    assert (frames_of(told)[-1], front) == wanted

@@ -7,7 +7,7 @@ import sys
 import pytest
 
 from harness import CASES, ROOT, Answer, answer, rounds, scripts, shrunk_script
-from harness.nodes import DIGITS, FramedNode, Node, Play, Repeater, as_frame, as_line, frames_of, has_frame, many
+from harness.nodes import DIGITS, FramedNode, Node, Play, Repeater, as_frame, as_line, frames_of, has_frame, headed, many
 from model import oracle
 from model.facts import fact_of
 from model.wire import fact_bytes, frame, framed
@@ -72,6 +72,9 @@ MESSAGES = {"answer": ("summary",), "add": ("piece",), "absorb": ("summary", "de
 
 def request_of(row, came):
     """The request line of a row: its fact as bytes, or the messages that it names by their numbers."""
+    head, own = headed(row)
+    if head:
+        return head + request_of(own, came)
     word, _, rest = row.partition(" ")
     if word == "take":
         return f"take {fact_bytes(fact_of(rest)).hex()}"
@@ -82,6 +85,9 @@ def request_of(row, came):
 
 def row_of(told, came):
     """An answer as a row has it: a message is kept, and named by its number, and a record's bytes are its words."""
+    head, own = headed(told)
+    if head:
+        return head + row_of(own, came)
     word, _, rest = told.partition(" ")
     if word not in came or not set(rest) <= DIGITS:
         return told.replace("bad request", "bad line")
@@ -90,6 +96,9 @@ def row_of(told, came):
 
 
 def wanted_of(row):
+    head, own = headed(row)
+    if head:
+        return head + wanted_of(own)
     word, _, rest = row.partition(" ")
     return f"record {fact_bytes(fact_of(rest)).hex()}" if word == "record" else row
 

@@ -5,18 +5,29 @@ import select
 import subprocess
 
 from harness import SECONDS
-from model import oracle
+from model import guards, oracle
 from model.wire import fact_bytes, frame, framed
 
 LEFT_OUT = ("same", "covers")  # steps that no request asks for
 FREEZE_EACH = 50  # one of so many steps comes after a freeze and a restart
 GAP_EACH = 3  # after one of so many steps the gap is asked for
+ENGINE_EACH = 8  # before one of so many steps an engine asks for something
+UNDER_EACH = 4  # one of so many steps is asked under a generation
 WITH_BYTES = (b"page", b"record", b"summary", b"delta", b"piece")  # the answers that end in bytes
 DIGITS = set("0123456789abcdefABCDEF")
 
 
+def headed(text):
+    """What an engine's line or answer has in front of the request or the answer of a segment, and the latter; nothing in front of others."""
+    words = text.split(" ", 3)
+    return (" ".join(words[:3]) + " ", words[3]) if words[0] == "as" and len(words) == 4 else ("", text)
+
+
 def as_frame(line):
     """The bytes of the frame that asks what a request line asks."""
+    head, own = headed(line)
+    if head:
+        return head.encode() + as_frame(own)
     word, _, rest = line.partition(" ")
     if word in ("take", "add"):
         return f"{word} ".encode() + bytes.fromhex(rest)
@@ -31,6 +42,9 @@ def as_frame(line):
 
 def as_line(text):
     """The answer line that says what the bytes of an answer frame say."""
+    if text.startswith(b"as ") and text.count(b" ") >= 3:
+        *head, own = text.split(b" ", 3)
+        return b" ".join(head).decode() + " " + as_line(own)
     word, _, rest = text.partition(b" ")
     is_long = rest == b"too long" and word != b"page"
     return f"{word.decode()} {rest.hex()}" if word in WITH_BYTES and not is_long else text.decode()
@@ -38,6 +52,9 @@ def as_line(text):
 
 def has_frame(line):
     """Whether a frame asks the same: digits stand wherever the line's word takes bytes."""
+    head, own = headed(line)
+    if head:
+        return has_frame(own)
     word, *fields = line.split(" ")
     if word == "answer" and len(fields) == 2 and fields[1].isdigit():
         fields.pop()  # a limit
@@ -155,6 +172,16 @@ class Repeater(FramedNode):
         return True
 
 
+class Under:
+    """A node that is asked for one engine alone; an answer that has another head than the request stays as it is."""
+
+    def __init__(self, node, generation, birth):
+        self.node, self.head = node, f"as {generation} {birth} "
+
+    def ask(self, *words):
+        return self.node.ask(self.head + " ".join(map(str, words))).removeprefix(self.head)
+
+
 class Play:
     """A script: what the oracle's fleet replies to each step, and what the nodes answer."""
 
@@ -165,6 +192,7 @@ class Play:
         self.fleet = oracle.Fleet(reader.roster, self.facts, reader.nodes)
         self.messages = []  # of each: the words that stand for it in a line
         self.answers = []  # of the steps that were compared
+        self.guards = [guards.Guard() for _ in nodes]
         for node in nodes[: reader.nodes]:
             node.ask("open", reader.roster)
 
@@ -198,17 +226,47 @@ class Play:
         self.messages.append((*before, digits))
         return f"message {len(self.messages)}" if word == kind else answer
 
+    def engine_differs(self, choose, number):
+        """What a node answers otherwise to some engine, or nothing."""
+        front = tuple(map(int, self.fleet.front(number).split(" ")[1:]))
+        node, guard = self.nodes[number - 1], self.guards[number - 1]
+        word, numbers = guards.a_request(guard, front, choose)
+        wanted = getattr(guard, word)(front, *numbers)
+        answer = node.ask(word, *numbers)
+        if answer == wanted and choose.randrange(ENGINE_EACH) == 0:
+            word, numbers = "as", (guard.generation, guard.birth, choose.choice(guards.NOT_UNDER))
+            answer, wanted = node.ask(word, *numbers), "unguarded"
+        return f"{word} {numbers}: {answer!r} in place of {wanted!r}" if answer != wanted else ""
+
+    def asked_by(self, choose, node, guard, kind, values):
+        """Whoever asks for a step: anybody, or an engine; what differs where it is not the node's own."""
+        generation = choose.choice((guard.generation, guard.generation, choose.randrange(9)))
+        asker = Under(node, generation, guard.birth)
+        if guard.is_under(generation, guard.birth):
+            return asker, ""
+        answer = asker.ask("fold", 7) if kind == "fold" else asker.ask("front")
+        return node, f"{answer!r} in place of {guard.declined()!r}" if answer != guard.declined() else ""
+
     def difference(self, choose):
         """The first difference in words, or nothing."""
         for place, step in enumerate(self.steps):
             kind, number, *values = step
+            if kind == "wipe" and number <= len(self.fleet.nodes) and self.guards[number - 1].is_member:
+                if (answer := self.nodes[number - 1].ask("open", self.roster)) != "member":
+                    return f"{step}: {answer!r} in place of 'member'"
+                continue
             wanted = "no " if kind in LEFT_OUT else self.fleet.step(step)
             if wanted.startswith("no "):
                 continue
-            node = self.nodes[number - 1]
-            if choose.randrange(FREEZE_EACH) == 0 and not node.restart(place):
+            node, guard = self.nodes[number - 1], self.guards[number - 1]
+            if choose.randrange(FREEZE_EACH) == 0 and not guard.is_member and not node.restart(place):
                 return f"node {number} is not restored before {step}"
-            answer = self.told(kind, node, values)
+            asker = node
+            if choose.randrange(UNDER_EACH) == 0 and kind != "join" and kind != "wipe":
+                asker, differs = self.asked_by(choose, node, guard, kind, values)
+                if differs:
+                    return f"{step} of an engine: {differs}"
+            answer = self.told(kind, asker, values)
             self.answers.append(answer)
             if answer is not None and answer != wanted:
                 return f"{step}: {answer!r} in place of {wanted!r}"
@@ -216,4 +274,6 @@ class Play:
                 answer, wanted = node.ask("gap"), self.fleet.gap(number)
                 if answer != wanted:
                     return f"the gap after {step}: {answer!r} in place of {wanted!r}"
+            if choose.randrange(ENGINE_EACH) == 0 and (differs := self.engine_differs(choose, number)):
+                return f"after {step}: {differs}"
         return ""

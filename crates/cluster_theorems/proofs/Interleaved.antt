@@ -9,6 +9,7 @@ use Rattle.replica.specs.declared.replies.Reply.{Reply}
 use Rattle.replica.specs.Machine.{IsReply}
 use Rattle.replica.specs.Parts.{ReplicaData, empty_replica}
 use Rattle.replica.specs.Meaning.{Turn, Runs}
+use Rattle.guard.specs.Data.{GuardData, fresh_guard}
 use Rattle.node_stream.specs.Running.{AnswersRun, FramesRun, Run}
 use Rattle.cluster_theorems.specs.Turns.{turns_of, SameTurn, Interleaves}
 use Rattle.cluster_theorems.specs.Carrying.{AreCarried}
@@ -34,13 +35,19 @@ interleaved_follow answer roster log pages made nodes sound runs turns same carr
     cluster_follows answer roster log pages turns nodes sound
     (λ node. run_alike (empty_replica roster (pages node)) (made node) (turns_of node turns) (nodes node) (same node) (runs node)) carried
 
-stream_run : AnswersRun → FramesRun → (framed : Bool) (limit : ℕ) (old : ReplicaData) (requests texts : List (List ℕ)) (new : ReplicaData)
+stream_run : AnswersRun → FramesRun → (framed : Bool) (limit : ℕ) (old : GuardData) (requests texts : List (List ℕ)) (new : GuardData)
     → AnswersStream framed limit old requests texts new → Run (spoken framed) (λ old asked. []) limit old requests texts new
 stream_run lines frames true limit old requests texts new answered = frames (λ old asked. []) limit old requests texts new answered
 stream_run lines frames false limit old requests texts new answered = lines (λ old asked. []) limit old requests texts new answered
 
 pub streams_follow : AnswersRun → FramesRun → StatesAnswer → StreamsFollow
-streams_follow lines frames answer roster limit log pages framed requests texts nodes sound answered =
+streams_follow lines frames answer roster limit log pages births framed requests texts nodes sound answered =
     let one = λ (node : ℕ).
-    stream_run lines frames (framed node) limit (empty_replica roster (pages node)) (requests node) (texts node) (nodes node) (answered node) in
-    (λ node. (one node).0, λ node. (one node).3, interleaved_follow answer roster log pages (λ node. (one node).0) nodes sound (λ node. (one node).1))
+    stream_run lines frames (framed node) limit (fresh_guard (empty_replica roster (pages node)) (births node)) (requests node) (texts node) (nodes node)
+    (answered node) in (
+      λ node. (one node).0,
+      λ node. ((one node).3).own,
+      λ node. (one node).2,
+      λ node. ((one node).3).are,
+      interleaved_follow answer roster log pages (λ node. ((one node).3).own) (λ node. (nodes node).replica) sound (λ node. ((one node).3).runs),
+    )

@@ -4,8 +4,8 @@
 //! the one whose summary it answers; and the pieces of a snapshot may be added so too. All that is asked is that nothing is made up: what
 //! is absorbed or added was replied by some node earlier in the run, what is taken is a fact of one sound log, and the pieces that make a
 //! segment are of snapshots of the same facts (`specs/Carrying`). Then each node means exactly the facts that have reached it, and replies
-//! as these do (`specs/Following`); and so do nodes on streams of lines or frames, however their turns are interleaved (`specs/Streams`). A node
-//! that is lost is one that has no more turns, and one that comes back from its files is another node of the run.
+//! as these do (`specs/Following`); and so do guarded nodes on streams of lines or frames, whatever engines ask of them, and however their
+//! turns are interleaved (`specs/Streams`). A node that is lost is one that has no more turns, and one that comes back from its files is another node of the run.
 #![tactic(auto)]
 
 ghost use Rattle.cluster_theorems.specs.Following.{ClusterFollows, SameReplies, OpenedIsEmpty};
@@ -38,7 +38,7 @@ pub fn names_suffice()
     ensures { NamesSuffice }
 {}
 
-/// The answers to lines and to frames are such a run's: nodes on streams, whose turns are interleaved in any order.
+/// The answers to lines and to frames are such a run's: guarded nodes on streams, whose replicas' turns are interleaved in any order.
 pub fn streams_follow()
     ensures { StreamsFollow }
 {

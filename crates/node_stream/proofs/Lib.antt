@@ -1,6 +1,9 @@
 pub mod FirstWords
 pub mod Framed
+pub mod GuardFields
+pub mod Headed
 pub mod Long
+pub mod Short
 pub mod Together
 pub mod Turns
 pub mod Unchanged

@@ -4,25 +4,30 @@ use Rattle.std.specs.Prelude.{codes}
 use Rattle.std.specs.List.{All, concat}
 use Rattle.std.proofs.lemmas.List.Elements.{All-nil, All-push}
 use Rattle.framing.specs.Frames.{header, framed, IsShort, IsBegun}
-use Rattle.framing.specs.Inside.{AreInside, FitsFrame, HasRoomFor, PutsAnswer, bytes_put}
-use Rattle.framing.specs.declared.frames.answer_frames.AnswerFrames.{AnswerFrames}
+use Rattle.framing.specs.Inside.{AreInside, FitsFrame, Exceeds, bytes_with}
 use Rattle.framing.proofs.FramesAnswered.{joined}
 use Rattle.framing.proofs.Headers.{length-header}
 use Rattle.framing.proofs.Nested.{first_inside, none_inside}
-use Rattle.replica.specs.Parts.{ReplicaData}
+use Rattle.guard.specs.Data.{GuardData}
 use Rattle.node_stream.specs.Answering.{Spoken, by_frames, LacksMemory, AnswersAsked, AnswersRequest, OnlyReads, ReadsAsked, AnswersOneOf, AnswersInTurn, AnswersAll}
-use Rattle.node_stream.specs.declared.asked.Asked.{Asked}
+use Rattle.node_stream.specs.Gathering.{HasPlaceFor, Gathers, gathered_bytes, gathered_room}
+use Rattle.node_stream.specs.GuardReading.{guard_request}
+use Rattle.node_stream.specs.GuardTelling.{sure_for}
+use Rattle.node_stream.specs.Refusing.{TellsFault}
+use Rattle.node_stream.specs.declared.asked.GuardAsked.{GuardAsked}
+use Rattle.node_stream.specs.declared.gathered.Gathered.{Gathered}
+use Rattle.node_stream.specs.declared.job.Form.TheVariants as stream
 use Rattle.node_stream.specs.declared.faults.LineFault.{LineFault}
 
 -- ---- one answer more
 module _ (form : Spoken) (bytes text : List ℕ) where
-  one_at : (put put' others others' : ℕ) (old old' new : ReplicaData) → put ≡ put' → others ≡ others' → old ≡ old'
+  one_at : (put put' others others' : ℕ) (old old' new : GuardData) → put ≡ put' → others ≡ others' → old ≡ old'
       → AnswersOneOf form put others old bytes text new → AnswersOneOf form put' others' old' bytes text new
   one_at put put' others others' old old' new e f g h =
       subst (λ (p : ℕ). AnswersOneOf form p others' old' bytes text new) e
-      (subst (λ (n : ℕ). AnswersOneOf form put n old' bytes text new) f (subst (λ (r : ReplicaData). AnswersOneOf form put others r bytes text new) g h))
+      (subst (λ (n : ℕ). AnswersOneOf form put n old' bytes text new) f (subst (λ (r : GuardData). AnswersOneOf form put others r bytes text new) g h))
 
-  in_turn_more : (put behind : ℕ) (old : ReplicaData) (done texts : List (List ℕ)) (mid new : ReplicaData)
+  in_turn_more : (put behind : ℕ) (old : GuardData) (done texts : List (List ℕ)) (mid new : GuardData)
       → AnswersInTurn form put (behind + 1) old done texts mid → AnswersOneOf form (put + length (concat (map framed texts))) behind mid bytes text new
       → AnswersInTurn form put behind old (done ++ bytes ∷ []) (texts ++ text ∷ []) new
   in_turn_more put behind old [] [] mid new h one =
@@ -41,7 +46,7 @@ module _ (form : Spoken) (bytes text : List ℕ) where
 
 -- ---- the frames before the rest
 -- the frames before the rest are answered, and so many are in the rest
-pub record Answered (old : ReplicaData) (bytes rest out : List ℕ) (left : ℕ) (new : ReplicaData) : Type 0 where
+pub record Answered (old : GuardData) (bytes rest out : List ℕ) (left : ℕ) (new : GuardData) : Type 0 where
   pub done : List (List ℕ)
   pub texts : List (List ℕ)
   pub others : List (List ℕ)
@@ -53,7 +58,7 @@ pub record Answered (old : ReplicaData) (bytes rest out : List ℕ) (left : ℕ)
   pub answered : AnswersInTurn by_frames 0 left old done texts new
   pub told : AreInside out texts
 
-pub answered_none : (old : ReplicaData) (bytes out : List ℕ) (left : ℕ) (frames : List (List ℕ)) → AreInside bytes frames → length frames ≡ left → out ≡ []
+pub answered_none : (old : GuardData) (bytes out : List ℕ) (left : ℕ) (frames : List (List ℕ)) → AreInside bytes frames → length frames ≡ left → out ≡ []
     → 21 * left ≤ 2 ^ 26 → Answered old bytes bytes out left old
 answered_none old bytes out left frames inside many none few = record {
   done = [];
@@ -68,11 +73,11 @@ answered_none old bytes out left frames inside many none few = record {
   told = record { encoded = none; short = All-nil IsShort };
 }
 
-module _ (old : ReplicaData) (bytes rest out : List ℕ) (left : ℕ) (mid : ReplicaData) (h : Answered old bytes rest out left mid) where
+module _ (old : GuardData) (bytes rest out : List ℕ) (left : ℕ) (mid : GuardData) (h : Answered old bytes rest out left mid) where
   pub some_left : (frame behind : List ℕ) → rest ≡ framed frame ++ behind → IsShort frame → 0 < left
   some_left frame behind e short = let first = first_inside rest frame behind h.others h.behind e short in omega (arith, h.many, ap length first.1)
 
-  pub answered_more : (frame behind said out' : List ℕ) (left' : ℕ) (new : ReplicaData) → rest ≡ framed frame ++ behind → IsShort frame
+  pub answered_more : (frame behind said out' : List ℕ) (left' : ℕ) (new : GuardData) → rest ≡ framed frame ++ behind → IsShort frame
       → AnswersOneOf by_frames (length out) left' mid frame said new → out' ≡ out ++ framed said → IsShort said → left' + 1 ≡ left
       → Answered old bytes behind out' left' new
   answered_more frame behind said out' left' new e short one put fits is =
@@ -109,21 +114,63 @@ module _ (old : ReplicaData) (bytes rest out : List ℕ) (left : ℕ) (mid : Rep
       }
 
 -- ---- what was put is an answer
+-- what is answered without a step
+pub fault_answers : (mid : GuardData) (frame text : List ℕ) → TellsFault frame text → AnswersRequest by_frames mid frame text mid
+fault_answers mid frame text (inl lacks) = inl (record { is = lacks; did = inl refl })
+fault_answers mid frame text (inr fault) =
+    subst (λ (a : Result GuardAsked LineFault). AnswersAsked by_frames a mid text mid) (sym fault.1) (inr (fault.2, refl))
+
 -- in place of the reply of what only reads the answer may say that memory ran out
-lacking : (old : ReplicaData) (asked : Result Asked LineFault) (text : List ℕ) (new : ReplicaData) → ReadsAsked by_frames asked old text new
+lacking : (old : GuardData) (asked : Result GuardAsked LineFault) (text : List ℕ) (new : GuardData) → ReadsAsked by_frames asked old text new
     → AnswersAsked by_frames asked old (codes "memory") new
 lacking old (Ok asked) text new h = inl (record { is = refl; did = inr (h.told, h.replies, h.unchanged) })
 lacking old (Err fault) text new h = absurd h
 
-pub said : (mid : ReplicaData) (frame text : List ℕ) (new : ReplicaData) (answers answers' : AnswerFrames) (others : ℕ)
-    → AnswersRequest by_frames mid frame text new → (17 < length text → ReadsAsked by_frames (by_frames.asks frame) mid text new) → IsShort text
-    → HasRoomFor answers (others + 1) → PutsAnswer answers text others answers'
-    → (told : List ℕ) × AnswersOneOf by_frames (length (bytes_put answers)) others mid frame told new
-    × (bytes_put answers' ≡ bytes_put answers ++ framed told) × IsShort told
-said mid frame text new answers answers' others one reads short room (inl put) = (text, inl (put.0, one), put.1, short)
-said mid frame text new answers answers' others one reads short room (inr (inl put)) =
-    let fits : FitsFrame (length (bytes_put answers)) 6 others = omega (arith, put.0, put.1) in
-    (codes "memory", inl (fits, lacking mid (by_frames.asks frame) text new (reads put.1)), put.2, omega arith)
-said mid frame text new answers answers' others one reads short room (inr (inr put)) =
-    let long : 17 < length text = omega (arith, put.0, room.within) in
-    (codes "long", inr (record { is = refl; answer = text; reads = reads long; exceeds = put.0 }), put.1, omega arith)
+-- an answer that was put is one to its request
+pub said : (mid : GuardData) (frame text : List ℕ) (asked : GuardAsked) (new : GuardData) (answers answers' : Gathered) (others : ℕ)
+    → guard_request stream.Frames frame ≡ Ok asked → AnswersAsked by_frames (Ok asked) mid text new
+    → (sure_for asked.request < length text → ReadsAsked by_frames (Ok asked) mid text new) → IsShort text
+    → HasPlaceFor answers (others + 1) → FitsFrame (length (gathered_bytes answers)) (sure_for asked.request) others
+    → bytes_with (length (gathered_bytes answers)) (sure_for asked.request) others ≤ gathered_room answers → Gathers answers text others answers'
+    → (told : List ℕ) × AnswersOneOf by_frames (length (gathered_bytes answers)) others mid frame told new
+    × (gathered_bytes answers' ≡ gathered_bytes answers ++ framed told) × IsShort told
+said mid frame text asked new answers answers' others asks one reads short place within free (inl put) =
+    (text, inl (put.0, subst (λ (a : Result GuardAsked LineFault). AnswersAsked by_frames a mid text new) (sym asks) one), put.1, short)
+said mid frame text asked new answers answers' others asks one reads short place within free (inr (inl put)) =
+    let fits : FitsFrame (length (gathered_bytes answers)) 6 others = omega (arith, place.within) in
+    let long : sure_for asked.request < length text = omega (arith, put.1, free) in
+    let lacks : AnswersAsked by_frames (guard_request stream.Frames frame) mid (codes "memory") new =
+    subst (λ (a : Result GuardAsked LineFault). AnswersAsked by_frames a mid (codes "memory") new) (sym asks) (lacking mid (Ok asked) text new (reads long)) in
+    (codes "memory", inl (fits, lacks), put.2, omega arith)
+said mid frame text asked new answers answers' others asks one reads short place within free (inr (inr put)) =
+    let long : sure_for asked.request < length text = omega (arith, put.0, within) in
+    let over = subst (λ (a : Result GuardAsked LineFault). ReadsAsked by_frames a mid text new) (sym asks) (reads long) in
+    (codes "long", inr (inl (record { is = refl; answer = text; reads = over; exceeds = put.0 })), put.1, omega arith)
+
+-- the longest answer that reports a change exceeds the limit
+pub held_back : (mid : GuardData) (frame : List ℕ) (asked : GuardAsked) (answers answers' : Gathered) (others : ℕ)
+    → guard_request stream.Frames frame ≡ Ok asked → (FitsFrame (length (gathered_bytes answers)) (sure_for asked.request) others → ⊥)
+    → gathered_bytes answers' ≡ gathered_bytes answers ++ framed (codes "long")
+    → (told : List ℕ) × AnswersOneOf by_frames (length (gathered_bytes answers)) others mid frame told mid
+    × (gathered_bytes answers' ≡ gathered_bytes answers ++ framed told) × IsShort told
+held_back mid frame asked answers answers' others asks over put =
+    let exceeds : Exceeds (length (gathered_bytes answers)) (sure_for asked.request) others = omega (arith, over) in
+    (codes "long", inr (inr (record { asked = asked; asks = asks; is = refl; exceeds = exceeds }, refl)), put, omega arith)
+
+-- there was no room for it, and no memory
+pub not_begun : (mid : GuardData) (frame : List ℕ) (asked : GuardAsked) (answers answers' : Gathered) (others : ℕ) → HasPlaceFor answers (others + 1)
+    → gathered_bytes answers' ≡ gathered_bytes answers ++ framed (codes "memory")
+    → (told : List ℕ) × AnswersOneOf by_frames (length (gathered_bytes answers)) others mid frame told mid
+    × (gathered_bytes answers' ≡ gathered_bytes answers ++ framed told) × IsShort told
+not_begun mid frame asked answers answers' others place put =
+    let fits : FitsFrame (length (gathered_bytes answers)) 6 others = omega (arith, place.within) in
+    (codes "memory", inl (fits, inl (record { is = refl; did = inl refl })), put, omega arith)
+
+-- the frame encodes no request, or there was no memory to read it
+pub not_read : (mid : GuardData) (frame text : List ℕ) (answers answers' : Gathered) (others : ℕ) → TellsFault frame text → length text ≤ 17
+    → HasPlaceFor answers (others + 1) → gathered_bytes answers' ≡ gathered_bytes answers ++ framed text
+    → (told : List ℕ) × AnswersOneOf by_frames (length (gathered_bytes answers)) others mid frame told mid
+    × (gathered_bytes answers' ≡ gathered_bytes answers ++ framed told) × IsShort told
+not_read mid frame text answers answers' others why few place put =
+    let fits : FitsFrame (length (gathered_bytes answers)) (length text) others = omega (arith, place.within, few) in
+    (text, inl (fits, fault_answers mid frame text why), put, omega (arith, few))

@@ -1,5 +1,5 @@
 -- A reply whose line takes memory is to a request that has changed no more than a refused one.
-use Rattle.std.proofs.Common.{◌≡◌, ℕ, Bool, true, false, Option, Some, None, Result, Ok, Err, inl, inr, refl, ap, ◌∙◌}
+use Rattle.std.proofs.Common.{◌≡◌, ℕ, ◌≤◌, Bool, true, false, Option, Some, None, Result, Ok, Err, inl, inr, ⊎_elim, refl, sym, ap, ◌∙◌, subst, arith}
 use Rattle.redo_core.specs.declared.facts.Fact.{Fact}
 use Rattle.redo_core.specs.declared.refusal.Refused.{Refused}
 use Rattle.messages.specs.Pieces.{PieceData}
@@ -30,6 +30,14 @@ use Rattle.replica.specs.declared.requests.Request.{Request}
 use Rattle.replica.specs.declared.requests.Request.TheVariants as request
 use Rattle.replica.specs.declared.replies.Reply.{Reply}
 use Rattle.replica.specs.declared.replies.Reply.TheVariants as reply
+use Rattle.guard.specs.Data.{GuardData, around}
+use Rattle.guard.specs.Guarding.{IsGuardReply, NamesNode}
+use Rattle.guard.specs.Refusing.{IsGuardRefusal, IsAfterGuardRefusal}
+use Rattle.guard.specs.declared.requests.Request.{Request as GuardRequest}
+use Rattle.guard.specs.declared.requests.Request.TheVariants as guard
+use Rattle.guard.specs.declared.replies.Reply.{Reply as GuardReply}
+use Rattle.guard.specs.declared.replies.Reply.TheVariants as guarded
+use Rattle.node_stream.specs.GuardTelling.{NeedsMemory, sure_of, sure_for}
 use Rattle.node_stream.specs.Telling.{TakesMemory}
 
 -- the reply has the value that was asked for, and is no refusal
@@ -191,3 +199,88 @@ told_unchanged old (request.Add piece) told new h r t = r (refuses told t (adds_
 told_unchanged old request.Finish told new h r t = r (refuses told t (finishes_tells old.cached old.staging told new.cached new.staging h.0))
 told_unchanged old request.Unite told new h r t = r (refuses told t (unites_tells old.cached old.staging told new.cached new.staging h.0))
 told_unchanged old (request.Next after) told new h r t = h.1
+
+-- ---- each request to a guard
+-- a guard's own reply takes no memory
+own_needs_none : (told own : GuardReply) → told ≡ own → NeedsMemory told → NeedsMemory own
+own_needs_none told own is needs = subst (λ (t : GuardReply). NeedsMemory t) is needs
+
+declined_needs_none : (old : GuardData) (told : GuardReply) → NamesNode old told → NeedsMemory told → ⊥
+declined_needs_none old told (inl stale) needs = own_needs_none told (guarded.Stale old.generation) stale.1 needs
+declined_needs_none old told (inr fresh) needs = own_needs_none told (guarded.Fresh old.birth) fresh.1 needs
+
+-- what makes a reply of such a kind leaves the guard as a refusal does
+pub reply_unchanged : (old : GuardData) (asked : GuardRequest) (told : GuardReply) (new : GuardData) → IsGuardReply old asked told new
+    → (IsGuardRefusal told → IsAfterGuardRefusal asked old new) → NeedsMemory told → IsAfterGuardRefusal asked old new
+reply_unchanged old guard.Status told new says r needs = says.3
+reply_unchanged old (guard.Fence generation) told new says r needs = ⊎_elim
+    (λ yes. absurd (own_needs_none told (guarded.Fenced generation old.birth old.accepted) yes.1 needs))
+    (λ no. no.1.1)
+    says
+reply_unchanged old (guard.As generation birth asked) told new says r needs = ⊎_elim
+    (λ no. absurd (own_needs_none told guarded.Unguarded no.1 needs))
+    (λ may. ⊎_elim
+    (λ yes. (
+      yes.2,
+      told_unchanged old.replica asked yes.3.0 new.replica yes.3.1
+          (λ refusal. (r (subst (λ (t : GuardReply). IsGuardRefusal t) (sym yes.3.2) refusal)).1)
+          (own_needs_none told (guarded.Headed generation birth yes.3.0) yes.3.2 needs),
+    ))
+    (λ no. absurd (declined_needs_none old told no.2.0 needs)) may)
+    says
+reply_unchanged old (guard.Propose generation birth cut) told new says r needs = ⊎_elim
+    (λ yes. absurd (own_needs_none told (guarded.Accepted generation birth cut.epoch) yes.2 needs))
+    (λ no. no.1.1)
+    says
+reply_unchanged old (guard.Admit asked) told new says r needs = ⊎_elim
+    (λ no. no.2)
+    (λ out. ⊎_elim
+    (λ no. no.3)
+    (λ known. ⊎_elim
+    (λ yes. absurd (own_needs_none told (guarded.Admitted asked.generation old.birth) yes.1 needs))
+    (λ no. no.2) known.2.2) out)
+    says
+reply_unchanged old (guard.Plain asked) told new says r needs = ⊎_elim
+    (λ no. absurd (own_needs_none told guarded.Member no.2 needs))
+    (λ yes. (
+      yes.1,
+      told_unchanged old.replica asked yes.2.0 new.replica yes.2.1
+          (λ refusal. (r (subst (λ (t : GuardReply). IsGuardRefusal t) (sym yes.2.2) refusal)).1)
+          (own_needs_none told (guarded.Plain yes.2.0) yes.2.2 needs),
+    ))
+    says
+
+-- ---- how long the answer to a request is that changes something
+few_of : (told : GuardReply) → sure_of told ≤ 220
+few_of (guarded.Status generation birth is_member front accepted) = omega arith
+few_of (guarded.Fenced generation birth accepted) = omega arith
+few_of (guarded.Stale generation) = omega arith
+few_of (guarded.Fresh birth) = omega arith
+few_of (guarded.Headed generation birth told) = omega arith
+few_of (guarded.Accepted generation birth epoch) = omega arith
+few_of (guarded.Admitted generation birth) = omega arith
+few_of guarded.Member = omega arith
+few_of (guarded.Stranger birth) = omega arith
+few_of (guarded.Behind epoch complete) = omega arith
+few_of guarded.Unguarded = omega arith
+few_of (guarded.Plain told) = omega arith
+
+pub sure_enough : (old : GuardData) (asked : GuardRequest) (told : GuardReply) (new : GuardData) → IsGuardReply old asked told new
+    → sure_of told ≤ sure_for asked
+sure_enough old guard.Status told new says = few_of told
+sure_enough old (guard.Fence generation) told new says = few_of told
+sure_enough old (guard.As generation birth asked) told new says = few_of told
+sure_enough old (guard.Propose generation birth cut) told new says = few_of told
+sure_enough old (guard.Admit asked) told new says = few_of told
+sure_enough old (guard.Plain asked) told new says = ⊎_elim
+    (λ no. subst (λ (t : GuardReply). sure_of t ≤ 17) (sym no.2) (omega arith))
+    (λ yes. subst (λ (t : GuardReply). sure_of t ≤ 17) (sym yes.2.2) (omega arith))
+    says
+
+pub some_sure : (asked : GuardRequest) → 17 ≤ sure_for asked
+some_sure guard.Status = omega arith
+some_sure (guard.Fence generation) = omega arith
+some_sure (guard.As generation birth asked) = omega arith
+some_sure (guard.Propose generation birth cut) = omega arith
+some_sure (guard.Admit asked) = omega arith
+some_sure (guard.Plain asked) = omega arith

@@ -1,10 +1,15 @@
 pub mod Answering
 pub mod Asking
+pub mod Carried
 pub mod CommandLine
 pub mod Ending
 pub mod FrameReading
 pub mod FrameTelling
+pub mod Gathering
+pub mod GuardReading
+pub mod GuardTelling
 pub mod Reading
+pub mod Refusing
 pub mod Room
 pub mod Running
 pub mod Telling

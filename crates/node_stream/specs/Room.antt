@@ -1,7 +1,8 @@
 -- Room for an answer.
-use Rattle.std.specs.Prelude.{◌≡◌, ◌+◌, ◌≤◌, codes, String, string_bytes, string_len, string_capacity}
+use Rattle.std.specs.Prelude.{◌≡◌, ◌+◌, ◌≤◌, [], String, string_bytes, string_len, string_capacity}
 
--- the word, and room for ten digits and an LF after it
+-- nothing yet, and room for 256 bytes: more than an answer has that reports a change
 pub record HasRoom {Z : Type 0} (room : String Z) : Type 0 where
-  pub word : string_bytes room ≡ codes "frozen "
-  pub free : string_len room + 11 ≤ string_capacity room
+  pub bytes : string_bytes room ≡ []
+  pub len : string_len room ≡ 0
+  pub free : 256 ≤ string_capacity room

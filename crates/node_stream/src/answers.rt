@@ -1,10 +1,10 @@
 //! From a reply to an answer.
 
-ghost use Rattle.std.specs.Prelude.{◌≡◌, IfOk, OnErr};
+ghost use Rattle.std.specs.Prelude.{◌≡◌, ◌++◌, ◌+◌, ◌≤◌, ◌<◌, IfOk, OnErr, length, string_bytes, string_len, string_capacity};
 ghost use Rattle.framing.specs.AnswerText.{text_of};
 ghost use Rattle.node_stream.specs.Asking.{IsInside};
 ghost use Rattle.node_stream.specs.Room.{HasRoom};
-ghost use Rattle.node_stream.specs.Telling.{line_of, TakesMemory};
+ghost use Rattle.node_stream.specs.Telling.{line_of, TakesMemory, TakesRoom};
 
 use crate::asked::Window;
 use crate::frozen::frozen;
@@ -14,19 +14,11 @@ use framing::lines::Answer;
 use replica::Reply;
 use std::alloc::{AllocError, Global};
 
-/// The answer line of a reply; `room` is for that of a snapshot which is kept.
-///
-/// It fails only if memory runs out, and not for a reply to a request that has changed something.
-pub fn told(
-    alloc: Global,
-    window: Window,
-    reply: &Reply,
-    room: String,
-) -> Result<Answer, AllocError>
-    requires inside { IsInside window }
-    requires room { HasRoom room }
+/// The answer line of a reply, none of it in room that was taken before. It fails only if memory runs out.
+pub fn line(alloc: Global, window: Window, reply: &Reply) -> Result<Answer, AllocError>
+    requires { IsInside window }
     ensures line { IfOk result (λ a. text_of a ≡ line_of window reply.now) }
-    ensures memory { OnErr result (TakesMemory reply.now) }
+    ensures memory { OnErr result (TakesRoom reply.now) }
 {
     match reply {
         Reply::Opened => Ok(Answer::Fixed("opened\n")),
@@ -51,7 +43,7 @@ pub fn told(
         Reply::Folded => Ok(Answer::Fixed("folded\n")),
         Reply::Discarded => Ok(Answer::Fixed("discarded\n")),
         Reply::Tidied => Ok(Answer::Fixed("tidied\n")),
-        Reply::Frozen { pieces } => Ok(frozen(room, *pieces)),
+        Reply::Frozen { pieces } => one(alloc, "frozen", u64::from(*pieces)),
         Reply::TooMany => Ok(Answer::Fixed("too many\n")),
         Reply::Piece { piece: told } => piece(alloc, told),
         Reply::NoSnapshot => Ok(Answer::Fixed("no snapshot\n")),
@@ -68,5 +60,57 @@ pub fn told(
         Reply::Next { redo } => record(alloc, redo),
         Reply::NoNext => Ok(Answer::Fixed("none\n")),
         Reply::Memory => Ok(Answer::Fixed("memory\n")),
+    }
+}
+
+/// The answer line of a reply; `room` is for that of a snapshot which is kept.
+///
+/// It fails only if memory runs out, and not for a reply to a request that has changed something.
+pub fn told(
+    alloc: Global,
+    window: Window,
+    reply: &Reply,
+    room: String,
+) -> Result<Answer, AllocError>
+    requires inside { IsInside window }
+    requires room { HasRoom room }
+    ensures line { IfOk result (λ a. text_of a ≡ line_of window reply.now) }
+    ensures memory { OnErr result (TakesMemory reply.now) }
+{
+    match reply {
+        Reply::Frozen { pieces } => Ok(frozen(room, *pieces)),
+        _ => line(alloc, window, reply),
+    }
+}
+
+/// A line after what is in the room that was taken.
+fn joined(mut head: String, answer: Answer) -> Result<Answer, AllocError>
+    ensures line { IfOk result (λ a. text_of a ≡ string_bytes head ++ text_of answer) }
+    ensures full { OnErr result (string_capacity head < string_len head + length (text_of answer)) }
+{
+    match answer {
+        Answer::Fixed(text) => head.push_str(text)?,
+        Answer::Made(text) => head.push_str(&text)?,
+    }
+    Ok(Answer::Made(head))
+}
+
+/// The answer line of a reply after what is in the room that was taken, with room for 18 bytes more.
+///
+/// It fails only if memory runs out, and not for a reply to a request that has changed something.
+pub fn headed(
+    alloc: Global,
+    window: Window,
+    head: String,
+    reply: &Reply,
+) -> Result<Answer, AllocError>
+    requires inside { IsInside window }
+    requires free { string_len head + 18 ≤ string_capacity head }
+    ensures line { IfOk result (λ a. text_of a ≡ string_bytes head ++ line_of window reply.now) }
+    ensures memory { OnErr result (TakesMemory reply.now) }
+{
+    match reply {
+        Reply::Frozen { pieces } => Ok(frozen(head, *pieces)),
+        _ => joined(head, line(alloc, window, reply)?),
     }
 }

@@ -29,3 +29,46 @@ impl Asked {
         Asked { request, window }
     }
 }
+
+/// A request to a guard, and which bytes of a page its answer shows.
+#[derive(Drop)]
+pub struct GuardAsked {
+    pub request: guard::Request,
+    pub window: Window,
+}
+
+impl GuardAsked {
+    ghost use Rattle.node_stream.specs.Asking.{guard_asked, plainly, under};
+
+    /// A request whose answer shows no page.
+    pub fn new(request: guard::Request) -> Self
+        ensures { result ≡ guard_asked request }
+    {
+        let window = Window { offset: 0, len: 0 };
+        GuardAsked { request, window }
+    }
+
+    /// A request of a replica that no engine asks under its generation.
+    pub fn plain(asked: Asked) -> Self
+        ensures { result ≡ plainly asked }
+    {
+        GuardAsked {
+            request: guard::Request::Plain(asked.request),
+            window: asked.window,
+        }
+    }
+
+    /// The same for the engine of a generation, in a birth of the node.
+    pub fn under(generation: u64, birth: u64, asked: Asked) -> Self
+        ensures { result ≡ under generation birth asked }
+    {
+        GuardAsked {
+            request: guard::Request::As {
+                generation,
+                birth,
+                request: asked.request,
+            },
+            window: asked.window,
+        }
+    }
+}

@@ -1,23 +1,34 @@
-//! A replica that answers the frame of one request.
+//! A guarded replica that answers the frame of one request.
 
-ghost use Rattle.std.specs.Prelude.{◌≡◌, ◌<◌, ◌≤◌, ◌⊎◌, codes, length};
+ghost use Rattle.std.specs.Prelude.{◌≡◌, ◌<◌, ◌≤◌, ◌⊎◌, Ok, Err, codes, length, IfOk, IfErr};
 ghost use Rattle.framing.specs.AnswerBytes.{bytes_of};
 ghost use Rattle.framing.specs.Frames.{IsShort};
 ghost use Rattle.node_stream.specs.Answering.{AnswersAsked, AnswersRequest, ReadsAsked, by_frames};
 ghost use Rattle.node_stream.specs.Asking.{IsInside};
 ghost use Rattle.node_stream.specs.Room.{HasRoom};
-ghost use Rattle.node_stream.specs.Telling.{TakesMemory};
-ghost use Rattle.node_stream.specs.FrameReading.{request_in};
-ghost use Rattle.node_stream.specs.FrameTelling.{fault_frame, frame_of};
+ghost use Rattle.node_stream.specs.FrameTelling.{fault_frame};
+ghost use Rattle.node_stream.specs.GuardReading.{guard_request};
+ghost use Rattle.node_stream.specs.GuardTelling.{guard_frame, NeedsMemory, sure_for, sure_of};
+ghost use Rattle.node_stream.specs.Refusing.{TellsFault};
+ghost use Rattle.node_stream.specs.declared.job.Form.TheVariants as stream;
 
-use crate::asked::{Asked, Window};
+use crate::asked::{GuardAsked, Window};
 use crate::faults::{LineError, LineFault};
-use crate::frame_requests::read_frame;
-use crate::frame_telling::{fault as fault_answer, told};
-use crate::frozen::room;
+use crate::frame_telling::fault as fault_answer;
+use crate::guard_frames::answer;
+use crate::guard_requests::read_request;
+use crate::job::Form;
+use crate::room::room;
 use framing::frames::FrameAnswer;
-use replica::{Replica, Reply};
+use guard::{Guard, Reply};
 use std::alloc::Global;
+
+/// A request, and the room that was taken for its answer.
+#[derive(Drop)]
+pub struct Ready {
+    pub asked: GuardAsked,
+    pub room: String,
+}
 
 /// The answer where memory ran out.
 pub fn memory() -> FrameAnswer
@@ -31,27 +42,28 @@ pub fn memory() -> FrameAnswer
 fn answer_reply(alloc: Global, window: Window, reply: &Reply, room: String) -> FrameAnswer
     requires inside { IsInside window }
     requires room { HasRoom room }
-    ensures bytes { (bytes_of result ≡ frame_of window reply.now) ⊎ ((bytes_of result ≡ codes "memory") × TakesMemory reply.now) }
-    ensures long { 17 < length (bytes_of result) → TakesMemory reply.now }
+    ensures bytes { (bytes_of result ≡ guard_frame window reply.now) ⊎ ((bytes_of result ≡ codes "memory") × NeedsMemory reply.now) }
+    ensures long { sure_of reply.now < length (bytes_of result) → NeedsMemory reply.now }
     ensures short { IsShort (bytes_of result) }
 {
-    match told(alloc, window, reply, room) {
+    match answer(alloc, window, reply, room) {
         Ok(answer) => answer,
         Err(_) => memory(),
     }
 }
 
-/// Carries out a request, and answers with the reply.
-fn answer_request(alloc: Global, replica: &mut Replica, asked: Asked, room: String) -> FrameAnswer
-    requires inside { IsInside asked.window }
-    requires room { HasRoom room }
-    ensures answers { AnswersAsked by_frames (Ok asked) replica.old (bytes_of result) replica.new }
-    ensures long { 17 < length (bytes_of result) → ReadsAsked by_frames (Ok asked) replica.old (bytes_of result) replica.new }
+/// Carries out a request, and answers with the reply. An answer of more bytes than are sure to have room only reads.
+pub fn answer_request(alloc: Global, guard: &mut Guard, ready: Ready) -> FrameAnswer
+    requires inside { IsInside ready.asked.window }
+    requires room { HasRoom ready.room }
+    ensures answers { AnswersAsked by_frames (Ok ready.asked) guard.old (bytes_of result) guard.new }
+    ensures long { sure_for ready.asked.request < length (bytes_of result)
+        → ReadsAsked by_frames (Ok ready.asked) guard.old (bytes_of result) guard.new }
     ensures short { IsShort (bytes_of result) }
 {
-    let window = asked.window;
-    let reply = replica.step(asked.request);
-    answer_reply(alloc, window, &reply, room)
+    let window = ready.asked.window;
+    let reply = guard.step(ready.asked.request);
+    answer_reply(alloc, window, &reply, ready.room)
 }
 
 /// Answers with why a frame encodes no request.
@@ -65,23 +77,36 @@ fn answer_fault(alloc: Global, fault: LineFault) -> FrameAnswer
     }
 }
 
-/// Answers the bytes of the frame of one request: with the reply where they encode one, else with why they encode none, and then nothing
-/// has changed.
-///
-/// The bytes `memory` say that memory ran out. Then, where the reply is a refusal, and where the answer has more than 17 bytes, a read may
-/// have changed which images the cache keeps, and any other request has changed nothing.
-pub fn answer_one(alloc: Global, replica: &mut Replica, frame: &[u8]) -> FrameAnswer
-    ensures answers { AnswersRequest by_frames replica.old frame.now (bytes_of result) replica.new }
-    ensures long { 17 < length (bytes_of result) → ReadsAsked by_frames (request_in frame.now) replica.old (bytes_of result) replica.new }
-    ensures short { IsShort (bytes_of result) }
+/// What a frame asks, with room for the answer; or the answer where it encodes no request, or where memory ran out.
+pub fn read_ready(alloc: Global, frame: &[u8]) -> Result<Ready, FrameAnswer>
+    ensures asks { IfOk result (λ r. guard_request stream.Frames frame.now ≡ Ok r.asked) }
+    ensures inside { IfOk result (λ r. IsInside r.asked.window) }
+    ensures room { IfOk result (λ r. HasRoom r.room) }
+    ensures fault { IfErr result (λ a. TellsFault frame.now (bytes_of a)) }
+    ensures few { IfErr result (λ a. length (bytes_of a) ≤ 17) }
 {
     // The room is taken first, so that a request for whose answer memory lacks is not carried out.
     let Ok(room) = room(alloc) else {
-        return memory();
+        return Err(memory());
     };
-    match read_frame(alloc, frame) {
-        Ok(asked) => answer_request(alloc, replica, asked, room),
-        Err(LineError::Fault(fault)) => answer_fault(alloc, fault),
-        Err(LineError::Memory) => memory(),
+    match read_request(alloc, Form::Frames, frame) {
+        Ok(asked) => Ok(Ready { asked, room }),
+        Err(LineError::Fault(fault)) => Err(answer_fault(alloc, fault)),
+        Err(LineError::Memory) => Err(memory()),
+    }
+}
+
+/// Answers the bytes of the frame of one request: with the reply where they encode one, else with why they encode none, and then nothing
+/// has changed.
+///
+/// The bytes `memory` say that memory ran out. Then, and where the reply is a refusal, a read may have changed which images the cache keeps,
+/// and any other request has changed nothing.
+pub fn answer_one(alloc: Global, guard: &mut Guard, frame: &[u8]) -> FrameAnswer
+    ensures answers { AnswersRequest by_frames guard.old frame.now (bytes_of result) guard.new }
+    ensures short { IsShort (bytes_of result) }
+{
+    match read_ready(alloc, frame) {
+        Ok(ready) => answer_request(alloc, guard, ready),
+        Err(answer) => answer,
     }
 }

@@ -11,10 +11,10 @@ ghost use Rattle.framing.specs.AnswerBytes.{bytes_of};
 ghost use Rattle.framing.specs.Frames.{IsShort};
 ghost use Rattle.node_stream.specs.Asking.{IsInside};
 ghost use Rattle.node_stream.specs.Room.{HasRoom};
-ghost use Rattle.node_stream.specs.Telling.{TakesMemory, one_number, window_of};
+ghost use Rattle.node_stream.specs.Telling.{TakesMemory, TakesRoom, one_number, window_of};
 ghost use Rattle.node_stream.specs.FrameTelling.{unended, fitted, bytes_frame, value_frame, frame_of, fault_frame};
 
-use crate::answers::told as told_line;
+use crate::answers::line;
 use crate::asked::Window;
 use crate::faults::LineFault;
 use crate::frozen::frozen;
@@ -30,10 +30,10 @@ use replica::Reply;
 use std::alloc::{AllocError, Global};
 
 /// The most bytes of a frame.
-const LONGEST: usize = 4294967295;
+pub const LONGEST: usize = 4294967295;
 
 /// The bytes of an answer line without its LF. Its only error is that they have no room in a frame.
-fn unended(answer: Answer) -> Result<FrameAnswer, AllocError>
+pub fn unended(answer: Answer) -> Result<FrameAnswer, AllocError>
     ensures bytes { IfOk result (λ a. bytes_of a ≡ unended (text_of answer)) }
     ensures short { IfOk result (λ a. IsShort (bytes_of a)) }
     ensures long { OnErr result (4294967296 < length (text_of answer)) }
@@ -167,6 +167,24 @@ fn frozen_frame(room: String, pieces: u32) -> Result<FrameAnswer, AllocError>
     unended(frozen(room, pieces))
 }
 
+/// The answer frame of a reply, none of it in room that was taken before. It fails only if memory runs out.
+pub fn frame(alloc: Global, window: Window, reply: &Reply) -> Result<FrameAnswer, AllocError>
+    requires { IsInside window }
+    ensures frame { IfOk result (λ a. bytes_of a ≡ frame_of window reply.now) }
+    ensures short { IfOk result (λ a. IsShort (bytes_of a)) }
+    ensures long { IfOk result (λ a. 17 < length (bytes_of a) → TakesRoom reply.now) }
+    ensures memory { OnErr result (TakesRoom reply.now) }
+{
+    match reply {
+        Reply::Page { image } => page(alloc, window, image),
+        Reply::Summary { summary: told } => summary(alloc, told),
+        Reply::Delta { delta: told } => delta(alloc, told),
+        Reply::Piece { piece: told } => piece(alloc, told),
+        Reply::Next { redo } => record(alloc, redo),
+        _ => unended(line(alloc, window, reply)?),
+    }
+}
+
 /// The answer frame of a reply; `room` is for that of a snapshot which is kept.
 ///
 /// It fails only if memory runs out, and not for a reply to a request that has changed something.
@@ -184,13 +202,8 @@ pub fn told(
     ensures memory { OnErr result (TakesMemory reply.now) }
 {
     match reply {
-        Reply::Page { image } => page(alloc, window, image),
-        Reply::Summary { summary: told } => summary(alloc, told),
-        Reply::Delta { delta: told } => delta(alloc, told),
-        Reply::Piece { piece: told } => piece(alloc, told),
-        Reply::Next { redo } => record(alloc, redo),
         Reply::Frozen { pieces } => frozen_frame(room, *pieces),
-        _ => unended(told_line(alloc, window, reply, room)?),
+        _ => frame(alloc, window, reply),
     }
 }
 

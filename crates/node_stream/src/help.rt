@@ -5,7 +5,7 @@ pub const VERSION: &str = "fleet-node 1.0
 
 pub const HELP: &str = "One storage segment that answers request lines, or request frames
 
-Usage: fleet-node [--frames | --help | --version]
+Usage: fleet-node [--frames] [--birth N] | --help | --version
 
 Input, a line each, ended by LF; words stand between single spaces:
   open R                an empty segment of R readers, 1 to 15, stands in place of the segment; at first R is 1
@@ -26,6 +26,13 @@ Input, a line each, ended by LF; words stand between single spaces:
   add HEX               a piece of it
   finish                the segment of its pieces stands in place of the segment
   unite                 the segment of its pieces is joined into the segment
+
+Several engines, of which the node answers one; it is the node of birth N, 0 without --birth:
+  status                generation, birth, member or not, front, and the accepted truncation
+  fence G               a member answers the engine of generation G from now on
+  as G B REQUEST        REQUEST, for the engine of generation G and in birth B alone
+  propose G B E LO HI   a truncation is accepted from that engine
+  admit G B E C [..]    a fresh node of birth B becomes a member; behind C stand G, E, LO and HI of a truncation that it has accepted
 
 Each line is answered by one line, before the next one is looked at. A line that asks for nothing is answered bad line, bad hex or wire N,
 one of more than 67108864 bytes long line; memory says that there was no memory, and then nothing has changed.

@@ -1,4 +1,4 @@
-//! One replica on a stream of lines or of frames: each request is answered by one line or frame, before the next one is read.
+//! One guarded replica on a stream of lines or of frames: each request is answered by one line or frame, before the next one is read.
 #![tactic(auto)]
 
 mod answers;
@@ -9,6 +9,11 @@ mod frame_node;
 mod frame_requests;
 mod frame_telling;
 mod frozen;
+mod gathered;
+mod guard_answers;
+mod guard_frames;
+mod guard_numbers;
+mod guard_requests;
 mod help;
 mod job;
 pub mod laws;
@@ -17,15 +22,18 @@ mod node;
 mod numbered;
 mod program;
 mod requests;
+mod room;
 mod stream;
 mod telling;
 mod values;
+mod wide;
 mod wording;
 
-pub use asked::{Asked, Window};
+pub use asked::{Asked, GuardAsked, Window};
 pub use ending::status_of;
 pub use faults::{LineError, LineFault};
 pub use frame_requests::read_frame;
+pub use guard_requests::read_request;
 pub use job::{Form, Job, job_of};
 pub use many::answer_frame;
 pub use node::{Node, answer_line};

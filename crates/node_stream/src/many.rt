@@ -1,16 +1,23 @@
-//! A replica that answers the frames that one frame holds.
+//! A guarded replica that answers the frames that one frame holds.
 
-ghost use Rattle.std.specs.Prelude.{◌≡◌, ◌++◌, ◌+◌, ◌≤◌, ◌^◌, ℕ, List, [], length, option_map};
+ghost use Rattle.std.specs.Prelude.{◌≡◌, ◌++◌, ◌+◌, ◌*◌, ◌≤◌, ◌^◌, ℕ, List, [], Ok, length, option_map};
 ghost use Rattle.framing.specs.AnswerBytes.{bytes_of};
 ghost use Rattle.framing.specs.Frames.{IsShort, framed};
-ghost use Rattle.framing.specs.Inside.{AreInside, HasRoomFor, bytes_put};
+ghost use Rattle.framing.specs.Inside.{AreInside};
 ghost use Rattle.node_stream.specs.Answering.{AnswersAll, AnswersMany, AnswersOneOf, IsFrameAnswer, by_frames};
+ghost use Rattle.node_stream.specs.Asking.{IsInside};
 ghost use Rattle.node_stream.specs.FrameReading.{many_in};
+ghost use Rattle.node_stream.specs.Gathering.{HasPlaceFor, gathered_bytes};
+ghost use Rattle.node_stream.specs.GuardReading.{guard_request};
+ghost use Rattle.node_stream.specs.GuardTelling.{sure_for};
+ghost use Rattle.node_stream.specs.Room.{HasRoom};
+ghost use Rattle.node_stream.specs.declared.job.Form.TheVariants as stream;
 
-use crate::frame_node::{answer_one, memory};
+use crate::frame_node::{Ready, answer_one, answer_request, memory, read_ready};
 use crate::frame_requests::halves;
-use framing::frames::{AnswerFrames, FrameAnswer, count_frames, split_frame};
-use replica::Replica;
+use crate::gathered::Gathered;
+use framing::frames::{FrameAnswer, count_frames, split_frame};
+use guard::{Guard, Request};
 use std::alloc::Global;
 use text::is_word;
 
@@ -30,42 +37,70 @@ fn frames_in(frame: &[u8]) -> Option<&[u8]>
     }
 }
 
-/// Answers the frame of one request, and appends the answer to the others; where it exceeds the limit, `long`.
-fn put_answer(
-    alloc: Global,
-    replica: &mut Replica,
-    frame: &[u8],
-    answers: &mut AnswerFrames,
-    others: usize,
-)
-    requires { HasRoomFor answers.old (others + 1) }
-    ensures answers { (told : List ℕ) × AnswersOneOf by_frames (length (bytes_put answers.old)) others replica.old frame.now told replica.new
-        × (bytes_put answers.new ≡ bytes_put answers.old ++ framed told) × IsShort told }
-    ensures room { HasRoomFor answers.new others }
+/// The most bytes of the answer to a request that changes something.
+fn sure_for(request: &Request) -> usize
+    ensures { result ≡ sure_for request.now }
 {
-    let answer = answer_one(alloc, replica, frame);
-    answers.put(answer.as_bytes(), others);
+    match request {
+        Request::Plain(_) => 17,
+        _ => 220,
+    }
+}
+
+/// Carries out a request, and appends the answer to the others. It is not carried out where the longest answer that reports a change
+/// exceeds the limit, which is answered `long`, or lacks memory.
+fn put_reply(alloc: Global, guard: &mut Guard, ready: Ready, answers: &mut Gathered, others: usize)
+    requires place { HasPlaceFor answers.old (others + 1) }
+    requires inside { IsInside ready.asked.window }
+    requires room { HasRoom ready.room }
+    ensures answers { (frame : List ℕ) → guard_request stream.Frames frame ≡ Ok ready.asked → (told : List ℕ)
+        × AnswersOneOf by_frames (length (gathered_bytes answers.old)) others guard.old frame told guard.new
+        × (gathered_bytes answers.new ≡ gathered_bytes answers.old ++ framed told) × IsShort told }
+    ensures room { HasPlaceFor answers.new others }
+{
+    let sure = sure_for(&ready.asked.request);
+    if !answers.fits(sure, others) {
+        answers.put_short("long".as_bytes(), others);
+    } else if !answers.make_room(sure, others) {
+        answers.put_short("memory".as_bytes(), others);
+    } else {
+        let answer = answer_request(alloc, guard, ready);
+        answers.put(answer.as_bytes(), others);
+    }
+}
+
+/// Answers the frame of one request, and appends the answer to the others; where it exceeds the limit, `long`.
+fn put_answer(alloc: Global, guard: &mut Guard, frame: &[u8], answers: &mut Gathered, others: usize)
+    requires { HasPlaceFor answers.old (others + 1) }
+    ensures answers { (told : List ℕ) × AnswersOneOf by_frames (length (gathered_bytes answers.old)) others guard.old frame.now told guard.new
+        × (gathered_bytes answers.new ≡ gathered_bytes answers.old ++ framed told) × IsShort told }
+    ensures room { HasPlaceFor answers.new others }
+{
+    match read_ready(alloc, frame) {
+        Ok(ready) => put_reply(alloc, guard, ready, answers, others),
+        Err(answer) => answers.put_short(answer.as_bytes(), others),
+    }
 }
 
 /// Answers so many frames, one after another.
 fn answer_each(
     alloc: Global,
-    replica: &mut Replica,
+    guard: &mut Guard,
     frames: &[u8],
     count: usize,
-    mut answers: AnswerFrames,
-) -> AnswerFrames
+    mut answers: Gathered,
+) -> Gathered
     requires frames { (inside : List (List ℕ)) × AreInside frames.now inside × (length inside ≡ count) }
-    requires none { bytes_put answers ≡ [] }
-    requires room { HasRoomFor answers count }
-    ensures answers { AnswersAll by_frames replica.old frames.now (bytes_put result) replica.new }
-    ensures short { length (bytes_put result) ≤ 2 ^ 26 }
+    requires none { gathered_bytes answers ≡ [] }
+    requires room { HasPlaceFor answers count }
+    ensures answers { AnswersAll by_frames guard.old frames.now (gathered_bytes result) guard.new }
+    ensures short { length (gathered_bytes result) ≤ 2 ^ 26 }
 {
     let mut rest = frames;
     let mut left = count;
     while let Some((frame, behind)) = split_frame(rest) {
         left -= 1;
-        put_answer(alloc, replica, frame, &mut answers, left);
+        put_answer(alloc, guard, frame, &mut answers, left);
         rest = behind;
     }
     answers
@@ -73,8 +108,8 @@ fn answer_each(
 
 /// Answers the frames in the bytes, by frames; where they are no frames or too many, or there is no room for as many short answers, by one
 /// that says so, and then none is carried out.
-fn answer_many(alloc: Global, replica: &mut Replica, bytes: &[u8]) -> FrameAnswer
-    ensures answers { AnswersMany by_frames replica.old bytes.now (bytes_of result) replica.new }
+fn answer_many(alloc: Global, guard: &mut Guard, bytes: &[u8]) -> FrameAnswer
+    ensures answers { AnswersMany by_frames guard.old bytes.now (bytes_of result) guard.new }
     ensures short { length (bytes_of result) ≤ 2 ^ 26 }
 {
     let Some(count) = count_frames(bytes) else {
@@ -83,9 +118,9 @@ fn answer_many(alloc: Global, replica: &mut Replica, bytes: &[u8]) -> FrameAnswe
     if count > MOST {
         return FrameAnswer::Fixed("long".as_bytes());
     }
-    match AnswerFrames::new(alloc, count) {
+    match Gathered::new(alloc, count) {
         Ok(answers) => {
-            let answers = answer_each(alloc, replica, bytes, count, answers);
+            let answers = answer_each(alloc, guard, bytes, count, answers);
             FrameAnswer::Made(answers.into_bytes())
         }
         Err(_) => memory(),
@@ -98,12 +133,12 @@ fn answer_many(alloc: Global, replica: &mut Replica, bytes: &[u8]) -> FrameAnswe
 ///
 /// The bytes `memory` say that memory ran out, and `long` that an answer would exceed the limit of that to many. Then, and where the reply
 /// is a refusal, a read may have changed which images the cache keeps, and any other request has changed nothing.
-pub fn answer_frame(alloc: Global, replica: &mut Replica, frame: &[u8]) -> FrameAnswer
-    ensures answers { IsFrameAnswer replica.old frame.now (bytes_of result) replica.new }
+pub fn answer_frame(alloc: Global, guard: &mut Guard, frame: &[u8]) -> FrameAnswer
+    ensures answers { IsFrameAnswer guard.old frame.now (bytes_of result) guard.new }
     ensures short { IsShort (bytes_of result) }
 {
     match frames_in(frame) {
-        Some(frames) => answer_many(alloc, replica, frames),
-        None => answer_one(alloc, replica, frame),
+        Some(frames) => answer_many(alloc, guard, frames),
+        None => answer_one(alloc, guard, frame),
     }
 }

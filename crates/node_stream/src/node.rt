@@ -1,24 +1,28 @@
-//! A replica that answers lines, and frames.
+//! A guarded replica that answers lines, and frames.
 
 ghost use Rattle.std.specs.Prelude.{◌≡◌, ◌⊎◌, IfOk, codes};
 ghost use Rattle.replica.specs.Parts.{empty_replica};
+ghost use Rattle.guard.specs.Data.{fresh_guard};
 ghost use Rattle.framing.specs.AnswerText.{text_of};
 ghost use Rattle.node_stream.specs.Answering.{AnswersAsked, IsAnswer, by_lines};
 ghost use Rattle.node_stream.specs.Asking.{IsInside};
 ghost use Rattle.node_stream.specs.Room.{HasRoom};
-ghost use Rattle.node_stream.specs.Telling.{fault_line, line_of, TakesMemory};
+ghost use Rattle.node_stream.specs.Telling.{fault_line};
+ghost use Rattle.node_stream.specs.GuardTelling.{guard_line, NeedsMemory};
 
-use crate::answers::told;
-use crate::asked::{Asked, Window};
+use crate::asked::{GuardAsked, Window};
 use crate::faults::{LineError, LineFault};
-use crate::frozen::room;
+use crate::guard_answers::answer;
+use crate::guard_requests::read_request;
+use crate::job::Form;
 use crate::many::answer_frame;
-use crate::requests::read_line;
+use crate::room::room;
 use crate::wording::fault as fault_answer;
 use framing::frames::{FrameAnswer, FrameMachine};
 use framing::lines::{Answer, LineMachine};
+use guard::{Guard, Reply};
 use redo_core::Roster;
-use replica::{Replica, Reply};
+use replica::Replica;
 use std::alloc::{AllocError, Global};
 use std::marker::Model;
 
@@ -29,22 +33,22 @@ const MEMORY: &str = "memory\n";
 fn answer_reply(alloc: Global, window: Window, reply: &Reply, room: String) -> Answer
     requires inside { IsInside window }
     requires room { HasRoom room }
-    ensures { (text_of result ≡ line_of window reply.now) ⊎ ((text_of result ≡ codes "memory\n") × TakesMemory reply.now) }
+    ensures { (text_of result ≡ guard_line window reply.now) ⊎ ((text_of result ≡ codes "memory\n") × NeedsMemory reply.now) }
 {
-    match told(alloc, window, reply, room) {
+    match answer(alloc, window, reply, room) {
         Ok(answer) => answer,
         Err(_) => Answer::Fixed(MEMORY),
     }
 }
 
 /// Carries out a request, and answers with the reply.
-fn answer_request(alloc: Global, replica: &mut Replica, asked: Asked, room: String) -> Answer
+fn answer_request(alloc: Global, guard: &mut Guard, asked: GuardAsked, room: String) -> Answer
     requires inside { IsInside asked.window }
     requires room { HasRoom room }
-    ensures { AnswersAsked by_lines (Ok asked) replica.old (text_of result) replica.new }
+    ensures { AnswersAsked by_lines (Ok asked) guard.old (text_of result) guard.new }
 {
     let window = asked.window;
-    let reply = replica.step(asked.request);
+    let reply = guard.step(asked.request);
     answer_reply(alloc, window, &reply, room)
 }
 
@@ -63,44 +67,45 @@ fn answer_fault(alloc: Global, fault: LineFault) -> Answer
 ///
 /// The line `memory` says that memory ran out. Then, and where the reply is a refusal, a read may have changed which images the cache
 /// keeps, and any other request has changed nothing.
-pub fn answer_line(alloc: Global, replica: &mut Replica, line: &[u8]) -> Answer
-    ensures { IsAnswer replica.old line.now (text_of result) replica.new }
+pub fn answer_line(alloc: Global, guard: &mut Guard, line: &[u8]) -> Answer
+    ensures { IsAnswer guard.old line.now (text_of result) guard.new }
 {
     // The room is taken first, so that a request for whose answer memory lacks is not carried out.
     let Ok(room) = room(alloc) else {
         return Answer::Fixed(MEMORY);
     };
-    match read_line(alloc, line) {
-        Ok(asked) => answer_request(alloc, replica, asked, room),
+    match read_request(alloc, Form::Lines, line) {
+        Ok(asked) => answer_request(alloc, guard, asked, room),
         Err(LineError::Fault(fault)) => answer_fault(alloc, fault),
         Err(LineError::Memory) => Answer::Fixed(MEMORY),
     }
 }
 
-/// A replica that answers lines and frames, with answers in memory of this allocator.
+/// A guarded replica that answers lines and frames, with answers in memory of this allocator.
 #[derive(Drop)]
 pub struct Node {
     alloc: Global,
-    replica: Replica,
+    guard: Guard,
 }
 
 impl Model for Node {
-    ghost use Rattle.replica.specs.Parts.{ReplicaData};
+    ghost use Rattle.guard.specs.Data.{GuardData};
 
-    ghost Value = { ReplicaData };
+    ghost Value = { GuardData };
 
-    ghost view = { λ n. n.replica };
+    ghost view = { λ n. n.guard };
 }
 
 impl Node {
-    /// A replica of a roster of readers that no fact has reached. Its cache keeps at most so many images of pages, with 0 none.
+    /// The guard of a fresh node, round a replica of a roster of readers that no fact has reached. Its cache keeps at most so many images
+    /// of pages, with 0 none. No earlier life of the node may have had this birth, where the node is to serve several engines.
     ///
     /// It fails only if memory runs out.
-    pub fn new(alloc: Global, roster: Roster, pages: usize) -> Result<Self, AllocError>
-        ensures { IfOk result (λ n. n ≡ empty_replica roster pages) }
+    pub fn new(alloc: Global, roster: Roster, pages: usize, birth: u64) -> Result<Self, AllocError>
+        ensures { IfOk result (λ n. n ≡ fresh_guard (empty_replica roster pages) birth) }
     {
-        let replica = Replica::new(alloc, roster, pages)?;
-        Ok(Node { alloc, replica })
+        let guard = Guard::new(Replica::new(alloc, roster, pages)?, birth);
+        Ok(Node { alloc, guard })
     }
 
     /// What its answers are made with.
@@ -115,7 +120,7 @@ impl LineMachine for Node {
     ghost answers = { IsAnswer };
 
     fn answer(&mut self, line: &[u8]) -> Answer {
-        answer_line(self.alloc, &mut self.replica, line)
+        answer_line(self.alloc, &mut self.guard, line)
     }
 }
 
@@ -125,6 +130,6 @@ impl FrameMachine for Node {
     ghost answers = { IsFrameAnswer };
 
     fn answer(&mut self, frame: &[u8]) -> FrameAnswer {
-        answer_frame(self.alloc, &mut self.replica, frame)
+        answer_frame(self.alloc, &mut self.guard, frame)
     }
 }

@@ -12,7 +12,7 @@ use replica::Request;
 use text::{is_word, read_numbers};
 
 /// An epoch or a page.
-const SHORT: u64 = 65535;
+pub const SHORT: u64 = 65535;
 
 /// The index of a piece, a number of pieces, or a number of bytes in a message.
 pub const LONG: u64 = 4294967295;

@@ -59,17 +59,21 @@ fn ended_by(rt: &impl Eprint, ended: Result<(), RunFault>) -> ExitCode {
     ExitCode::from(status_of(ended))
 }
 
-/// A node of one reader, without facts, in memory of its own. It fails only if memory runs out.
-fn open_node(alloc: Global) -> Result<Box<Node>, AllocError> {
+/// A fresh node of one reader, without facts, in memory of its own. It fails only if memory runs out.
+fn open_node(alloc: Global, birth: u64) -> Result<Box<Node>, AllocError> {
     match Roster::new(1) {
-        Ok(roster) => Ok(Box::new(alloc, Node::new(alloc, roster, PAGES)?)?),
+        Ok(roster) => Ok(Box::new(alloc, Node::new(alloc, roster, PAGES, birth)?)?),
         Err(_) => Err(AllocError),
     }
 }
 
 /// Answers standard input on standard output.
-fn answer_input(rt: &(impl Input + Print + Eprint + AllocGlobal), form: Form) -> ExitCode {
-    match open_node(rt.alloc()) {
+fn answer_input(
+    rt: &(impl Input + Print + Eprint + AllocGlobal),
+    form: Form,
+    birth: u64,
+) -> ExitCode {
+    match open_node(rt.alloc(), birth) {
         Ok(mut node) => ended_by(rt, serve_input(rt, form, &mut node)),
         Err(_) => failed(rt, "out of memory", MEMORY),
     }
@@ -102,7 +106,7 @@ pub fn run_program<R: Env + Input + Print + Eprint + AllocGlobal>(rt: &R) -> Exi
         return failed(rt, "out of memory", MEMORY);
     };
     match job_of(words.as_slice()) {
-        Some(Job::Serve(form)) => answer_input(rt, form),
+        Some(Job::Serve(form, birth)) => answer_input(rt, form, birth),
         Some(Job::Help) => say(rt, HELP),
         Some(Job::Version) => say(rt, VERSION),
         None => failed(rt, "bad command line", BAD),

@@ -1,5 +1,5 @@
 use Rattle.std.proofs.Common.{inl, inr, ⊎_elim}
-use Rattle.node_stream.proofs.Unchanged.{told_unchanged}
+use Rattle.node_stream.proofs.Unchanged.{reply_unchanged}
 use Rattle.node_stream.proofs.node.answer_request.Goals as goal
 
 pub returns : goal.returns
@@ -15,7 +15,7 @@ returns c = ⊎_elim
       did = inr (
         c.step-reply.result,
         c.step-reply.ensures.replies,
-        told_unchanged c.args.replica.now c.args.asked.request c.step-reply.result c.step-reply.new.self c.step-reply.ensures.replies
+        reply_unchanged c.args.guard.now c.args.asked.request c.step-reply.result c.step-reply.new.self c.step-reply.ensures.replies
             c.step-reply.ensures.refused lacks.1,
       );
     }))

@@ -1,6 +1,6 @@
 use Rattle.std.proofs.Common.{arith}
 use Rattle.std.proofs.lemmas.Grind.{common_steps}
-use Rattle.node_stream.proofs.answers.told.Goals as goal
+use Rattle.node_stream.proofs.answers.line.Goals as goal
 
 pub returns-in-Front-clause-memory : goal.returns-in-Front-clause-memory
 returns-in-Front-clause-memory c = grind (arith, common_steps)

@@ -1,6 +1,6 @@
 use Rattle.std.proofs.Common.{arith}
 use Rattle.std.proofs.lemmas.Grind.{common_steps}
-use Rattle.node_stream.proofs.frame_telling.told.Goals as goal
+use Rattle.node_stream.proofs.frame_telling.frame.Goals as goal
 
 pub returns-in-Page-clause-frame : goal.returns-in-Page-clause-frame
 returns-in-Page-clause-frame c = grind (arith, common_steps)
@@ -16,9 +16,6 @@ returns-in-Delta-clause-long c = grind (arith, common_steps)
 
 pub returns-in-Page-clause-memory : goal.returns-in-Page-clause-memory
 returns-in-Page-clause-memory c = grind (arith, common_steps)
-
-pub returns-in-Frozen-clause-frame : goal.returns-in-Frozen-clause-frame
-returns-in-Frozen-clause-frame c = grind (arith, common_steps)
 
 pub returns-in-Summary-clause-long : goal.returns-in-Summary-clause-long
 returns-in-Summary-clause-long c = grind (arith, common_steps)
@@ -47,8 +44,8 @@ returns-in-Next-clause-frame c = grind (arith, common_steps)
 pub returns-in-Summary-clause-memory : goal.returns-in-Summary-clause-memory
 returns-in-Summary-clause-memory c = grind (arith, common_steps)
 
-pub returns-in_ok-told-in_default : goal.returns-in_ok-told-in_default
-returns-in_ok-told-in_default c = grind (arith, common_steps)
+pub returns-in_ok-line-in_default : goal.returns-in_ok-line-in_default
+returns-in_ok-line-in_default c = grind (arith, common_steps)
 
 pub returns-in-Page-clause-long : goal.returns-in-Page-clause-long
 returns-in-Page-clause-long c = grind (arith, common_steps)
