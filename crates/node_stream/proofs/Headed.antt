@@ -3,7 +3,7 @@ use Rattle.std.proofs.Common.{◌≡◌, ℕ, ◌-◌, ◌+◌, ◌<◌, ◌≤�
 use Rattle.std.proofs.lemmas.Grind.{common_steps}
 use Rattle.std.proofs.lemmas.Fmt.{length-decimal-le}
 use Rattle.std.proofs.lemmas.List.{length-take}
-use Rattle.std.specs.Prelude.{codes, IfOk, OnErr}
+use Rattle.std.specs.Prelude.{codes, IfOk, OnErr, IsOk}
 use Rattle.std.specs.Fmt.{decimal}
 use Rattle.framing.specs.AnswerBytes.{bytes_of}
 use Rattle.framing.specs.declared.frames.answer.FrameAnswer.{FrameAnswer}
@@ -22,8 +22,14 @@ few_fitted : (long bytes : List ℕ) (n : ℕ) → length long ≤ n → n < len
 unfolding fitted
 few_fitted long bytes n short few = grind (arith, common_steps)
 
+take_one : (x n : ℕ) (zs : List ℕ) → take (n + 1) (x ∷ zs) ≡ x ∷ take n zs
+take_one x n zs = grind (arith, common_steps)
+
 unended_after : (xs ys : List ℕ) → 0 < length ys → unended (xs ++ ys) ≡ xs ++ unended ys
-unended_after xs ys some = grind (arith, common_steps)
+unended_after [] ys some = refl
+unended_after (x ∷ xs) ys some =
+    let one : length (x ∷ (xs ++ ys)) - 1 ≡ (length (xs ++ ys) - 1) + 1 = omega (arith, length-append xs ys, some) in
+    ap (λ (n : ℕ). take n (x ∷ (xs ++ ys))) one ∙ take_one x (length (xs ++ ys) - 1) (xs ++ ys) ∙ ap (λ (l : List ℕ). x ∷ l) (unended_after xs ys some)
 
 -- ---- a number of pieces
 number_len : (pieces : ℕ) → pieces < 2 ^ 32 → length (one_number (codes "frozen ") pieces) ≤ 18
@@ -47,18 +53,17 @@ frozen_frame (Ok a) head text pieces short few is h =
     ∙ sym (fits_whole (codes "too long") (head ++ unended (one_number (codes "frozen ") pieces)) (omega (arith, frozen_len head pieces short few)))
 frozen_frame (Err e) head text pieces short few is h = tt
 
-pub frozen_short : {E : Type 0} (r : Result FrameAnswer E) (head text : List ℕ) (pieces : ℕ) (told : Reply) → pieces < 2 ^ 32 → length head ≤ 45
-    → text ≡ head ++ one_number (codes "frozen ") pieces → IfOk r (λ a. bytes_of a ≡ unended text)
-    → IfOk r (λ a. 220 < length (bytes_of a) → TakesMemory told)
-frozen_short (Ok a) head text pieces told short few is h = λ lt.
+pub frozen_few : {E : Type 0} (r : Result FrameAnswer E) (head text : List ℕ) (pieces : ℕ) → pieces < 2 ^ 32 → length head ≤ 45
+    → text ≡ head ++ one_number (codes "frozen ") pieces → IfOk r (λ a. bytes_of a ≡ unended text) → IfOk r (λ a. length (bytes_of a) ≤ 63)
+frozen_few (Ok a) head text pieces short few is h =
     let same = h ∙ ap unended is ∙ unended_after head (one_number (codes "frozen ") pieces) (number_some pieces) in
-    absurd (omega (arith, lt, ap length same, frozen_len head pieces short few))
-frozen_short (Err e) head text pieces told short few is h = tt
+    omega (arith, ap length same, frozen_len head pieces short few)
+frozen_few (Err e) head text pieces short few is h = tt
 
-pub frozen_fits : {E : Type 0} (r : Result FrameAnswer E) (head text : List ℕ) (pieces : ℕ) (told : Reply) → pieces < 2 ^ 32 → length head ≤ 45
-    → text ≡ head ++ one_number (codes "frozen ") pieces → OnErr r (4294967296 < length text) → OnErr r (TakesMemory told)
-frozen_fits (Ok a) head text pieces told short few is h = tt
-frozen_fits (Err e) head text pieces told short few is h =
+pub frozen_fits : {E : Type 0} (r : Result FrameAnswer E) (head text : List ℕ) (pieces : ℕ) → pieces < 2 ^ 32 → length head ≤ 45
+    → text ≡ head ++ one_number (codes "frozen ") pieces → OnErr r (4294967296 < length text) → IsOk r
+frozen_fits (Ok a) head text pieces short few is h = refl
+frozen_fits (Err e) head text pieces short few is h =
     absurd (omega (arith, h, ap length is, few, number_len pieces short, length-append head (one_number (codes "frozen ") pieces)))
 
 -- ---- other replies

@@ -1,12 +1,12 @@
 //! From a guard's reply to an answer frame.
 
-ghost use Rattle.std.specs.Prelude.{◌≡◌, ◌++◌, ◌+◌, ◌<◌, ◌≤◌, IfOk, OnErr, codes, length, string_bytes, string_len, string_capacity};
+ghost use Rattle.std.specs.Prelude.{◌≡◌, ◌++◌, ◌+◌, ◌<◌, ◌≤◌, IfOk, OnErr, IsOk, codes, length, string_bytes, string_len, string_capacity};
 ghost use Rattle.framing.specs.AnswerBytes.{bytes_of};
 ghost use Rattle.framing.specs.Frames.{IsShort};
 ghost use Rattle.node_stream.specs.Asking.{IsInside};
 ghost use Rattle.node_stream.specs.Room.{HasRoom};
-ghost use Rattle.node_stream.specs.Telling.{TakesMemory};
-ghost use Rattle.node_stream.specs.FrameTelling.{fitted, frame_of};
+ghost use Rattle.node_stream.specs.Telling.{TakesMemory, one_number};
+ghost use Rattle.node_stream.specs.FrameTelling.{unended, fitted, frame_of};
 ghost use Rattle.node_stream.specs.GuardTelling.{guard_frame, NeedsMemory, sure_of};
 
 use crate::asked::Window;
@@ -32,6 +32,18 @@ fn joined(head: String, answer: FrameAnswer) -> Result<FrameAnswer, AllocError>
     Ok(FrameAnswer::Made(bytes))
 }
 
+/// How many pieces the kept snapshot has, after what is in the room that was taken, with room for 18 bytes more.
+fn frozen_after(head: String, pieces: u32) -> Result<FrameAnswer, AllocError>
+    requires free { string_len head + 18 ≤ string_capacity head }
+    requires few { length (string_bytes head) ≤ 45 }
+    ensures bytes { IfOk result (λ a. bytes_of a ≡ fitted (codes "too long") (string_bytes head ++ unended (one_number (codes "frozen ") pieces))) }
+    ensures short { IfOk result (λ a. IsShort (bytes_of a)) }
+    ensures few { IfOk result (λ a. length (bytes_of a) ≤ 63) }
+    ensures ok { IsOk result }
+{
+    unended(frozen(head, pieces))
+}
+
 /// The answer frame of a reply after what is in the room that was taken, with room for 18 bytes more.
 ///
 /// It fails only if memory runs out, and not for a reply to a request that has changed something.
@@ -50,7 +62,7 @@ fn headed(
     ensures memory { OnErr result (TakesMemory reply.now) }
 {
     match reply {
-        replica::Reply::Frozen { pieces } => unended(frozen(head, *pieces)),
+        replica::Reply::Frozen { pieces } => frozen_after(head, *pieces),
         _ => joined(head, frame(alloc, window, reply)?),
     }
 }

@@ -5,23 +5,8 @@ use Rattle.framing.specs.AnswerText.{text_of}
 use Rattle.replica.specs.declared.replies.Reply.{Reply}
 use Rattle.replica.specs.declared.replies.Reply.TheVariants as reply
 use Rattle.node_stream.specs.FrameTelling.{fitted, frame_of}
-use Rattle.node_stream.proofs.Headed.{frozen_frame, frozen_short, frozen_fits, joined_frame, joined_long, joined_lacks}
+use Rattle.node_stream.proofs.Headed.{joined_frame, joined_long, joined_lacks}
 use Rattle.node_stream.proofs.guard_frames.headed.Goals as goal
-
-pub returns-in-Frozen-clause-frame : goal.returns-in-Frozen-clause-frame
-returns-in-Frozen-clause-frame c = subst
-    (λ (told : Reply). IfOk c.unended.result (λ a. bytes_of a ≡ fitted (codes "too long") (string_bytes c.args.head ++ frame_of c.args.window told)))
-    (sym c.in-Frozen.is)
-    (frozen_frame c.unended.result (string_bytes c.args.head) (text_of c.frozen.result) c.in-Frozen.pieces c.ranges.pieces.fits c.requires.few
-    c.frozen.ensures c.unended.ensures.bytes)
-
-pub returns-in-Frozen-clause-long : goal.returns-in-Frozen-clause-long
-returns-in-Frozen-clause-long c = frozen_short c.unended.result (string_bytes c.args.head) (text_of c.frozen.result) c.in-Frozen.pieces c.args.reply.now
-    c.ranges.pieces.fits c.requires.few c.frozen.ensures c.unended.ensures.bytes
-
-pub returns-in-Frozen-clause-memory : goal.returns-in-Frozen-clause-memory
-returns-in-Frozen-clause-memory c = frozen_fits c.unended.result (string_bytes c.args.head) (text_of c.frozen.result) c.in-Frozen.pieces c.args.reply.now
-    c.ranges.pieces.fits c.requires.few c.frozen.ensures c.unended.ensures.long
 
 pub returns-in_ok-frame-in_default : goal.returns-in_ok-frame-in_default
 returns-in_ok-frame-in_default c =
