@@ -5,7 +5,8 @@
 //! is absorbed or added was replied by some node earlier in the run, what is taken is a fact of one sound log, and the pieces that make a
 //! segment are of snapshots of the same facts (`specs/Carrying`). Then each node means exactly the facts that have reached it, and replies
 //! as these do (`specs/Following`); and so do guarded nodes on streams of lines or frames, whatever engines ask of them, and however their
-//! turns are interleaved (`specs/Streams`). A node that is lost is one that has no more turns, and one that comes back from its files is another node of the run.
+//! turns are interleaved (`specs/Streams`). A node that is lost is one that has no more turns, and one that comes back from its files is
+//! another node of the run.
 #![tactic(auto)]
 
 ghost use Rattle.cluster_theorems.specs.Following.{ClusterFollows, SameReplies, OpenedIsEmpty};
