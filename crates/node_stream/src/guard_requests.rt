@@ -16,8 +16,8 @@ use crate::job::Form;
 use crate::requests::read_line;
 use crate::wide::{WIDE, wide_number};
 use guard::Request;
-use text::{first_parts, is_word};
 use std::alloc::Global;
+use text::{first_parts, is_word};
 
 /// What a line or a frame asks of a replica.
 fn read_own(alloc: Global, form: Form, text: &[u8]) -> Result<Asked, LineError>
