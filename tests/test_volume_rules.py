@@ -38,7 +38,7 @@ def test_mutant_breaks_a_rule(mutant):
 
 @pytest.mark.parametrize("nodes, quorum", [(3, 2), (4, 3), (6, 4)])
 def test_random_schedules_keep_to_the_rules(rng, nodes, quorum):
-    world, end, proposals = {"nodes": nodes, "quorum": quorum}, time.monotonic() + 5, 0
+    world, end, proposals = {"nodes": nodes, "quorum": quorum}, time.monotonic() + 3, 0
     while time.monotonic() < end or not proposals:
         run = Random(rng, **world)
         run.run(rng.choice((30, 60, 100)))

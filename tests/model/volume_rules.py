@@ -116,6 +116,7 @@ class Traced(World):
             self.note(i, "learns")
         if answer and isinstance(engine, int):
             self.answered.setdefault((engine, i, answer), []).append(self.now())
+        self.note(i, "rests")  # whoever hears the answer does so at a later moment
         return answer
 
     # -- engines
@@ -237,6 +238,8 @@ class Rules:
     def move_fault(self, t):
         i, kind, *rest = self.steps[t]
         old, new = self.states[t][i], self.states[t + 1][i]
+        if kind == "rests":
+            return None if new == old else "a node at rest changes"
         if kind == "comes fresh":
             return None if all(state[i].birth != new.birth for state in self.states[: t + 1]) else "a birth comes back"
         if kind in ("learns", "is replaced"):
