@@ -55,11 +55,22 @@ impl Peer {
     }
 }
 
+/// How long an opening waits for further nodes when some are fenced: it may admit a fresh node only if that has answered before a quorum is.
+const GRACE: Duration = Duration::from_millis(100);
+
+/// An answer that the machine has not been told.
+struct Held {
+    node: u8,
+    request: Vec<u8>,
+    answer: Vec<u8>,
+}
+
 /// What one step has led to, beside requests.
 #[derive(Default)]
 struct Outcome {
     committed: Option<u64>,
-    is_opened: bool,
+    /// Whether the opening or the creation has succeeded.
+    is_done: bool,
     refused: Option<Fault>,
 }
 
@@ -71,6 +82,9 @@ pub struct Driver<M> {
     generation: u64,
     /// Who waits for an opening or a creation.
     opening: Option<Sender<Result<(), VolumeError>>>,
+    /// Until when the answers of nodes that are fenced are held back, and these answers.
+    grace: Option<Instant>,
+    held: Vec<Held>,
     remind: Duration,
     most_pending: usize,
 }
@@ -79,7 +93,17 @@ impl<M: Machine> Driver<M> {
     pub fn new(machine: M, options: &Options, progress: Arc<Progress>) -> Driver<M> {
         let peers = options.nodes.iter().map(|_| Peer::new()).collect();
         let most_pending = options.in_flight.saturating_mul(2);
-        Driver { machine, peers, progress, generation: 0, opening: None, remind: options.remind, most_pending }
+        Driver {
+            machine,
+            peers,
+            progress,
+            generation: 0,
+            opening: None,
+            grace: None,
+            held: Vec::new(),
+            remind: options.remind,
+            most_pending,
+        }
     }
 
     /// Steps the machine until the volume is closed.
@@ -91,6 +115,7 @@ impl<M: Machine> Driver<M> {
                 Err(RecvTimeoutError::Timeout) => {}
                 Ok(Input::Close) | Err(RecvTimeoutError::Disconnected) => break,
             }
+            self.release_held();
             self.remind_idle();
         }
         self.progress.fail(VolumeError::Closed);
@@ -115,6 +140,20 @@ impl<M: Machine> Driver<M> {
                     peer.is_answering = true;
                     self.report_answering();
                 }
+                match self.grace.is_some() && answer.starts_with(b"fenced ") {
+                    true => self.held.push(Held { node, request, answer }),
+                    false => self.notice(Event::Answered { node, request: &request, answer: &answer }),
+                }
+            }
+        }
+    }
+
+    /// Tells the machine which nodes are fenced, when all that are connected have answered or the time is up.
+    fn release_held(&mut self) {
+        let is_waiting = self.peers.iter().any(|peer| peer.queue.is_some() && peer.pending > 0);
+        if self.grace.is_some_and(|end| !is_waiting || Instant::now() >= end) {
+            self.grace = None;
+            for Held { node, request, answer } in std::mem::take(&mut self.held) {
                 self.notice(Event::Answered { node, request: &request, answer: &answer });
             }
         }
@@ -129,7 +168,7 @@ impl<M: Machine> Driver<M> {
         let Ok(outcome) = self.step(event) else {
             return;
         };
-        if outcome.is_opened {
+        if outcome.is_done {
             self.end_opening(Ok(()));
         }
         if let Some(fault) = outcome.refused {
@@ -160,8 +199,9 @@ impl<M: Machine> Driver<M> {
                 }
                 Action::Opened { epoch, commit_point, header } => {
                     self.progress.open(self.generation, epoch, commit_point, header);
-                    outcome.is_opened = true;
+                    outcome.is_done = true;
                 }
+                Action::Created => outcome.is_done = true,
                 Action::Committed { commit_point } => outcome.committed = Some(commit_point),
                 Action::Durable { commit_point } => self.progress.durable(commit_point),
                 Action::Refused(fault) => outcome.refused = Some(fault),
@@ -175,6 +215,8 @@ impl<M: Machine> Driver<M> {
             Call::Create { done } => self.begin(Event::Create, done),
             Call::Open { generation, done } => {
                 self.generation = generation;
+                self.held.clear();
+                self.grace = Some(Instant::now() + GRACE);
                 self.begin(Event::Open { generation }, done);
             }
             Call::Commit { writes, header, done } => {
@@ -193,7 +235,7 @@ impl<M: Machine> Driver<M> {
         self.opening = Some(done);
         match self.step(event) {
             Ok(Outcome { refused: Some(fault), .. }) => self.end_opening(Err(fault.into())),
-            Ok(outcome) if outcome.is_opened => self.end_opening(Ok(())),
+            Ok(outcome) if outcome.is_done => self.end_opening(Ok(())),
             Ok(_) => {}
             Err(error) => self.end_opening(Err(error)),
         }

@@ -10,6 +10,7 @@
 //! | Action | Frame |
 //! |---|---|
 //! | ask | `ask N ` and the request |
+//! | created | `created` |
 //! | opened | `opened E C ` and the header |
 //! | committed, durable | `committed C`, `durable C` |
 //! | refused | `fenced G`, `no quorum H N`, `not open`, `ahead C`, `full`, `not fresh`, `reserved`, `long header`, `damaged`, `shape` |
@@ -65,6 +66,7 @@ fn action_of(frame: &[u8]) -> Option<Action> {
             let (node, request) = split(rest);
             Action::Ask { node: number(node)?, request: request.to_vec() }
         }
+        b"created" if rest.is_empty() => Action::Created,
         b"opened" => {
             let (epoch, rest) = split(rest);
             let (point, header) = split(rest);
@@ -149,8 +151,9 @@ mod tests {
     #[test]
     fn actions_are_read() {
         let mut answer = Vec::new();
-        let parts: [&[u8]; 7] = [
+        let parts: [&[u8]; 8] = [
             b"ask 3 as 2 7 take \x01 x",
+            b"created",
             b"opened 2 70 a b",
             b"opened 2 0 ",
             b"committed 72",
@@ -161,6 +164,7 @@ mod tests {
         parts.iter().for_each(|part| frames::append(&mut answer, &[part]).unwrap());
         let wanted = vec![
             Action::Ask { node: 3, request: b"as 2 7 take \x01 x".to_vec() },
+            Action::Created,
             Action::Opened { epoch: 2, commit_point: 70, header: b"a b".to_vec() },
             Action::Opened { epoch: 2, commit_point: 0, header: vec![] },
             Action::Committed { commit_point: 72 },

@@ -27,6 +27,8 @@ pub enum Event<'a> {
 pub enum Action {
     /// Send a request, the bytes of its frame. Requests to one node are sent in this order.
     Ask { node: u8, request: Vec<u8> },
+    /// All nodes are members of a new volume, which an engine may open.
+    Created,
     /// The volume is open. All up to the commit point is durable, and the header is that of its last commit.
     Opened { epoch: u16, commit_point: u64, header: Vec<u8> },
     /// The mini-transaction that the event ends has this commit point. It is not durable yet.

@@ -73,14 +73,12 @@ pub struct Volume {
 impl Volume {
     /// Makes a new volume of nodes that are all fresh, and opens it.
     ///
-    /// Errors: those of `open`, and `Refused` with `NotFresh`, where nothing was promised: start all nodes afresh.
+    /// Errors: those of `open`, and `Refused` with `NotFresh`. Nothing was promised then: start all nodes afresh.
     pub fn create<M: Machine + 'static>(machine: M, options: Options) -> Result<Volume, VolumeError> {
         let (volume, deadline) = Volume::start(machine, options)?;
-        let created = volume.call(|done| Call::Create { done }, deadline);
-        match created {
-            // The admissions are on their way, and an opening waits for them.
-            None | Some(Ok(())) => {}
-            Some(Err(error)) => return Err(error),
+        match volume.call(|done| Call::Create { done }, deadline) {
+            Some(created) => created?,
+            None => return Err(volume.not_opened()),
         }
         volume.open_until(deadline)?;
         Ok(volume)

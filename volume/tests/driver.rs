@@ -73,7 +73,7 @@ impl Counting {
 impl Machine for Counting {
     fn step(&mut self, event: Event<'_>) -> Result<Vec<Action>, OutOfMemory> {
         Ok(match event {
-            Event::Create => Vec::new(),
+            Event::Create => vec![Action::Created],
             Event::Open { .. } => {
                 self.is_opening = true;
                 self.all(b"front")
