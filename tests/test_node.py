@@ -79,7 +79,9 @@ def request_of(row, came):
     if word == "take":
         return f"take {fact_bytes(fact_of(rest)).hex()}"
     if word in MESSAGES:
-        return " ".join([word, *(came[kind][int(number) - 1] for kind, number in zip(MESSAGES[word], rest.split(" ")))])
+        kinds, numbers = MESSAGES[word], rest.split(" ")
+        messages = [came[kind][int(number) - 1] for kind, number in zip(kinds, numbers)]
+        return " ".join([word, *messages, *numbers[len(kinds) :]])
     return row
 
 

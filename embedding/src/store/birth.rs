@@ -2,9 +2,9 @@
 //! are there.
 
 use super::errors::StoreError;
-use super::folder::sync;
+use super::folder::{sync, Folder};
 use crate::crc32c::crc32c;
-use std::fs::{self, File, OpenOptions};
+use std::fs::{self, File};
 use std::io::{ErrorKind, Read, Write};
 use std::path::Path;
 
@@ -13,16 +13,14 @@ const LENGTH: usize = 20;
 
 /// The birth that a folder has, or a new one for a folder that has no files of a store, which is made where it is missing.
 ///
-/// Errors: `Io`; `Missing` where the folder has a log or a snapshot and no birth; `Damaged`.
+/// Errors: `Io`; `Locked` while a store has the folder open; `Missing` where the folder has a log or a snapshot and no birth; `Damaged`.
 pub fn birth(folder: &Path) -> Result<u64, StoreError> {
+    // Two processes that start at the same time draw one birth.
+    let _lock = Folder::open(folder)?;
     let path = folder.join("birth");
     match File::open(&path) {
         Ok(file) => read(file, &path),
-        Err(error) if error.kind() == ErrorKind::NotFound => {
-            draw(folder, &path)?;
-            // Another process may have been first.
-            read(File::open(&path).map_err(StoreError::io(&path))?, &path)
-        }
+        Err(error) if error.kind() == ErrorKind::NotFound => draw(folder, &path),
         Err(error) => Err(StoreError::io(&path)(error)),
     }
 }
@@ -44,22 +42,15 @@ fn encoded(birth: u64) -> Vec<u8> {
 }
 
 /// Writes a birth that nobody had, all of it or nothing.
-fn draw(folder: &Path, path: &Path) -> Result<(), StoreError> {
-    match fs::create_dir(folder) {
-        Ok(()) => sync(folder.parent().filter(|parent| !parent.as_os_str().is_empty()).unwrap_or(Path::new(".")))?,
-        Err(error) if error.kind() == ErrorKind::AlreadyExists => refuse_files(folder, path)?,
-        Err(error) => return Err(StoreError::io(folder)(error)),
-    }
+fn draw(folder: &Path, path: &Path) -> Result<u64, StoreError> {
+    refuse_files(folder, path)?;
     let birth = random().map_err(StoreError::io(Path::new(RANDOM)))?;
-    let draft = folder.join(format!("birth.{}.draft", std::process::id()));
-    let mut file = OpenOptions::new().create(true).truncate(true).write(true).open(&draft).map_err(StoreError::io(&draft))?;
+    let draft = folder.join("birth.draft");
+    let mut file = File::create(&draft).map_err(StoreError::io(&draft))?;
     file.write_all(&encoded(birth)).and_then(|()| file.sync_all()).map_err(StoreError::io(&draft))?;
-    let linked = fs::hard_link(&draft, path);
-    fs::remove_file(&draft).map_err(StoreError::io(&draft))?;
-    match linked {
-        Err(error) if error.kind() != ErrorKind::AlreadyExists => Err(StoreError::io(path)(error)),
-        _ => sync(folder),
-    }
+    fs::rename(&draft, path).map_err(StoreError::io(path))?;
+    sync(folder)?;
+    Ok(birth)
 }
 
 /// A folder whose node has lived must have its birth.
@@ -91,11 +82,14 @@ mod tests {
         let place = Place::new("birth");
         let first = birth(place.path()).unwrap();
         assert_eq!(birth(place.path()).unwrap(), first);
+        let folder = Folder::open(place.path()).unwrap();
+        assert!(matches!(birth(place.path()), Err(StoreError::Locked { .. })));
+        drop(folder);
         fs::remove_dir_all(place.path()).unwrap();
         assert_ne!(birth(place.path()).unwrap(), first);
         let mut names: Vec<_> = fs::read_dir(place.path()).unwrap().map(|it| it.unwrap().file_name()).collect();
         names.sort();
-        assert_eq!(names, ["birth"]);
+        assert_eq!(names, ["birth", "lock"]);
     }
 
     #[test]

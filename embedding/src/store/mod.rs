@@ -252,6 +252,7 @@ impl Store {
     /// Its errors are those of `answer`, but for `Full` of the new files, which is `Io`. The store goes on behind an error, and the room of
     /// the new files is free again, unless the log has become unsure: then all calls are `Stopped`.
     pub fn checkpoint(&mut self) -> Result<(), StoreError> {
+        self.write(Vec::new())?;
         match self.node.tidy() {
             // Only a log that is not sound has a broken chain; its snapshot is larger then.
             Ok(()) | Err(Error::Broken { .. }) => {}
