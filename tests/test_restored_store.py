@@ -90,7 +90,7 @@ def taken(command, settings):
     """How many records a store acknowledges, of batches with a checkpoint between them, and whether it serves to the end."""
     piped = {"stdin": subprocess.PIPE, "stdout": subprocess.PIPE, "stderr": subprocess.DEVNULL}
     done = 0
-    with subprocess.Popen(command, env=settings, **piped) as process, contextlib.suppress(BrokenPipeError):
+    with contextlib.suppress(BrokenPipeError), subprocess.Popen(command, env=settings, **piped) as process:
         for numbers in (range(1, 61), range(61, 121), range(121, 141), range(141, 161)):
             process.stdin.write(framed(map(take, numbers)))
             process.stdin.flush()

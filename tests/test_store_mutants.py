@@ -24,12 +24,12 @@ def check_client(program, folder, _disk, _choose):
 LOG, STORE, CALLS, ANSWERS = "embedding/src/store/log.rs", "embedding/src/store/mod.rs", "client/src/calls.rs", "client/src/answers.rs"
 ENTRIES, FOLDER, ENGINE = "embedding/src/store/entries.rs", "embedding/src/store/folder.rs", "store/src/engine.rs"
 MUTANTS = {
-    "acknowledges_before_the_flush": (LOG, "self.file.sync_data().map_err(StoreError::io(&self.path))?;", "", check_kills),
+    "acknowledges_before_the_flush": (LOG, "self.flush()?;", "", check_kills),
     "counts_unchanged": (CALLS, "Ok(self.front()?.has(last))", "self.front().map(|front| front.epoch >= last.epoch)", check_client),
     "compares_fronts_of_two_epochs": (ANSWERS, "self.epoch == key.epoch && self.complete >=", "self.complete + 1 >=", check_client),
     "skips_the_checksum": (ENTRIES, "|| crc32c(&[bytes]) != head.sum", "", check_damage),
     "shares_a_folder": (FOLDER, "match lock.try_lock() {", "match Ok::<(), TryLockError>(()) {", check_lock),
-    "ignores_an_answer": (STORE, ".find(|(request, answer)| !has_changed(request, answer))", ".find(|_| false)", check_answers),
+    "ignores_an_answer": (STORE, ".find(|(request, answer)| !requests::has_changed(request, answer))", ".find(|_| false)", check_answers),
     "leaves_what_a_full_disk_took": (LOG, "match self.file.set_len(self.length) {", "match Ok::<(), io::Error>(()) {", check_full),
     "answers_on_a_full_disk": (ENGINE, "Err(Refusal::DiskFull))", "Ok(vec![b\"changed\".to_vec(); job.requests.len()]))", check_full),
 }
