@@ -23,7 +23,8 @@ def place(fact):
 def written(folder, roster, facts, choose, generation=0):
     """The folder of a store that took these facts, some of them in one request."""
     folder.mkdir()
-    takes = [b"take " + fact_bytes(fact) for fact in facts]
+    heads = [b"", b"as 3 7 "]  # anybody's, and an engine's
+    takes = [choose.choice(heads) + b"take " + fact_bytes(fact) for fact in facts]
     choose.shuffle(takes)
     batches = [[b"open %d" % roster]] + [[take] for take in takes]
     (folder / f"log.{generation}").write_bytes(log(generation, batches))
@@ -59,11 +60,11 @@ def test_logs_of_three_stores(store_program, fleet, tmp_path, seed, seconds):
         assert (done.returncode, done.stdout) == expected, f"seed {seed}, round {index}: {done.stderr}"
 
 
-def test_facts_behind_a_snapshot_are_missed(store_program, fleet, tmp_path, rng):
+def test_facts_before_a_snapshot_are_missed(store_program, fleet, tmp_path, rng):
     folder = written(tmp_path / "one", 1, [Advance(0, 1, 5)], rng, generation=3)
     (folder / "snapshot.3").write_bytes(b"")
     done = ask(store_program, fleet, folder)
-    assert (done.returncode, done.stdout) == (0, "sound 1\n") and "begins behind a snapshot" in done.stderr
+    assert (done.returncode, done.stdout) == (0, "sound 1\n") and "begins after a snapshot" in done.stderr
     assert ask(store_program, fleet, "--print", folder).stdout == "min 0 5\n"
 
 

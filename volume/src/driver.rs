@@ -41,7 +41,7 @@ impl Peer {
         Peer { queue: None, is_answering: false, pending: 0, active: Instant::now() }
     }
 
-    /// Queues a request. A node that does not keep up with what it is sent is cut off: its link connects anew, and gossip brings the rest.
+    /// Queues a request. A node that does not keep up with what it is sent is cut off: its link connects again, and gossip brings the rest.
     fn ask(&mut self, request: Vec<u8>, most: usize) {
         self.pending += request.len();
         self.active = Instant::now();

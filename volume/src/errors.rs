@@ -20,7 +20,7 @@ pub enum VolumeError {
         need: u8,
     },
     /// In the time allowed the commit point did not become durable: only so many nodes answer. The mini-transaction is in doubt until the
-    /// volume is opened anew; it is there as a whole, or not at all.
+    /// volume is opened again; it is stored as a whole, or not at all.
     InDoubt {
         commit_point: u64,
         have: usize,
@@ -67,7 +67,7 @@ impl fmt::Display for VolumeError {
             VolumeError::Fenced { generation } => write!(f, "{}", Fault::Fenced { generation: *generation }),
             VolumeError::NotOpened { have, need } => write!(f, "no write quorum: {have} nodes answer, and it takes {need}"),
             VolumeError::InDoubt { commit_point, have, need } => {
-                write!(f, "no write quorum: {have} nodes answer, and it takes {need}: commit {commit_point} is in doubt until the volume is opened anew")
+                write!(f, "no write quorum: {have} nodes answer, and it takes {need}: commit {commit_point} is in doubt until the volume is opened again")
             }
             VolumeError::Busy { have, need } => {
                 write!(f, "too much is not durable yet: {have} nodes answer, and a write quorum takes {need}")

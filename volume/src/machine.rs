@@ -1,4 +1,4 @@
-//! What a machine that decides for a volume is told, and what it asks for.
+//! The events of a volume, and the actions with which a machine that decides for it answers them.
 
 use std::fmt;
 use yieldcleat_client::Patch;

@@ -10,7 +10,7 @@ use std::io::{self, Write};
 use std::path::{Path, PathBuf};
 use std::process::{Command, ExitCode, Output, Stdio};
 use std::{env, fmt, thread};
-use yieldcleat::{read_log, StoreError};
+use yieldcleat::{read_log, requests, StoreError};
 
 const HELP: &str = "\
 usage: yieldcleat-soundness [--fleet PROGRAM] DIR...
@@ -23,7 +23,7 @@ answer is that of `fleet check --explain`, whose facts are in the order of epoch
   --print                print the facts in place of checking them
   --help
 
-A log that begins behind a snapshot lacks the facts before it. Give the stores of a test a large
+A log that begins after a snapshot lacks the facts before it. Give the stores of a test a large
 --snapshot-after.
 
 Statuses: 0 sound, 2 bad command line, 3 unsound, 4 a file or a program fails.
@@ -70,7 +70,7 @@ struct Facts {
 }
 
 impl Facts {
-    /// Adds the facts of a store's log. The result is false where the log begins behind a snapshot.
+    /// Adds the facts of a store's log. The result is false where the log begins after a snapshot.
     fn add_log(&mut self, folder: &Path) -> Result<bool, Failure> {
         let mut differing = None;
         let is_whole = read_log(folder, |request| differing = differing.or(self.add(request))).map_err(Failure::Store)?;
@@ -82,7 +82,8 @@ impl Facts {
 
     /// Adds what a request brings. The result is both numbers of readers where it opens a segment of another one.
     fn add(&mut self, request: &[u8]) -> Option<(u64, u64)> {
-        if let Some(fact) = request.strip_prefix(b"take ") {
+        // An engine's takes name its generation first.
+        if let Some(fact) = requests::heading(request).1.strip_prefix(b"take ") {
             self.digits.insert(fact.iter().map(|byte| format!("{byte:02x}")).collect());
         }
         let opened = std::str::from_utf8(request.strip_prefix(b"open ")?).ok()?.parse().ok()?;
@@ -154,7 +155,7 @@ fn answer(options: &Options) -> Result<ExitCode, Failure> {
     let mut facts = Facts::default();
     for folder in &options.folders {
         if !facts.add_log(folder)? {
-            say(&format!("{}: its log begins behind a snapshot, and the facts before it are missing", folder.display()));
+            say(&format!("{}: its log begins after a snapshot, and the facts before it are missing", folder.display()));
         }
     }
     let text = facts.text(&options.fleet)?;
