@@ -171,8 +171,12 @@ impl Volume {
             Some(room) => room?,
             None => return Err(VolumeError::Busy { have: self.progress.count_answering(), need: self.options.quorum }),
         }
-        // The driver waits for no node, so it answers.
-        self.call(|done| Call::Commit { writes, header, done }, deadline + self.options.patience).unwrap_or(Err(VolumeError::Closed))
+        // The driver waits for no node, so it answers. Where it does not, the mini-transaction may be sent, and nothing may follow it.
+        let written = self.call(|done| Call::Commit { writes, header, done }, deadline + self.options.patience);
+        written.unwrap_or_else(|| {
+            self.progress.fail(VolumeError::Closed);
+            Err(VolumeError::Closed)
+        })
     }
 
     /// Waits until a commit point is durable.

@@ -109,9 +109,9 @@ impl From<VolumeError> for Failure {
             VolumeError::Below { min } => Failure { point: min, ..of(Fault::Below) },
             VolumeError::Refused(Refusal::Ahead { durable }) => Failure { point: durable, ..of(Fault::Above) },
             VolumeError::Refused(Refusal::Full) => of(Fault::Full),
-            VolumeError::Refused(Refusal::Damaged | Refusal::NotFresh) | VolumeError::Thread(_) => of(Fault::Io),
+            VolumeError::Refused(Refusal::Damaged | Refusal::NotFresh) | VolumeError::Thread(_) | VolumeError::Closed => of(Fault::Io),
             VolumeError::Memory => of(Fault::NoMemory),
-            VolumeError::Options(_) | VolumeError::Refused(_) | VolumeError::Argument(_) | VolumeError::Closed => of(Fault::Misuse),
+            VolumeError::Options(_) | VolumeError::Refused(_) | VolumeError::Argument(_) => of(Fault::Misuse),
         }
     }
 }
