@@ -6,7 +6,6 @@
 //! have arrived. Bytes after the last whole frame are not answered. An error names the device that failed.
 
 mod answer;
-mod answer_frames;
 mod incoming;
 mod inside;
 pub mod laws;
@@ -16,7 +15,6 @@ mod serving;
 mod writing;
 
 pub use answer::FrameAnswer;
-pub use answer_frames::AnswerFrames;
 pub use inside::{count_frames, split_frame};
 pub use machine::FrameMachine;
 pub use serving::serve;

@@ -4,11 +4,9 @@
 //! over the descriptors. What bytes a descriptor gives or takes, no clause says: a descriptor reveals nothing of them.
 #![tactic(auto)]
 
-mod descriptor;
-
 ghost use Rattle.node_c.specs.Ending.{IsStatus};
 
-use descriptor::Descriptor;
+use descriptors::Descriptor;
 use framing::devices::Watched;
 use node_stream::{Node, serve_frames, status_of};
 use redo_core::Roster;

@@ -119,10 +119,7 @@ pub fn answer(
             generation,
             birth,
             epoch,
-        } => {
-            let epoch = u64::from(*epoch);
-            Ok(numbered(room, "accepted", &[*generation, *birth, epoch]))
-        }
+        } => Ok(numbered(room, "accepted", &[*generation, *birth, u64::from(*epoch)])),
         Reply::Admitted { generation, birth } => {
             Ok(numbered(room, "admitted", &[*generation, *birth]))
         }

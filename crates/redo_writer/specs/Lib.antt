@@ -3,3 +3,4 @@ pub mod State
 pub mod Continues
 pub mod Refusals
 pub mod Changes
+pub mod Layout

@@ -24,6 +24,9 @@ pub record IsEntryOf (x : AliveRecord) (r : RecordData) : Type 0 where
   pub page : x.page ≡ r.page
   pub block_back : x.block_back ≡ r.block_back
 
+abbrev pub entry_of : RecordData → AliveRecord
+entry_of r = record { number = r.number; page = r.page; block_back = r.block_back }
+
 abbrev pub IsNewer : AliveRecord → AliveRecord → Type 0
 IsNewer x y = y.number < x.number
 

@@ -1,4 +1,4 @@
-ghost use Rattle.std.specs.Prelude.{◌≡◌, ℕ, ◌<◌, ◌≤◌, ◌+◌, ◌++◌, ◌∷◌, [], List, length, IfOk, IfErr, OnOk, OnErr, None};
+ghost use Rattle.std.specs.Prelude.{◌≡◌, ℕ, ◌<◌, ◌≤◌, ◌+◌, ◌++◌, ◌∷◌, [], List, length, IfOk, IfErr, OnOk, OnErr, None, Some};
 ghost use Rattle.std.specs.List.{Contains};
 ghost use Rattle.std.specs.Result.{result_err};
 ghost use Rattle.redo_core.specs.Data.{cut_of, advance_of};
@@ -79,6 +79,52 @@ impl RedoWriter {
             page_tops: self.page_tops,
             settled: self.settled,
             alive: self.alive,
+        }
+    }
+
+    /// The epoch of the next record.
+    pub fn epoch(&self) -> u16
+        ensures { result ≡ self.now.epoch }
+    {
+        self.epoch
+    }
+
+    /// The number that the next record's is above.
+    pub fn last(&self) -> u64
+        ensures { result ≡ self.now.last }
+    {
+        self.last
+    }
+
+    /// The record that `append` would return, where it does not lack memory. The writer does not keep it.
+    ///
+    /// Errors give the patches back: a number that is not above the epoch's last one, or its `hi`, with that bound; a fault of the record's
+    /// shape.
+    pub fn preview(
+        &self,
+        number: u64,
+        page: u16,
+        init: bool,
+        patches: Vec<Patch>,
+    ) -> Result<Record, Refused<Vec<Patch>, WriterFault>>
+        ensures record { IfOk result (λ r. r ≡ next_record self.now number page init patches.items) }
+        ensures fault { IfErr result (λ e. append_refusal self.now (next_record self.now number page init patches.items) ≡ Some e.fault) }
+        ensures returned { IfErr result (λ e. e.value ≡ patches) }
+    {
+        if number <= self.last {
+            return Err(Refused {
+                value: patches,
+                fault: WriterFault::NumberNotAbove { bound: self.last },
+            });
+        }
+        let back = number_on_top(self.settled, &self.alive);
+        let block_back = top_of(&self.page_tops, page);
+        match Record::with(self.epoch, number, back, page, block_back, init, patches) {
+            Ok(redo) => Ok(redo),
+            Err(refused) => Err(Refused {
+                value: refused.value,
+                fault: WriterFault::Shape(refused.fault),
+            }),
         }
     }
 

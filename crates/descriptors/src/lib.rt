@@ -1,4 +1,5 @@
 //! An open descriptor as a reader and a writer.
+#![tactic(auto)]
 
 use io::{read_full, write_all};
 use std::io::{ErrorKind, Read, Result, Write};
