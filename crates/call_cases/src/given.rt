@@ -6,14 +6,15 @@ use bytes::BytesMut;
 use case_io::Row;
 use page_base::BaseImage;
 use redo_core::{Advance, Cut, Fact, Key, Page, Patch, Record, SharedPage, Write};
-use script_text::read_fact;
+use script_text::{FactError, read_fact};
 use std::alloc::{AllocError, Global};
 
 /// Stores the fact that a line encodes, and returns its number.
 pub fn keep_fact(alloc: Global, facts: &mut Vec<Fact>, line: &str) -> Result<Answer, AllocError> {
-    match read_fact(alloc, line.as_bytes())? {
-        Some(fact) => add("Fact", facts, fact),
-        None => Ok(Answer::Unknown),
+    match read_fact(alloc, line.as_bytes()) {
+        Ok(fact) => add("Fact", facts, fact),
+        Err(FactError::Bad(_)) => Ok(Answer::Unknown),
+        Err(FactError::Memory) => Err(AllocError),
     }
 }
 

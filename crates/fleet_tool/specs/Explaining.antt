@@ -1,13 +1,12 @@
 -- Why a text names a bad line, or a fault of its log.
-use Rattle.std.specs.Prelude.{◌≡◌, ◌-◌, ◌⊎◌, ℕ, Bool, true, false, List, Result, Ok, Err}
+use Rattle.std.specs.Prelude.{◌≡◌, ℕ, List, Result, Ok, Err}
 use Rattle.redo_core.specs.Sound.{IsSound}
 use Rattle.redo_core.specs.declared.facts.Fact.{Fact}
-use Rattle.redo_core.specs.declared.laws.LawFault.{LawFault}
 use Rattle.log_law.specs.Report.{Reports}
 use Rattle.log_law.specs.Breach.{ReportsBreach}
-use Rattle.text.specs.Parts.{parts_at}
 use Rattle.script_text.specs.Script.{ScriptData, Rostered, rostered, script_of, facts_of}
-use Rattle.line_reasons.specs.TextReasons.{IsTextReason, IsGoodLine}
+use Rattle.script_text.specs.TextReasons.{ExplainsScript, ExplainsLog}
+use Rattle.script_text.specs.declared.reasons.TextReason.{TextReason}
 use Rattle.fleet_tool.specs.declared.explaining.Reason.{Reason}
 use Rattle.fleet_tool.specs.declared.explaining.Reason.TheVariants.{BadLine, Unsound}
 use Rattle.fleet_tool.specs.declared.job.LinesTask.{LinesTask}
@@ -23,15 +22,14 @@ abbrev pub log_of : LinesTask → List ℕ → Result (Rostered (List Fact)) ℕ
 log_of Run text = script_log (script_of text)
 log_of Check text = facts_of text
 
-abbrev pub is_script : LinesTask → Bool
-is_script Run = true
-is_script Check = false
+-- a text of the task is read, and its log is sound
+abbrev pub HasSoundLog : LinesTask → List ℕ → Type 0
+HasSoundLog task text = (log : Rostered (List Fact)) × (log_of task text ≡ Ok log) × IsSound log.roster log.said
 
--- there is nothing to report for a text: its log is sound, or nothing is wrong with the line that is reported as bad
-abbrev pub HasNothingToTell : LinesTask → List ℕ → Type 0
-HasNothingToTell task text =
-    ((log : Rostered (List Fact)) × (log_of task text ≡ Ok log) × IsSound log.roster log.said)
-    ⊎ ((at : ℕ) × (log_of task text ≡ Err at) × IsGoodLine (is_script task) (parts_at 10 text) (at - 1))
+-- the reason is true of that line of a text of the task
+abbrev pub Explains : LinesTask → List ℕ → ℕ → TextReason → Type 0
+Explains Run text at reason = ExplainsScript text at reason
+Explains Check text at reason = ExplainsLog text at reason
 
 -- the reason names the first fault of a log, and the evidence of how it breaks its law
 abbrev pub IsUnsoundReason : Rostered (List Fact) → Reason → Type 0
@@ -40,5 +38,5 @@ IsUnsoundReason log (Unsound fault breach) = Reports log.roster log.said fault �
 
 -- the reason names the text's bad line, and is true of it; or its log's first fault
 abbrev pub IsTrueReason : LinesTask → List ℕ → Reason → Type 0
-IsTrueReason task text (BadLine at reason) = (log_of task text ≡ Err at) × IsTextReason (is_script task) (parts_at 10 text) (at - 1) reason
+IsTrueReason task text (BadLine at reason) = (log_of task text ≡ Err at) × Explains task text at reason
 IsTrueReason task text (Unsound fault breach) = (log : Rostered (List Fact)) × (log_of task text ≡ Ok log) × IsUnsoundReason log (Unsound fault breach)

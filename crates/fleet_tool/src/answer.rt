@@ -1,6 +1,6 @@
 //! The output text for an input.
 
-ghost use Rattle.std.specs.Prelude.{◌≡◌, ◌++◌, ℕ, List, IfOk, length, All, codes, string_bytes};
+ghost use Rattle.std.specs.Prelude.{◌≡◌, ◌++◌, ℕ, List, IfOk, IfErr, MatchOption, length, All, true, Some, None, codes, string_bytes};
 ghost use Rattle.std.specs.Fmt.{decimal};
 ghost use Rattle.redo_core.specs.Sound.{IsSound};
 ghost use Rattle.redo_core.specs.declared.facts.Fact.{Fact};
@@ -8,15 +8,20 @@ ghost use Rattle.log_law.specs.Report.{Reports};
 ghost use Rattle.script_text.specs.StepLine.{IsInRange};
 ghost use Rattle.script_text.specs.Script.{script_of, facts_of};
 ghost use Rattle.script_text.specs.Outcome.{Gives, log_data, script_data};
+ghost use Rattle.script_text.specs.TextReasons.{ExplainsScript, ExplainsLog, IsExplained};
+ghost use Rattle.fleet_tool.specs.declared.explaining.Reason.TheVariants.{BadLine};
+ghost use Rattle.fleet_tool.specs.Explaining.{HasSoundLog, IsTrueReason};
+ghost use Rattle.fleet_tool.specs.TaskName.{as_text_task};
 ghost use Rattle.fleet_tool.specs.Output.{SaysBadLine, SaysUnsound, SaysReplies, IsRunOutput, IsCheckOutput, IsInspectOutput, IsOutputOf};
 
+use crate::explaining::{Reason, fault_reason};
 use crate::inspect::inspected;
-use crate::job::TextTask;
+use crate::job::{LinesTask, TextTask};
 use crate::placed_steps::answers;
 use fleet_core::Fleet;
 use log_law::{CheckFault, check_log};
 use redo_core::LawFault;
-use script_text::{Log, Script, ScriptError, read_facts, read_script};
+use script_text::{Log, Script, ScriptError, TextReason, read_facts, read_script};
 use std::alloc::{AllocError, Global};
 use text::worded_line;
 
@@ -30,24 +35,28 @@ pub enum Verdict {
     Unsound,
 }
 
-/// The text to write, and the outcome.
+/// The text to write, the outcome, and the reason of a bad line or a fault, where it was sought.
 #[derive(Drop)]
 pub struct Answered {
     pub text: String,
     pub verdict: Verdict,
+    pub reason: Option<Reason>,
 }
 
-fn bad_line(alloc: Global, at: usize) -> Result<Answered, AllocError>
-    ensures { IfOk result (λ a. SaysBadLine at (string_bytes a.text) a.verdict) }
+fn bad_line(alloc: Global, at: usize, reason: TextReason) -> Result<Answered, AllocError>
+    ensures says { IfOk result (λ a. SaysBadLine at (string_bytes a.text) a.verdict) }
+    ensures reason { IfOk result (λ a. a.reason ≡ Some (BadLine at reason)) }
 {
     Ok(Answered {
         text: worded_line(alloc, "bad line", &[at as u64])?,
         verdict: Verdict::BadLine,
+        reason: Some(Reason::BadLine { at, reason }),
     })
 }
 
-fn unsound(alloc: Global, fault: LawFault) -> Result<Answered, AllocError>
-    ensures { (roster : ℕ) (facts : List Fact) → Reports roster facts fault → IfOk result (λ a. SaysUnsound roster facts (string_bytes a.text) a.verdict) }
+fn unsound(alloc: Global, fault: LawFault, reason: Option<Reason>) -> Result<Answered, AllocError>
+    ensures says { (roster : ℕ) (facts : List Fact) → Reports roster facts fault → IfOk result (λ a. SaysUnsound roster facts (string_bytes a.text) a.verdict) }
+    ensures reason { IfOk result (λ a. a.reason ≡ reason) }
 {
     let place = fault.place;
     let number = fault.law.number();
@@ -55,6 +64,7 @@ fn unsound(alloc: Global, fault: LawFault) -> Result<Answered, AllocError>
     Ok(Answered {
         text,
         verdict: Verdict::Unsound,
+        reason,
     })
 }
 
@@ -62,12 +72,14 @@ fn unsound(alloc: Global, fault: LawFault) -> Result<Answered, AllocError>
 fn replies(alloc: Global, script: &Script) -> Result<Answered, AllocError>
     requires sound { IsSound script.now.roster script.now.facts.items }
     requires range { All (IsInRange (length script.now.facts.items)) script.now.steps.items }
-    ensures { let read = script_data script.now in IfOk result (λ a. SaysReplies read.roster read.said (string_bytes a.text) a.verdict) }
+    ensures says { let read = script_data script.now in IfOk result (λ a. SaysReplies read.roster read.said (string_bytes a.text) a.verdict) }
+    ensures reason { IfOk result (λ a. a.reason ≡ None) }
 {
     let mut fleet = Fleet::new(alloc, script.roster, script.nodes)?;
     Ok(Answered {
         text: answers(alloc, &mut fleet, &script.facts, &script.steps)?,
         verdict: Verdict::Done,
+        reason: None,
     })
 }
 
@@ -75,26 +87,33 @@ fn replies(alloc: Global, script: &Script) -> Result<Answered, AllocError>
 fn script_in(alloc: Global, text: Vec<u8>) -> Result<Script, ScriptError>
     ensures script { Gives script_data result (script_of text.items) }
     ensures range { IfOk result (λ s. All (IsInRange (length s.facts.items)) s.steps.items) }
+    ensures reason { IfErr result (IsExplained (ExplainsScript text.items)) }
 {
     read_script(alloc, &text)
 }
 
 // The log that a text encodes. Drops the text too.
 fn log_in(alloc: Global, text: Vec<u8>) -> Result<Log, ScriptError>
-    ensures { Gives log_data result (facts_of text.items) }
+    ensures log { Gives log_data result (facts_of text.items) }
+    ensures reason { IfErr result (IsExplained (ExplainsLog text.items)) }
 {
     read_facts(alloc, &text)
 }
 
-fn answer_script(alloc: Global, input: Vec<u8>) -> Result<Answered, AllocError>
-    ensures { IfOk result (λ a. IsRunOutput (script_of input.items) (string_bytes a.text) a.verdict) }
+// The answer to a script; and the reason of a bad line or a fault, if it is sought.
+fn answer_script(alloc: Global, input: Vec<u8>, explains: bool) -> Result<Answered, AllocError>
+    ensures output { IfOk result (λ a. IsRunOutput (script_of input.items) (string_bytes a.text) a.verdict) }
+    ensures reason { explains ≡ true → IfOk result (λ a. MatchOption a.reason (HasSoundLog LinesTask.Run input.items) (IsTrueReason LinesTask.Run input.items)) }
 {
     match script_in(alloc, input) {
         Err(ScriptError::Memory) => Err(AllocError),
-        Err(ScriptError::BadLine(at)) => bad_line(alloc, at),
+        Err(ScriptError::BadLine { at, reason }) => bad_line(alloc, at, reason),
         Ok(script) => match check_log(alloc, &script.facts, script.roster) {
             Err(CheckFault::Memory) => Err(AllocError),
-            Err(CheckFault::Unsound(fault)) => unsound(alloc, fault),
+            Err(CheckFault::Unsound(fault)) => {
+                let reason = fault_reason(alloc, explains, &script.facts, script.roster, fault)?;
+                unsound(alloc, fault, reason)
+            }
             Ok(()) => replies(alloc, &script),
         },
     }
@@ -103,22 +122,29 @@ fn answer_script(alloc: Global, input: Vec<u8>) -> Result<Answered, AllocError>
 fn count(alloc: Global, facts: usize) -> Result<Answered, AllocError>
     ensures text { IfOk result (λ a. string_bytes a.text ≡ codes "sound " ++ (decimal facts ++ codes "\n")) }
     ensures verdict { IfOk result (λ a. a.verdict ≡ Verdict.Done) }
+    ensures reason { IfOk result (λ a. a.reason ≡ None) }
 {
     Ok(Answered {
         text: worded_line(alloc, "sound", &[facts as u64])?,
         verdict: Verdict::Done,
+        reason: None,
     })
 }
 
-fn answer_facts(alloc: Global, input: Vec<u8>) -> Result<Answered, AllocError>
-    ensures { IfOk result (λ a. IsCheckOutput (facts_of input.items) (string_bytes a.text) a.verdict) }
+// The same for fact lines alone.
+fn answer_facts(alloc: Global, input: Vec<u8>, explains: bool) -> Result<Answered, AllocError>
+    ensures output { IfOk result (λ a. IsCheckOutput (facts_of input.items) (string_bytes a.text) a.verdict) }
+    ensures reason { explains ≡ true → IfOk result (λ a. MatchOption a.reason (HasSoundLog LinesTask.Check input.items) (IsTrueReason LinesTask.Check input.items)) }
 {
     match log_in(alloc, input) {
         Err(ScriptError::Memory) => Err(AllocError),
-        Err(ScriptError::BadLine(at)) => bad_line(alloc, at),
+        Err(ScriptError::BadLine { at, reason }) => bad_line(alloc, at, reason),
         Ok(log) => match check_log(alloc, &log.facts, log.roster) {
             Err(CheckFault::Memory) => Err(AllocError),
-            Err(CheckFault::Unsound(fault)) => unsound(alloc, fault),
+            Err(CheckFault::Unsound(fault)) => {
+                let reason = fault_reason(alloc, explains, &log.facts, log.roster, fault)?;
+                unsound(alloc, fault, reason)
+            }
             Ok(()) => count(alloc, log.facts.len()),
         },
     }
@@ -130,16 +156,24 @@ fn answer_capture(alloc: Global, input: &[u8]) -> Result<Answered, AllocError>
     Ok(Answered {
         text: inspected(alloc, input)?,
         verdict: Verdict::Done,
+        reason: None,
     })
 }
 
-/// The task's output for an input. Fails only if memory runs out.
-pub fn answer(alloc: Global, task: TextTask, input: Vec<u8>) -> Result<Answered, AllocError>
-    ensures { IfOk result (λ a. IsOutputOf task input.items (string_bytes a.text) a.verdict) }
+/// The task's output for an input; and the reason of a bad line or a fault, if it is sought. Fails only if memory runs out.
+pub fn answer(
+    alloc: Global,
+    task: TextTask,
+    input: Vec<u8>,
+    explains: bool,
+) -> Result<Answered, AllocError>
+    ensures output { IfOk result (λ a. IsOutputOf task input.items (string_bytes a.text) a.verdict) }
+    ensures reason { (lines : LinesTask) → task ≡ as_text_task lines → explains ≡ true
+        → IfOk result (λ a. MatchOption a.reason (HasSoundLog lines input.items) (IsTrueReason lines input.items)) }
 {
     match task {
-        TextTask::Run => answer_script(alloc, input),
-        TextTask::Check => answer_facts(alloc, input),
+        TextTask::Run => answer_script(alloc, input, explains),
+        TextTask::Check => answer_facts(alloc, input, explains),
         TextTask::Inspect => answer_capture(alloc, &input),
     }
 }

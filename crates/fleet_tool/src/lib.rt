@@ -28,7 +28,7 @@ mod run;
 pub use answer::Verdict;
 pub use drill_line::DrillTask;
 pub use drilling::drill_text;
-pub use explaining::{Reason, reason_of};
+pub use explaining::Reason;
 pub use fleet_drill::Size;
 pub use framing::devices::{RunFault, Watched};
 pub use job::{LineFault, LinesTask, Task, TextTask, job_of};

@@ -1,7 +1,7 @@
 //! From a reader to a writer.
 
 ghost use Rattle.std.specs.Prelude.{◌≡◌, IfOk, MatchOption, false, string_bytes};
-ghost use Rattle.fleet_tool.specs.Explaining.{HasNothingToTell, IsTrueReason};
+ghost use Rattle.fleet_tool.specs.Explaining.{HasSoundLog, IsTrueReason};
 ghost use Rattle.fleet_tool.specs.Inspect.{inspected};
 ghost use Rattle.fleet_tool.specs.Output.{IsOutputOf};
 ghost use Rattle.fleet_tool.specs.TaskName.{as_text_task};
@@ -9,7 +9,7 @@ ghost use Rattle.fleet_tool.specs.TextCall.{IsTextCall};
 ghost use Rattle.framing.specs.Watching.{has_failed};
 
 use crate::answer::{Answered, Verdict, answer};
-use crate::explaining::{Reason, reason_of};
+use crate::explaining::Reason;
 use crate::job::{LinesTask, TextTask};
 use framing::devices::{RunFault, Watched, read_all, write_all};
 use std::alloc::{AllocError, Global};
@@ -27,7 +27,7 @@ fn answer_text<R: Read, W: Write>(
     ensures { IsTextCall R.remaining W.contents (IsOutputOf task) reader.old reader.new writer.old writer.new result }
 {
     let input = read_all(alloc, reader)?;
-    let output = answer(alloc, task, input)?;
+    let output = answer(alloc, task, input, false)?;
     write_all(writer, output.text.as_bytes())?;
     Ok(output.verdict)
 }
@@ -76,10 +76,13 @@ fn answer_and_reason(
     task: LinesTask,
     input: Vec<u8>,
 ) -> Result<(String, Explained), AllocError>
-    ensures { IfOk result (λ p. IsOutputOf (as_text_task task) input.items (string_bytes p.0) p.1.verdict × MatchOption p.1.reason (HasNothingToTell task input.items) (IsTrueReason task input.items)) }
+    ensures { IfOk result (λ p. IsOutputOf (as_text_task task) input.items (string_bytes p.0) p.1.verdict × MatchOption p.1.reason (HasSoundLog task input.items) (IsTrueReason task input.items)) }
 {
-    let reason = reason_of(alloc, task, &input)?;
-    let Answered { text, verdict } = answer(alloc, task.text_task(), input)?;
+    let Answered {
+        text,
+        verdict,
+        reason,
+    } = answer(alloc, task.text_task(), input, true)?;
     Ok((text, Explained { verdict, reason }))
 }
 
@@ -94,7 +97,7 @@ pub fn explain_text<R: Read, W: Write>(
 ) -> Result<Explained, RunFault>
     requires reader { has_failed reader.old ≡ false }
     requires writer { has_failed writer.old ≡ false }
-    ensures { IsTextCall R.remaining W.contents (λ input text e. IsOutputOf (as_text_task task) input text e.verdict × MatchOption e.reason (HasNothingToTell task input) (IsTrueReason task input))
+    ensures { IsTextCall R.remaining W.contents (λ input text e. IsOutputOf (as_text_task task) input text e.verdict × MatchOption e.reason (HasSoundLog task input) (IsTrueReason task input))
         reader.old reader.new writer.old writer.new result }
 {
     let input = read_all(alloc, reader)?;

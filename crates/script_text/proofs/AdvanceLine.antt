@@ -1,111 +1,76 @@
--- The fields of an advance, one by one.
-use Rattle.std.proofs.Common.{◌≡◌, ℕ, ◌<◌, inl, inr, false, eqb, List, [], ◌∷◌, length, Option, Some, None, refl, ap, ◌∙◌, arith}
-use Rattle.std.proofs.lemmas.Bool.Decides.{nat_tests}
+-- The fields of an advance: two numbers, or three.
+use Rattle.std.proofs.Common.{◌≡◌, ℕ, ◌<◌, inl, inr, List, [], ◌∷◌, get_or, Some, refl, ◌∙◌, zero, suc, arith}
+use Rattle.std.specs.Prelude.{Result, Ok, Err, IfErr}
 use Rattle.redo_core.specs.Data.{advance_of}
-use Rattle.redo_core.specs.Shape.{max_number, max_readers}
-use Rattle.redo_core.specs.declared.facts.Fact.{Fact}
+use Rattle.redo_core.specs.Shape.{advance_fault}
 use Rattle.redo_core.specs.declared.facts.Fact.TheVariants.{Advance}
-use Rattle.text.specs.Number.{decimal_value}
-use Rattle.text.specs.Parts.{◌>>=◌, parts_at}
-use Rattle.text.specs.Fields.{numbers_of, first_of, field_of, of_one}
+use Rattle.text.specs.Fields.{numbers_of}
 use Rattle.script_text.specs.FactLine.{shaped, advance_line}
-use Rattle.text.proofs.Forms.{numbers_apart}
-use Rattle.script_text.proofs.Results.{found}
-use Rattle.text.proofs.Split.{some_parts}
+use Rattle.script_text.specs.declared.reasons.LineReason.{LineReason}
+use Rattle.script_text.specs.declared.reasons.LineReason.TheVariants.{CarriageReturn, UnknownWord, FieldCount, AdvanceFieldCount, Field, Zero, PastPage, ManyPatches, Patch, Shape}
+use Rattle.script_text.specs.FieldReasons.{IsWrongField}
+use Rattle.script_text.specs.FactReasons.{IsShape, IsAdvanceReason, point_limits, advance_limits}
+use Rattle.script_text.proofs.FactLines.{two_fields, three_fields, many_numbers}
 
-abbrev advance_by : ℕ → ℕ → ℕ → Option Fact
-advance_by epoch point reader = shaped (Advance (advance_of epoch reader point))
+pub two_read : (fields : List (List ℕ)) (epoch point : ℕ) → numbers_of point_limits fields ≡ Some (epoch ∷ point ∷ [])
+    → advance_line fields ≡ shaped (Advance (advance_of epoch 1 point))
+two_read fields epoch point e = two_fields fields (many_numbers point_limits fields (epoch ∷ point ∷ []) e) ∙ rw e refl
 
--- the fields behind epoch and point
-abbrev behind_point : ℕ → ℕ → List (List ℕ) → Option Fact
-behind_point epoch point [] = advance_by epoch point 1
-behind_point epoch point (word ∷ rest) = numbers_of (max_readers ∷ []) (word ∷ rest) >>= of_one (advance_by epoch point)
-
-abbrev behind_epoch : ℕ → List (List ℕ) → Option Fact
-behind_epoch epoch fields = first_of max_number fields >>= λ q. behind_point epoch q.0 q.1
-
-advance_read : (fields : List (List ℕ)) → advance_line fields ≡ (field_of 65535 fields >>= λ p. behind_epoch p.0 p.1)
-unfolding advance_line
-advance_read [] = refl
-advance_read (a ∷ []) =
-    elim (found (decimal_value 65535 a)) [
-      | inl x ↦ rw x refl
-      | inr x ↦ rw x.1 refl
-    ]
-advance_read (a ∷ b ∷ []) =
-    elim (found (decimal_value 65535 a)) [
-      | inl x ↦ rw x refl
-      | inr x ↦
-          elim (found (decimal_value max_number b)) [
-            | inl y ↦ rw (x.1, y) refl
-            | inr y ↦ rw (x.1, y.1) refl
-          ]
-    ]
-advance_read (a ∷ b ∷ c ∷ []) =
-    elim (found (decimal_value 65535 a)) [
-      | inl x ↦ rw x refl
-      | inr x ↦
-          elim (found (decimal_value max_number b)) [
-            | inl y ↦ rw (x.1, y) refl
-            | inr y ↦
-                elim (found (decimal_value max_readers c)) [
-                  | inl z ↦ rw (x.1, y.1, z) refl
-                  | inr z ↦ rw (x.1, y.1, z.1) refl
-                ]
-          ]
-    ]
-advance_read (a ∷ b ∷ c ∷ d ∷ rest) =
-    let fields : List (List ℕ) = a ∷ b ∷ c ∷ d ∷ rest in
-    let other : eqb (length fields) 2 ≡ false = grind (arith, nat_tests) in
-    let none : numbers_of (65535 ∷ max_number ∷ max_readers ∷ []) fields ≡ None = numbers_apart (65535 ∷ max_number ∷ max_readers ∷ []) fields (λ e. omega (arith, e)) in
-    let last : numbers_of (max_readers ∷ []) (c ∷ d ∷ rest) ≡ None = numbers_apart (max_readers ∷ []) (c ∷ d ∷ rest) (λ e. omega (arith, e)) in
-    elim (found (decimal_value 65535 a)) [
-      | inl x ↦ rw (other, none, x) refl
-      | inr x ↦
-          elim (found (decimal_value max_number b)) [
-            | inl y ↦ rw (other, none, x.1, y) refl
-            | inr y ↦ rw (other, none, x.1, y.1, last) refl
-          ]
-    ]
-
-pub no_advance : (fields : List (List ℕ)) → field_of 65535 fields ≡ None → advance_line fields ≡ None
-no_advance fields e = rw (advance_read fields, e) refl
-
-after_epoch : (epoch : ℕ) (fields rest : List (List ℕ)) → field_of 65535 fields ≡ Some (epoch, rest) → advance_line fields ≡ behind_epoch epoch rest
-after_epoch epoch fields rest e = advance_read fields ∙ ap (λ (o : Option (ℕ × List (List ℕ))). o >>= λ p. behind_epoch p.0 p.1) e
-
-pub no_point : (epoch : ℕ) (fields rest : List (List ℕ)) → field_of 65535 fields ≡ Some (epoch, rest) → first_of max_number rest ≡ None
-    → advance_line fields ≡ None
-no_point epoch fields rest e x = after_epoch epoch fields rest e ∙ ap (λ (o : Option (ℕ × List (List ℕ))). o >>= λ q. behind_point epoch q.0 q.1) x
-
-after_point : (epoch point : ℕ) (fields rest last : List (List ℕ)) → field_of 65535 fields ≡ Some (epoch, rest)
-    → first_of max_number rest ≡ Some (point, last) → advance_line fields ≡ behind_point epoch point last
-after_point epoch point fields rest last e x = after_epoch epoch fields rest e
-    ∙ ap (λ (o : Option (ℕ × List (List ℕ))). o >>= λ q. behind_point epoch q.0 q.1) x
-
-pub advance_alone : (epoch point : ℕ) (fields rest : List (List ℕ)) → field_of 65535 fields ≡ Some (epoch, rest)
-    → first_of max_number rest ≡ Some (point, []) → advance_line fields ≡ shaped (Advance (advance_of epoch 1 point))
-advance_alone epoch point fields rest e x = after_point epoch point fields rest [] e x
-
-behind_some : (epoch point : ℕ) (last : List (List ℕ)) → 0 < length last
-    → behind_point epoch point last ≡ (numbers_of (max_readers ∷ []) last >>= of_one (advance_by epoch point))
-behind_some epoch point [] some = absurd (omega arith)
-behind_some epoch point (word ∷ rest) some = refl
-
-after_named : (epoch point : ℕ) (fields rest : List (List ℕ)) (text : List ℕ) → field_of 65535 fields ≡ Some (epoch, rest)
-    → first_of max_number rest ≡ Some (point, parts_at 32 text)
-    → advance_line fields ≡ (numbers_of (max_readers ∷ []) (parts_at 32 text) >>= of_one (advance_by epoch point))
-after_named epoch point fields rest text e x = after_point epoch point fields rest (parts_at 32 text) e x
-    ∙ behind_some epoch point (parts_at 32 text) (some_parts 32 text)
-
-pub advance_named : (epoch point reader : ℕ) (fields rest : List (List ℕ)) (text : List ℕ) → field_of 65535 fields ≡ Some (epoch, rest)
-    → first_of max_number rest ≡ Some (point, parts_at 32 text) → numbers_of (max_readers ∷ []) (parts_at 32 text) ≡ Some (reader ∷ [])
+pub three_read : (fields : List (List ℕ)) (epoch point reader : ℕ) → numbers_of advance_limits fields ≡ Some (epoch ∷ point ∷ reader ∷ [])
     → advance_line fields ≡ shaped (Advance (advance_of epoch reader point))
-advance_named epoch point reader fields rest text e x y = after_named epoch point fields rest text e x
-    ∙ ap (λ (o : Option (List ℕ)). o >>= of_one (advance_by epoch point)) y
+three_read fields epoch point reader e =
+    let three = many_numbers advance_limits fields (epoch ∷ point ∷ reader ∷ []) e in
+    three_fields fields (λ two. absurd (omega (arith, two, three))) ∙ rw e refl
 
-pub misnamed : (epoch point : ℕ) (fields rest : List (List ℕ)) (text : List ℕ) → field_of 65535 fields ≡ Some (epoch, rest)
-    → first_of max_number rest ≡ Some (point, parts_at 32 text) → numbers_of (max_readers ∷ []) (parts_at 32 text) ≡ None
-    → advance_line fields ≡ None
-misnamed epoch point fields rest text e x y = after_named epoch point fields rest text e x
-    ∙ ap (λ (o : Option (List ℕ)). o >>= of_one (advance_by epoch point)) y
+pub two_shape : (fields : List (List ℕ)) (epoch point : ℕ) (reason : LineReason) → numbers_of point_limits fields ≡ Some (epoch ∷ point ∷ [])
+    → IsShape (advance_fault (advance_of epoch 1 point)) reason → IsAdvanceReason fields reason
+two_shape fields epoch point (Shape fault) e h = record { epoch = epoch; point = point; reader = 1; numbers = inl (e, refl); faulty = h }
+two_shape fields epoch point _ e h = absurd h
+
+pub three_shape : (fields : List (List ℕ)) (epoch point reader : ℕ) (reason : LineReason) → numbers_of advance_limits fields ≡ Some (epoch ∷ point ∷ reader ∷ [])
+    → IsShape (advance_fault (advance_of epoch reader point)) reason → IsAdvanceReason fields reason
+three_shape fields epoch point reader (Shape fault) e h = record { epoch = epoch; point = point; reader = reader; numbers = inr e; faulty = h }
+three_shape fields epoch point reader _ e h = absurd h
+
+pub two_result : {X : Type 0} (fields : List (List ℕ)) (epoch point : ℕ) (r : Result X LineReason) → numbers_of point_limits fields ≡ Some (epoch ∷ point ∷ [])
+    → IfErr r (IsShape (advance_fault (advance_of epoch 1 point))) → IfErr r (IsAdvanceReason fields)
+two_result fields epoch point (Ok x) e h = tt
+two_result fields epoch point (Err reason) e h = two_shape fields epoch point reason e h
+
+pub three_result : {X : Type 0} (fields : List (List ℕ)) (epoch point reader : ℕ) (r : Result X LineReason)
+    → numbers_of advance_limits fields ≡ Some (epoch ∷ point ∷ reader ∷ [])
+    → IfErr r (IsShape (advance_fault (advance_of epoch reader point))) → IfErr r (IsAdvanceReason fields)
+three_result fields epoch point reader (Ok x) e h = tt
+three_result fields epoch point reader (Err reason) e h = three_shape fields epoch point reader reason e h
+
+-- the limits of two numbers are the first of three
+same_limit : (k : ℕ) → k < 2 → get_or point_limits k 0 ≡ get_or advance_limits k 0
+same_limit zero lt = refl
+same_limit (suc zero) lt = refl
+same_limit (suc (suc k)) lt = absurd (omega (arith, lt))
+
+pub two_wrong : (fields : List (List ℕ)) (reason : LineReason) → IsWrongField point_limits fields reason → IsAdvanceReason fields reason
+two_wrong fields (Field at fault) h =
+    let limit = same_limit h.before (omega (arith, h.limited)) in
+    record { before = h.before; number = h.number; limited = omega (arith, h.limited); within = h.within; faulty = rw limit at h.faulty }
+two_wrong fields CarriageReturn h = absurd h
+two_wrong fields UnknownWord h = absurd h
+two_wrong fields (FieldCount wanted) h = absurd h
+two_wrong fields AdvanceFieldCount h = absurd h
+two_wrong fields (Zero at) h = absurd h
+two_wrong fields PastPage h = absurd h
+two_wrong fields ManyPatches h = absurd h
+two_wrong fields (Patch at fault) h = absurd h
+two_wrong fields (Shape fault) h = absurd h
+
+pub three_wrong : (fields : List (List ℕ)) (reason : LineReason) → IsWrongField advance_limits fields reason → IsAdvanceReason fields reason
+three_wrong fields (Field at fault) h = h
+three_wrong fields CarriageReturn h = absurd h
+three_wrong fields UnknownWord h = absurd h
+three_wrong fields (FieldCount wanted) h = absurd h
+three_wrong fields AdvanceFieldCount h = absurd h
+three_wrong fields (Zero at) h = absurd h
+three_wrong fields PastPage h = absurd h
+three_wrong fields ManyPatches h = absurd h
+three_wrong fields (Patch at fault) h = absurd h
+three_wrong fields (Shape fault) h = absurd h

@@ -1,7 +1,13 @@
 pub mod Results
+pub mod Faults
+pub mod FormLines
+pub mod PatchWords
+pub mod PatchLists
 pub mod Words
 pub mod RecordLine
+pub mod FactLines
 pub mod AdvanceLine
+pub mod LineWords
 pub mod PatchEncoding
 pub mod RecordContents
 pub mod StepEncoding
@@ -9,5 +15,6 @@ pub mod FactEncoding
 pub mod FactTexts
 pub mod Scripts
 pub mod Lines
+pub mod StoppedLines
 pub mod Rosters
 pub mod BadLines

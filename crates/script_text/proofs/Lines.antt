@@ -1,5 +1,5 @@
 -- What a loop over the lines of a text keeps.
-use Rattle.std.proofs.Common.{◌≡◌, ℕ, ◌+◌, ◌<◌, ◌≤◌, Bool, true, cond, leb, List, [], ◌∷◌, ◌++◌, length, Option, Some, None, Result, Ok, Err, codes, refl, ap, ◌∙◌, arith, rules}
+use Rattle.std.proofs.Common.{◌≡◌, ℕ, ◌+◌, ◌<◌, ◌≤◌, Bool, true, false, cond, leb, List, [], ◌∷◌, ◌++◌, length, Option, Some, None, Result, Ok, Err, codes, refl, ap, ◌∙◌, arith, rules}
 use Rattle.std.proofs.lemmas.Grind.{common_steps}
 use Rattle.std.specs.Prelude.{bytes_eq}
 use Rattle.redo_core.specs.declared.facts.Fact.{Fact}
@@ -56,6 +56,11 @@ fact_next at facts more text line behind f e few is is_more = grind (arith, comm
 pub go_next : (count at : ℕ) (text line behind : List ℕ) → parts_at 10 text ≡ line ∷ parts_at 10 behind → bytes_eq line (codes "go") ≡ true
     → script_from count at (parts_at 10 text) ≡ nodes_from count (at + 1) (parts_at 10 behind)
 go_next count at text line behind e go = rw (e, some_left (length (parts_at 10 behind)) (some_parts 10 behind), go) refl
+
+-- a line that is neither go nor a fact
+pub script_bad : (count at : ℕ) (text line behind : List ℕ) → parts_at 10 text ≡ line ∷ parts_at 10 behind → bytes_eq line (codes "go") ≡ false → fact_of line ≡ None
+    → script_from count at (parts_at 10 text) ≡ Err at
+script_bad count at text line behind e other none = rw (e, some_left (length (parts_at 10 behind)) (some_parts 10 behind), other, none) (bad_either (leb most count) at)
 
 -- the line of the nodes, and the steps
 pub nodes_next : (count at nodes : ℕ) (facts : List Fact) (steps : List (Step ℕ)) (text line behind : List ℕ)

@@ -122,7 +122,7 @@ no_record head init o fit = search (rules, many_patches)
 
 -- ---- contents with a comma
 
-no_dash : (text front : List ℕ) (rest : List (List ℕ)) → parts_at 44 text ≡ front ∷ rest → 0 < length rest → bytes_eq text (codes "-") ≡ false
+pub no_dash : (text front : List ℕ) (rest : List (List ℕ)) → parts_at 44 text ≡ front ∷ rest → 0 < length rest → bytes_eq text (codes "-") ≡ false
 no_dash text front rest e some = search rules
 
 of_patches : (head : Head) (init : Bool) (o : Option (List Patch)) → record_of_contents head (o >>= (λ ps. here (contents init ps))) ≡ record_of_patches head init o

@@ -4,4 +4,12 @@ pub mod StepLine
 pub mod Script
 pub mod Outcome
 pub mod Encoded
+pub mod NumberFaults
+pub mod FieldReasons
+pub mod FormReasons
+pub mod PatchFaults
+pub mod ContentsReasons
+pub mod FactReasons
+pub mod LineReasons
+pub mod TextReasons
 pub mod Laws

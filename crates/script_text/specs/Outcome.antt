@@ -19,7 +19,7 @@ script_data s = rostered s.roster (record { facts = s.facts.items; nodes = s.nod
 
 abbrev pub Fails : {Y : Type 0} → ScriptError → Result Y ℕ → Type 0
 Fails Memory read = Unit {0}
-Fails (BadLine at) read = read ≡ Err at
+Fails (BadLine at reason) read = read ≡ Err at
 
 -- What a reader returned, seen by view, is what the grammar gives, unless memory ran out.
 abbrev pub Gives : {X Y : Type 0} → (X → Y) → Result X ScriptError → Result Y ℕ → Type 0

@@ -1,13 +1,19 @@
-//! What a record does to its page: the text behind the numbers of its line.
+//! What a record does to its page: the text after the numbers of its line.
 
-ghost use Rattle.std.specs.Prelude.{true, ◌≡◌, ◌≤◌, ◌*◌, ◌⊎◌, [], ◌∷◌, length, IfOk, IfSome, IfNone, MatchOption, option_map};
+ghost use Rattle.std.specs.Prelude.{true, ◌≡◌, ◌≤◌, ◌<◌, ◌*◌, [], ◌∷◌, length, slice_get, Some, None, IfOk, IfErr, option_map};
 ghost use Rattle.std.specs.Fmt.{decimal};
 ghost use Rattle.redo_core.specs.Shape.{max_patches};
 ghost use Rattle.text.specs.Parts.{parts_at};
 ghost use Rattle.text.specs.Fields.{field_of};
-ghost use Rattle.script_text.specs.FactLine.{write_of, fill_of, patch_of, each_patch, contents_of, FitNoRecord, record_of_patches, record_of_contents};
+ghost use Rattle.script_text.specs.FactLine.{write_of, fill_of, patch_of, each_patch, contents, contents_of, record_of_patches, record_of_contents};
+ghost use Rattle.script_text.specs.ContentsReasons.{IsListReason};
+ghost use Rattle.script_text.specs.FactReasons.{IsShape, fault_with, IsPatchesReason, IsBodyReason};
+ghost use Rattle.script_text.specs.LineReasons.{IfBad};
 
+use crate::field_reasons::count_parts;
 use crate::limits::{PAGE, SHORT};
+use crate::patch_reasons::patch_fault;
+use crate::reasons::{FactError, LineReason};
 use redo_core::{Fact, MAX_PATCHES, Patch, Record, Write};
 use std::alloc::{AllocError, Global};
 use text::{decoded, first_part, is_word, number_before, put_bytes, read_number};
@@ -99,7 +105,7 @@ fn offset_before(text: &[u8]) -> Option<(u16, &[u8])>
 
 /// The patch that a place and hexadecimal digits encode; None where they encode none. It fails only if memory runs out.
 #[tactic(auto, using(crate::proofs::RecordContents::write_is, crate::proofs::RecordContents::no_place), unfolding(crate::specs::FactLine::patch_from))]
-pub fn patch(alloc: Global, text: &[u8]) -> Result<Option<Patch>, AllocError>
+fn patch(alloc: Global, text: &[u8]) -> Result<Option<Patch>, AllocError>
     ensures { IfOk result (λ o. o ≡ patch_of text.now) }
 {
     // Most patches are writes, and no search is needed for where their place ends.
@@ -117,41 +123,64 @@ pub fn patch(alloc: Global, text: &[u8]) -> Result<Option<Patch>, AllocError>
     }
 }
 
-/// The patch behind so many patches; None also where a record has no more.
-fn next_patch(alloc: Global, count: usize, text: &[u8]) -> Result<Option<Patch>, AllocError>
-    ensures { IfOk result (λ o. MatchOption o ((patch_of text.now ≡ None) ⊎ (max_patches ≤ count)) (λ p. patch_of text.now ≡ Some p)) }
+/// Why a list of patches is wrong whose first wrong one is this, after so many others.
+fn list_reason(
+    alloc: Global,
+    list: &[u8],
+    before: usize,
+    text: &[u8],
+) -> Result<LineReason, AllocError>
+    requires place { slice_get (parts_at 44 list.now) before ≡ Some text.now }
+    requires wrong { before < max_patches → patch_of text.now ≡ None }
+    ensures { IfOk result (IsListReason (parts_at 44 list.now)) }
 {
-    if count >= MAX_PATCHES {
-        return Ok(None);
+    if count_parts(list, b',') > MAX_PATCHES {
+        return Ok(LineReason::ManyPatches);
     }
-    patch(alloc, text)
+    let fault = patch_fault(alloc, text)?;
+    Ok(LineReason::Patch {
+        at: before + 1,
+        fault,
+    })
 }
 
-/// The patches between commas; None also where there are more than a record has.
-fn each_patch(alloc: Global, text: &[u8]) -> Result<Option<Vec<Patch>>, AllocError>
-    ensures some { IfOk result (λ o. IfSome o (λ v. each_patch (parts_at 44 text.now) ≡ Some v.items)) }
-    ensures none { IfOk result (λ o. IfNone o (FitNoRecord (each_patch (parts_at 44 text.now)))) }
+/// The patch of a list after so many others; or why the list is wrong, also where a record has no more.
+fn next_patch(alloc: Global, list: &[u8], before: usize, text: &[u8]) -> Result<Patch, FactError>
+    requires { slice_get (parts_at 44 list.now) before ≡ Some text.now }
+    ensures patch { IfOk result (λ p. patch_of text.now ≡ Some p) }
+    ensures reason { IfErr result (IfBad (IsListReason (parts_at 44 list.now))) }
+{
+    if before >= MAX_PATCHES {
+        return Err(FactError::Bad(list_reason(alloc, list, before, text)?));
+    }
+    match patch(alloc, text)? {
+        Some(patch) => Ok(patch),
+        None => Err(FactError::Bad(list_reason(alloc, list, before, text)?)),
+    }
+}
+
+/// The patches between commas; or why they are none, also where there are more than a record has.
+fn each_patch(alloc: Global, list: &[u8]) -> Result<Vec<Patch>, FactError>
+    ensures patches { IfOk result (λ v. each_patch (parts_at 44 list.now) ≡ Some v.items) }
+    ensures reason { IfErr result (IfBad (IsListReason (parts_at 44 list.now))) }
 {
     let mut patches = Vec::with_capacity(alloc, 2)?;
-    let mut rest = text;
+    let mut rest = list;
     while let Some((piece, behind)) = first_part(rest, b',') {
-        let Some(next) = next_patch(alloc, patches.len(), piece)? else {
-            return Ok(None);
-        };
+        let next = next_patch(alloc, list, patches.len(), piece)?;
         patches.push(next)?;
         rest = behind;
     }
-    let Some(last) = next_patch(alloc, patches.len(), rest)? else {
-        return Ok(None);
-    };
+    let last = next_patch(alloc, list, patches.len(), rest)?;
     patches.push(last)?;
-    Ok(Some(patches))
+    Ok(patches)
 }
 
-/// The record of a list of patches, where its shape has no fault.
+/// The record of a list of patches, or the fault of its shape.
 #[tactic(auto, unfolding(crate::specs::FactLine::shaped))]
-fn of_list(head: Head, init: bool, patches: Vec<Patch>) -> Option<Fact>
-    ensures { result ≡ record_of_patches head init (Some patches.items) }
+fn of_list(head: Head, init: bool, patches: Vec<Patch>) -> Result<Fact, FactError>
+    ensures fact { IfOk result (λ f. record_of_patches head init (Some patches.items) ≡ Some f) }
+    ensures reason { IfErr result (IfBad (IsShape (fault_with head (contents init patches.items)))) }
 {
     let Head {
         epoch,
@@ -160,17 +189,32 @@ fn of_list(head: Head, init: bool, patches: Vec<Patch>) -> Option<Fact>
         page,
         block_back,
     } = head;
-    let redo = Record::with(epoch, number, back, page, block_back, init, patches).ok()?;
-    Some(Fact::Record(redo))
+    match Record::with(epoch, number, back, page, block_back, init, patches) {
+        Ok(redo) => Ok(Fact::Record(redo)),
+        Err(refused) => Err(FactError::Bad(LineReason::Shape(refused.fault))),
+    }
 }
 
-/// The record of one patch, with no list.
-#[tactic(auto, unfolding(crate::specs::FactLine::shaped))]
-fn of_one(alloc: Global, head: Head, init: bool, text: &[u8]) -> Result<Option<Fact>, AllocError>
-    ensures { IfOk result (λ o. o ≡ record_of_patches head init (each_patch (text.now ∷ []))) }
+/// The same of one patch.
+fn of_listed(alloc: Global, head: Head, init: bool, text: &[u8]) -> Result<Fact, FactError>
+    ensures fact { IfOk result (λ f. record_of_patches head init (each_patch (text.now ∷ [])) ≡ Some f) }
+    ensures reason { IfErr result (IfBad (IsPatchesReason head init (text.now ∷ []))) }
 {
     let Some(patch) = patch(alloc, text)? else {
-        return Ok(None);
+        let fault = patch_fault(alloc, text)?;
+        return Err(FactError::Bad(LineReason::Patch { at: 1, fault }));
+    };
+    of_list(head, init, vec![in alloc; patch]?)
+}
+
+/// The record of one patch, with no list unless it has a fault.
+#[tactic(auto, unfolding(crate::specs::FactLine::shaped))]
+fn of_one(alloc: Global, head: Head, init: bool, text: &[u8]) -> Result<Fact, FactError>
+    ensures fact { IfOk result (λ f. record_of_patches head init (each_patch (text.now ∷ [])) ≡ Some f) }
+    ensures reason { IfErr result (IfBad (IsPatchesReason head init (text.now ∷ []))) }
+{
+    let Some(patch) = patch(alloc, text)? else {
+        return of_listed(alloc, head, init, text);
     };
     let Head {
         epoch,
@@ -180,24 +224,24 @@ fn of_one(alloc: Global, head: Head, init: bool, text: &[u8]) -> Result<Option<F
         block_back,
     } = head;
     match Record::with_one(alloc, epoch, number, back, page, block_back, init, patch)? {
-        Some(redo) => Ok(Some(Fact::Record(redo))),
-        None => Ok(None),
+        Some(redo) => Ok(Fact::Record(redo)),
+        None => of_listed(alloc, head, init, text),
     }
 }
 
 /// The record of patches between commas.
-fn of_many(alloc: Global, head: Head, init: bool, text: &[u8]) -> Result<Option<Fact>, AllocError>
-    ensures { IfOk result (λ o. o ≡ record_of_patches head init (each_patch (parts_at 44 text.now))) }
+fn of_many(alloc: Global, head: Head, init: bool, text: &[u8]) -> Result<Fact, FactError>
+    ensures fact { IfOk result (λ f. record_of_patches head init (each_patch (parts_at 44 text.now)) ≡ Some f) }
+    ensures reason { IfErr result (IfBad (IsPatchesReason head init (parts_at 44 text.now))) }
 {
-    match each_patch(alloc, text)? {
-        Some(patches) => Ok(of_list(head, init, patches)),
-        None => Ok(None),
-    }
+    let patches = each_patch(alloc, text)?;
+    of_list(head, init, patches)
 }
 
 /// The record whose page begins anew, with one patch or more.
-fn anew(alloc: Global, head: Head, text: &[u8]) -> Result<Option<Fact>, AllocError>
-    ensures { IfOk result (λ o. o ≡ record_of_patches head true (each_patch (parts_at 44 text.now))) }
+fn anew(alloc: Global, head: Head, text: &[u8]) -> Result<Fact, FactError>
+    ensures fact { IfOk result (λ f. record_of_patches head true (each_patch (parts_at 44 text.now)) ≡ Some f) }
+    ensures reason { IfErr result (IfBad (IsPatchesReason head true (parts_at 44 text.now))) }
 {
     match first_part(text, b',') {
         None => of_one(alloc, head, true, text),
@@ -207,23 +251,25 @@ fn anew(alloc: Global, head: Head, text: &[u8]) -> Result<Option<Fact>, AllocErr
 
 /// The record of contents with no comma.
 #[tactic(auto, unfolding(crate::specs::FactLine::contents_of, crate::specs::FactLine::contents_from))]
-pub(crate) fn of_word(alloc: Global, head: Head, text: &[u8]) -> Result<Option<Fact>, AllocError>
+pub fn of_word(alloc: Global, head: Head, text: &[u8]) -> Result<Fact, FactError>
     requires { parts_at 44 text.now ≡ text.now ∷ [] }
-    ensures { IfOk result (λ o. o ≡ record_of_contents head (contents_of text.now)) }
+    ensures fact { IfOk result (λ f. record_of_contents head (contents_of text.now) ≡ Some f) }
+    ensures reason { IfErr result (IfBad (IsBodyReason head text.now)) }
 {
     if is_word(text, b"-") {
-        Ok(of_list(head, false, Vec::new(alloc)))
+        of_list(head, false, Vec::new(alloc))
     } else if is_word(text, b"init") {
-        Ok(of_list(head, true, Vec::new(alloc)))
+        of_list(head, true, Vec::new(alloc))
     } else {
         of_one(alloc, head, false, text)
     }
 }
 
-/// The record of these numbers and contents, where its shape has no fault: a dash for no patches, and else patches between commas,
-/// behind the word `init` or without it.
-pub fn record_of(alloc: Global, head: Head, text: &[u8]) -> Result<Option<Fact>, AllocError>
-    ensures { IfOk result (λ o. o ≡ record_of_contents head (contents_of text.now)) }
+/// The record of these numbers and contents: a dash for no patches, and else patches between commas, after the word `init` or without
+/// it. Or why the contents, or the record's shape, are wrong.
+pub fn record_of(alloc: Global, head: Head, text: &[u8]) -> Result<Fact, FactError>
+    ensures fact { IfOk result (λ f. record_of_contents head (contents_of text.now) ≡ Some f) }
+    ensures reason { IfErr result (IfBad (IsBodyReason head text.now)) }
 {
     let Some((front, behind)) = first_part(text, b',') else {
         return of_word(alloc, head, text);

@@ -1,6 +1,6 @@
 //! Laws of the grammar.
 
-ghost use Rattle.script_text.specs.Laws.{FactLinesAreEncoded, StepLinesAreEncoded, ScriptsAreEncoded, LogsAreEncoded, BadScriptLineIsLeast, BadFactLineIsLeast};
+ghost use Rattle.script_text.specs.Laws.{FactLinesAreEncoded, StepLinesAreEncoded, ScriptsAreEncoded, LogsAreEncoded, BadScriptLineIsLeast, BadFactLineIsLeast, FactReasonsAreOfBadLines, NodesReasonsAreOfBadLines, StepReasonsAreOfBadLines};
 
 /// What is read of a line is encoded there, and what is encoded there is read.
 pub fn lines_are_encoded()
@@ -18,4 +18,11 @@ pub fn scripts_are_encoded()
 pub fn bad_lines_are_least()
     ensures script { BadScriptLineIsLeast }
     ensures log { BadFactLineIsLeast }
+{}
+
+/// No reason is true of a line that is read at its place.
+pub fn reasons_are_of_bad_lines()
+    ensures fact { FactReasonsAreOfBadLines }
+    ensures nodes { NodesReasonsAreOfBadLines }
+    ensures step { StepReasonsAreOfBadLines }
 {}

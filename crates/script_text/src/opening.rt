@@ -8,7 +8,7 @@ ghost use Rattle.script_text.specs.Script.{opening_with, opening_of, roster_form
 use redo_core::{MAX_READERS, Roster};
 use text::{first_part, is_word, last_field};
 
-/// The roster of a text, how many lines name it, one or none, and what stands below them.
+/// The roster of a text, how many lines name it, one or none, and the text after it.
 #[derive(Drop)]
 pub struct Opening<'a> {
     pub roster: Roster,

@@ -40,7 +40,7 @@ pub fn answer(row: &Row) -> Result<Answer, AllocError> {
     let text = format!(in row.alloc; "{OPENING}{line}\n")?;
     match read_script(row.alloc, text.as_bytes()) {
         Ok(script) => of_steps(row, &script.steps),
-        Err(ScriptError::BadLine(at)) => Ok(Answer::Numbered("BadLine", at as u64)),
+        Err(ScriptError::BadLine { at, .. }) => Ok(Answer::Numbered("BadLine", at as u64)),
         Err(ScriptError::Memory) => Err(AllocError),
     }
 }

@@ -1,4 +1,4 @@
-use Rattle.std.proofs.Common.{rules, arith}
+use Rattle.std.proofs.Common.{arith}
 use Rattle.std.proofs.lemmas.Grind.{common_steps}
 use Rattle.script_text.proofs.FactTexts.{record_encoded}
 use Rattle.script_text.proofs.encoding.record_text.Goals as goal

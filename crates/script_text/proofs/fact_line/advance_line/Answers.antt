@@ -1,22 +1,25 @@
-use Rattle.std.proofs.Common.{arith}
-use Rattle.std.proofs.lemmas.Grind.{common_steps}
-use Rattle.script_text.proofs.AdvanceLine.{no_advance, no_point, advance_alone, advance_named, misnamed}
+use Rattle.std.proofs.Common.{◌≡◌, ℕ, List, Some, ap, sym, ◌∙◌, rules}
+use Rattle.redo_core.specs.Shape.{max_readers}
+use Rattle.text.specs.Fields.{numbers_of}
+use Rattle.text.specs.Parts.{parts_at}
+use Rattle.script_text.specs.FactReasons.{point_limits, advance_limits}
+use Rattle.script_text.proofs.FormLines.{numbers_long, two_are, three_are}
+use Rattle.script_text.proofs.AdvanceLine.{two_result, three_result}
 use Rattle.script_text.proofs.fact_line.advance_line.Goals as goal
 
-pub advance-requires-clause-epoch : goal.advance-requires-clause-epoch
-advance-requires-clause-epoch c = omega (arith, c.in_ok-epoch.ensures.bound)
+pub returns-in-Some-clause-reason : goal.returns-in-Some-clause-reason
+returns-in-Some-clause-reason c =
+    let fields = parts_at 32 c.args.fields.now in
+    let ns : List ℕ = c.in-Some.numbers in
+    let read = sym c.in-Some.ensures.value in
+    let long = numbers_long point_limits fields ns read in
+    two_result fields _ _ c.advance.result (read ∙ ap (λ (t : List ℕ). Some t) (two_are ns long)) c.advance.ensures.reason
 
-pub advance-requires-in-Some-clause-epoch : goal.advance-requires-in-Some-clause-epoch
-advance-requires-in-Some-clause-epoch c = omega (arith, c.in_ok-epoch.ensures.bound)
-
-pub returns-in-None : goal.returns-in-None
-returns-in-None c = grind (arith, common_steps, no_advance, no_point, advance_alone, advance_named, misnamed)
-
-pub returns-in_err-point : goal.returns-in_err-point
-returns-in_err-point c = grind (arith, common_steps, no_advance, no_point, advance_alone, advance_named, misnamed)
-
-pub returns-in_err-reader-in-Some : goal.returns-in_err-reader-in-Some
-returns-in_err-reader-in-Some c = grind (arith, common_steps, no_advance, no_point, advance_alone, advance_named, misnamed)
-
-pub returns-in_ok-reader-in-Some : goal.returns-in_ok-reader-in-Some
-returns-in_ok-reader-in-Some c = grind (arith, common_steps, no_advance, no_point, advance_alone, advance_named, misnamed)
+pub returns-in-Some-three_fields-clause-reason : goal.returns-in-Some-three_fields-clause-reason
+returns-in-Some-three_fields-clause-reason c =
+    let fields = parts_at 32 c.args.fields.now in
+    let ns : List ℕ = c.in-Some-three_fields.numbers in
+    let limit : c.from.result ≡ max_readers = search rules in
+    let read : numbers_of advance_limits fields ≡ Some ns = rw limit at (sym c.in-Some-three_fields.ensures.value) in
+    let long = numbers_long advance_limits fields ns read in
+    three_result fields _ _ _ c.advance-in-Some-three_fields.result (read ∙ ap (λ (t : List ℕ). Some t) (three_are ns long)) c.advance-in-Some-three_fields.ensures.reason

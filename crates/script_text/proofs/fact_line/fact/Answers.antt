@@ -1,10 +1,16 @@
-use Rattle.std.proofs.Common.{arith}
+use Rattle.std.proofs.Common.{◌≡◌, ◌∷◌, codes, arith}
 use Rattle.std.proofs.lemmas.Grind.{common_steps}
-use Rattle.script_text.proofs.Words.{no_fact, record_first}
+use Rattle.text.specs.Parts.{parts_at}
+use Rattle.script_text.specs.FactLine.{record_line, fact_of}
+use Rattle.script_text.proofs.Words.{record_parts, record_is_first}
 use Rattle.script_text.proofs.fact_line.fact.Goals as goal
 
-pub returns-in-None : goal.returns-in-None
-returns-in-None c = grind (arith, common_steps, no_fact, record_first)
+pub returns-in-Some-clause-fact : goal.returns-in-Some-clause-fact
+returns-in-Some-clause-fact c =
+    let is : fact_of c.args.line.now ≡ record_line (parts_at 32 c.in-Some.fields.now) = grind (arith, common_steps, record_is_first) in
+    rw is c.record_line.ensures.fact
 
-pub returns-in-Some : goal.returns-in-Some
-returns-in-Some c = grind (arith, common_steps, no_fact, record_first)
+pub returns-in-Some-clause-reason : goal.returns-in-Some-clause-reason
+returns-in-Some-clause-reason c =
+    let is : parts_at 32 c.args.line.now ≡ codes "rec" ∷ parts_at 32 c.in-Some.fields.now = grind (arith, common_steps, record_parts) in
+    rw is c.record_line.ensures.reason

@@ -7,4 +7,4 @@ use Rattle.script_text.proofs.script.read_script.Goals as goal
 pub returns-clause-range : goal.returns-clause-range
 returns-clause-range c =
     let opening = c.read_opening-opening.result in
-    asked_in_range (opening.lines + 1) (parts_at 10 opening.rest.now) (asked_data c.in_ok-facts.field-0) c.in_ok-facts.ensures
+    asked_in_range (opening.lines + 1) (parts_at 10 opening.rest.now) (asked_data c.in_ok-facts.field-0) c.in_ok-facts.ensures.asked

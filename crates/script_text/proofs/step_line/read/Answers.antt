@@ -6,10 +6,10 @@ pub overflow_add-offset : goal.overflow_add-offset
 overflow_add-offset c = grind (arith, common_steps)
 
 pub overflow_cast-result : goal.overflow_cast-result
-overflow_cast-result c = omega (arith, c.in_ok-node.ensures.bound)
+overflow_cast-result c = grind (arith, common_steps)
 
 pub overflow_cast-result-2 : goal.overflow_cast-result-2
-overflow_cast-result-2 c = omega (arith, c.in_ok-page.ensures.bound)
+overflow_cast-result-2 c = grind (arith, common_steps)
 
 pub overflow_cast-result-3 : goal.overflow_cast-result-3
 overflow_cast-result-3 c = grind (arith, common_steps)
