@@ -11,3 +11,5 @@ pub mod Choosing
 pub mod Lasting
 pub mod Sample
 pub mod Contents
+pub mod Stopping
+pub mod ByMoment

@@ -101,7 +101,7 @@ pub votes_proposed : (run : VolumeRun) (t j : ℕ) → FollowsProtocol run → I
 votes_proposed run t j is = by_time (AllProposed run) (λ x earlier. proposed_at run x is earlier) t j
 
 -- ---- truncations
-sent_later : (run : VolumeRun) (s t : ℕ) (c : CutData) → s ≤ t → IsCutSent run s c → IsCutSent run t c
+pub sent_later : (run : VolumeRun) (s t : ℕ) (c : CutData) → s ≤ t → IsCutSent run s c → IsCutSent run t c
 sent_later run s t c upto sent =
     (sent.0, sent.1, (sent.2.0, sent.2.1, λ i among. let x = sent.2.2 i among in let before : x.0 < s = x.1 in (x.0, omega arith, x.2)))
 

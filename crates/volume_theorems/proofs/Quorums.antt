@@ -18,11 +18,13 @@ shared_node : (n : ℕ) (a b : ℕ → Bool) → n < size_below n a + size_below
 shared_node zero a b more = absurd (omega arith)
 shared_node (suc n) a b more = last_or_below n a b (a n) (b n) refl refl more (λ h. shared_node n a b h)
 
-pub quorums_meet : (run : VolumeRun) (P Q : ℕ → Type 0) → FollowsProtocol run → Many run P → Many run Q → (i : ℕ) × P i × Q i
-quorums_meet run P Q is p q =
-    let overlap : run.roster < run.quorum + run.quorum = is.overlap in
+pub meet_within : (run : VolumeRun) (P Q : ℕ → Type 0) → run.roster < run.quorum + run.quorum → Many run P → Many run Q → (i : ℕ) × P i × Q i
+meet_within run P Q overlap p q =
     let left : run.quorum ≤ size_below run.roster p.0 = p.1 in
     let right : run.quorum ≤ size_below run.roster q.0 = q.1 in
     let enough : run.roster < size_below run.roster p.0 + size_below run.roster q.0 = omega arith in
     let both : InBoth p.0 q.0 = shared_node run.roster p.0 q.0 enough in
     (both.0, p.2 both.0 both.1, q.2 both.0 both.2)
+
+pub quorums_meet : (run : VolumeRun) (P Q : ℕ → Type 0) → FollowsProtocol run → Many run P → Many run Q → (i : ℕ) × P i × Q i
+quorums_meet run P Q is p q = meet_within run P Q is.overlap p q

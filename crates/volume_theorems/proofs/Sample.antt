@@ -14,11 +14,11 @@ use Rattle.volume_theorems.specs.Sample.{sample_cut, nothing, is_zero, sample_no
 
 -- ---- the engine
 -- what holds of node 0 holds of each node of the quorum
-alone : (P : ℕ → Type 0) → P 0 → (i : ℕ) → IsTrue (is_zero i) → P i
+pub alone : (P : ℕ → Type 0) → P 0 → (i : ℕ) → IsTrue (is_zero i) → P i
 alone P has zero among = has
 alone P has (suc i) among = absurd (cc)
 
-of_all : (P : ℕ → Type 0) → P 0 → Many sample_run P
+pub of_all : (P : ℕ → Type 0) → P 0 → Many sample_run P
 of_all P has = (is_zero, omega arith, alone P has)
 
 gathered : HasGathered sample_run 0
@@ -45,7 +45,7 @@ union = record {
   sent = λ c inside. absurd (none_in c inside);
 }
 
-answers : (t : ℕ) → 2 < t → IsOfGeneration (sample_node t) 2 → AnswersUnder sample_run 0 t 0
+pub answers : (t : ℕ) → 2 < t → IsOfGeneration (sample_node t) 2 → AnswersUnder sample_run 0 t 0
 answers t after under = record { asked = asked t after; under = under }
 
 proposes : MayPropose sample_run 0 1 4

@@ -10,6 +10,7 @@
 //! once its quorum has answered. `one_truncation`, `only_chosen`, `one_writer`: agreement on the truncation of each epoch.
 //! `durable_lasts`, `opens_above`, `lo_rises`, `lo_is_point`: what was durable stays durable, and only whole commits are kept.
 //! `parts_grow`, `fronts_reach`: what segments of a sound log have keeps to the rules. `some_run`: the rules can be followed.
+//! `stopped_follows` and its neighbours: the same of what was done by a moment of a run that follows the rules until then.
 #![tactic(auto)]
 
 ghost use Rattle.volume_theorems.specs.Lives.{OneBirth, NoReturn};
@@ -19,6 +20,8 @@ ghost use Rattle.volume_theorems.specs.Choosing.{OneTruncation, OnlyChosen, OneW
 ghost use Rattle.volume_theorems.specs.Contents.{PartsGrow, FrontsReach};
 ghost use Rattle.volume_theorems.specs.Sample.{SomeRun};
 ghost use Rattle.volume_theorems.specs.Lasting.{DurableLasts, OpensAbove, LoRises, LoIsPoint};
+ghost use Rattle.volume_theorems.specs.Stopping.{StoppedFollows, FollowsEach, FollowsOn, FollowsAll};
+ghost use Rattle.volume_theorems.specs.ByMoment.{OneSentBy, LoRisesBy, LoIsHeld, OneWriterBy, DurableLastsBy, EpochsInOrder};
 
 /// In one birth a member stays one, its generation does not fall, and its accepted truncation and its facts only rise.
 pub fn one_birth()
@@ -93,6 +96,57 @@ pub fn parts_grow()
 /// A front at or above a commit point of its epoch has that commit point.
 pub fn fronts_reach()
     ensures { FrontsReach }
+{}
+
+/// A run that follows the rules before a moment, and rests from then on, follows them throughout: so each theorem holds of what was done
+/// before any moment, whatever comes later.
+pub fn stopped_follows()
+    ensures { StoppedFollows }
+{}
+
+/// A run that follows the rules follows them before each moment.
+pub fn follows_each()
+    ensures { FollowsEach }
+{}
+
+/// One more move by the rules. With this and `follows_all` a proof that a machine keeps the rules is an induction over time.
+pub fn follows_on()
+    ensures { FollowsOn }
+{}
+
+/// A run that follows the rules before each moment follows them.
+pub fn follows_all()
+    ensures { FollowsAll }
+{}
+
+/// By any moment at most one truncation of an epoch was sent, whatever comes later.
+pub fn one_sent_by()
+    ensures { OneSentBy }
+{}
+
+/// By any moment `lo` of the truncations that were sent rises with their epochs.
+pub fn lo_rises_by()
+    ensures { LoRisesBy }
+{}
+
+/// `lo` of a truncation that was sent was a commit point of a node, in the epoch before.
+pub fn lo_is_held()
+    ensures { LoIsHeld }
+{}
+
+/// By any moment at most one engine has opened an epoch.
+pub fn one_writer_by()
+    ensures { OneWriterBy }
+{}
+
+/// By any moment no truncation that was sent for a later epoch is below what was durable.
+pub fn durable_lasts_by()
+    ensures { DurableLastsBy }
+{}
+
+/// Truncations are sent for all epochs in order, where nodes have the truncations of the epochs that they have reached.
+pub fn epochs_in_order()
+    ensures { EpochsInOrder }
 {}
 
 /// There is a run that follows the rules, with a commit point that is durable.

@@ -1,0 +1,12 @@
+pub mod Histories
+pub mod Writes
+pub mod Emitting
+pub mod LogSound
+pub mod Pages
+pub mod Commits
+pub mod Readers
+pub mod Sample
+pub mod PageLayout
+pub mod Resuming
+pub mod Joining
+pub mod TwoWriters
