@@ -1,10 +1,10 @@
 #!/usr/bin/env python3
-"""Builds the archive of `node_c` over the libraries that `rt ci` has built, and proves that crate on the way.
+"""Builds the archives over the libraries that `rt ci` has built, and proves their crates on the way.
 
-    build_archive.py        crates/node_c/out/libnode_c.a
+    build_archive.py        crates/node_c/out/libnode_c.a, crates/volume_c/out/libvolume_c.a
 
-`rt lib` in the crate's folder makes the same file, and proves again what is below it: `rt ci` keeps its proofs for itself.
-So this calls the prover as `rt` does, by the functions of `rt` itself. Status 1 where a library is missing or the crate is not proved.
+`rt lib` in a crate's folder makes the same file, and proves again what is below it: `rt ci` keeps its proofs for itself.
+So this calls the prover as `rt` does, by the functions of `rt` itself. Status 1 where a library is missing or a crate is not proved.
 """
 
 import argparse
@@ -16,7 +16,7 @@ import sys
 from pathlib import Path
 
 ROOT = Path(__file__).resolve().parents[1]
-NAME = "node_c"
+NAMES = ("node_c", "volume_c")
 
 
 def load_rt():
@@ -32,18 +32,22 @@ def load_rt():
     return rt
 
 
+def build(rt, crate):
+    """Whether the archive of the crate is built."""
+    os.chdir(crate.folder)
+    os.makedirs("out", exist_ok=True)
+    words = [*crate.words(["--jobs", "1"], keeps=False), "--toolchain", f"{rt.KIT}/toolchain"]
+    return not crate.prove(["build", *words, "--backend", "llvm", "-o", f"out/lib{crate.name}.a"])
+
+
 def main():
     argparse.ArgumentParser(description=__doc__, formatter_class=argparse.RawDescriptionHelpFormatter).parse_args()
     rt = load_rt()
     rt.rtlib.Crate = rt.Crate
     rt.Crate.allowed = rt.handles_of(str(ROOT))
     rt.rtlib.guarded()
-    crate = next(it for it in rt.rtlib.crates_below(str(ROOT)) if it.name == NAME)
-    os.chdir(crate.folder)
-    os.makedirs("out", exist_ok=True)
-    words = [*crate.words(["--jobs", "1"], keeps=False), "--toolchain", f"{rt.KIT}/toolchain"]
-    status = crate.prove(["build", *words, "--backend", "llvm", "-o", f"out/lib{NAME}.a"])
-    return 1 if status else 0
+    crates = {it.name: it for it in rt.rtlib.crates_below(str(ROOT))}
+    return 0 if all([build(rt, crates[name]) for name in NAMES]) else 1
 
 
 if __name__ == "__main__":

@@ -1,0 +1,14 @@
+pub mod Settings
+pub mod Sets
+pub mod Asking
+pub mod Layout
+pub mod Turning
+pub mod Sessions
+pub mod Creating
+pub mod Fencing
+pub mod Planning
+pub mod Resuming
+pub mod Opening
+pub mod Writing
+pub mod Data
+pub mod Stepping

@@ -1,0 +1,117 @@
+-- What a reply says of the request that it answers, and of the node that gave it.
+use Rattle.std.proofs.Common.{◌≡◌, ℕ, ⊎_elim, Option, sym, ◌∙◌, subst, ap}
+use Rattle.replica.specs.declared.requests.Request.{Request as SegmentRequest}
+use Rattle.replica.specs.declared.replies.Reply.{Reply as SegmentReply}
+use Rattle.replica.specs.Machine.{IsReply}
+use Rattle.guard.specs.declared.requests.AcceptedCut.{AcceptedCut}
+use Rattle.guard.specs.declared.requests.Request.{Request}
+use Rattle.guard.specs.declared.requests.Request.TheVariants as request
+use Rattle.guard.specs.declared.replies.Reply.TheVariants as reply
+use Rattle.guard.specs.Data.{GuardData}
+use Rattle.guard.specs.Guarding.{IsUnder, NamesNode, IsGuardReply}
+
+-- ---- `fenced`
+fenced_no_name : (g : GuardData) (generation birth : ℕ) (accepted : Option AcceptedCut) → NamesNode g (reply.Fenced generation birth accepted) → ⊥
+fenced_no_name g generation birth accepted names = ⊎_elim
+    (λ member. let no : reply.Fenced generation birth accepted ≡ reply.Stale g.generation = member.1 in absurd (cc))
+    (λ fresh. let no : reply.Fenced generation birth accepted ≡ reply.Fresh g.birth = fresh.1 in absurd (cc))
+    names
+
+same_fenced : (g b h c : ℕ) (a d : Option AcceptedCut) → reply.Fenced g b a ≡ reply.Fenced h c d → (b ≡ c) × (a ≡ d)
+same_fenced g b h c a d same = let one : b ≡ c = cc in let two : a ≡ d = cc in (one, two)
+
+-- the node's birth, and what it had accepted
+pub fenced_says : (old : GuardData) (asked : Request) (generation birth : ℕ) (accepted : Option AcceptedCut) (new : GuardData)
+    → IsGuardReply old asked (reply.Fenced generation birth accepted) new → (birth ≡ old.birth) × (accepted ≡ old.accepted)
+fenced_says old request.Status generation birth accepted new says =
+    let no : reply.Fenced generation birth accepted ≡ reply.Status old.generation old.birth old.is_member says.0 old.accepted = says.2 in absurd (cc)
+fenced_says old (request.Fence g) generation birth accepted new says = ⊎_elim
+    (λ yes. same_fenced generation birth g old.birth accepted old.accepted yes.1)
+    (λ no. absurd (fenced_no_name old generation birth accepted no.1.0))
+    says
+fenced_says old (request.As g b asked) generation birth accepted new says = ⊎_elim
+    (λ no. let clash : reply.Fenced generation birth accepted ≡ reply.Unguarded = no.1 in absurd (cc))
+    (λ may. ⊎_elim
+    (λ yes. let clash : reply.Fenced generation birth accepted ≡ reply.Headed g b yes.3.0 = yes.3.2 in absurd (cc))
+    (λ no. absurd (fenced_no_name old generation birth accepted no.2.0))
+    may)
+    says
+fenced_says old (request.Propose g b cut) generation birth accepted new says = ⊎_elim
+    (λ yes. let clash : reply.Fenced generation birth accepted ≡ reply.Accepted g b cut.epoch = yes.2 in absurd (cc))
+    (λ no. absurd (fenced_no_name old generation birth accepted no.1.0))
+    says
+fenced_says old (request.Admit asked) generation birth accepted new says = ⊎_elim
+    (λ no. let clash : reply.Fenced generation birth accepted ≡ reply.Member = no.1 in absurd (cc))
+    (λ out. ⊎_elim
+    (λ no. let clash : reply.Fenced generation birth accepted ≡ reply.Stranger old.birth = no.2 in absurd (cc))
+    (λ known. ⊎_elim
+    (λ yes. let clash : reply.Fenced generation birth accepted ≡ reply.Admitted asked.generation old.birth = yes.1 in absurd (cc))
+    (λ no. let clash : reply.Fenced generation birth accepted ≡ reply.Behind known.2.0.epoch known.2.0.complete = no.1 in absurd (cc))
+    known.2.2)
+    out)
+    says
+fenced_says old (request.Plain asked) generation birth accepted new says = ⊎_elim
+    (λ no. let clash : reply.Fenced generation birth accepted ≡ reply.Member = no.2 in absurd (cc))
+    (λ yes. let clash : reply.Fenced generation birth accepted ≡ reply.Plain yes.2.0 = yes.2.2 in absurd (cc))
+    says
+
+-- ---- what a replica replied
+headed_no_name : (g : GuardData) (generation birth : ℕ) (told : SegmentReply) → NamesNode g (reply.Headed generation birth told) → ⊥
+headed_no_name g generation birth told names = ⊎_elim
+    (λ member. let no : reply.Headed generation birth told ≡ reply.Stale g.generation = member.1 in absurd (cc))
+    (λ fresh. let no : reply.Headed generation birth told ≡ reply.Fresh g.birth = fresh.1 in absurd (cc))
+    names
+
+-- the request was asked under this generation and birth, which the node was of, and its replica replied so
+pub record IsHeaded (old new : GuardData) (asked : Request) (generation birth : ℕ) (told : SegmentReply) : Type 0 where
+  pub inner : SegmentRequest
+  pub asked_is : asked ≡ request.As generation birth inner
+  pub under : IsUnder old generation birth
+  pub replies : IsReply old.replica inner told new.replica
+
+same_headed : (g b h c : ℕ) (x y : SegmentReply) → reply.Headed g b x ≡ reply.Headed h c y → (g ≡ h) × (b ≡ c) × (x ≡ y)
+same_headed g b h c x y same = let one : g ≡ h = cc in let two : b ≡ c = cc in let three : x ≡ y = cc in (one, two, three)
+
+as_headed : (old new : GuardData) (g b h c : ℕ) (inner : SegmentRequest) (x y : SegmentReply) → IsUnder old h c → IsReply old.replica inner y new.replica
+    → reply.Headed g b x ≡ reply.Headed h c y → IsHeaded old new (request.As h c inner) g b x
+as_headed old new g b h c inner x y under replies same =
+    let parts = same_headed g b h c x y same in record {
+      inner = inner;
+      asked_is = ap (λ (n : ℕ). request.As n c inner) (sym parts.0) ∙ ap (λ (n : ℕ). request.As g n inner) (sym parts.1);
+      under = subst (λ (n : ℕ). IsUnder old n b) (sym parts.0) (subst (λ (n : ℕ). IsUnder old h n) (sym parts.1) under);
+      replies = subst (λ (z : SegmentReply). IsReply old.replica inner z new.replica) (sym parts.2) replies;
+    }
+
+pub headed_says : (old : GuardData) (asked : Request) (generation birth : ℕ) (told : SegmentReply) (new : GuardData)
+    → IsGuardReply old asked (reply.Headed generation birth told) new → IsHeaded old new asked generation birth told
+headed_says old request.Status generation birth told new says =
+    let no : reply.Headed generation birth told ≡ reply.Status old.generation old.birth old.is_member says.0 old.accepted = says.2 in absurd (cc)
+headed_says old (request.Fence g) generation birth told new says = ⊎_elim
+    (λ yes. let clash : reply.Headed generation birth told ≡ reply.Fenced g old.birth old.accepted = yes.1 in absurd (cc))
+    (λ no. absurd (headed_no_name old generation birth told no.1.0))
+    says
+headed_says old (request.As g b asked) generation birth told new says = ⊎_elim
+    (λ no. let clash : reply.Headed generation birth told ≡ reply.Unguarded = no.1 in absurd (cc))
+    (λ may. ⊎_elim
+    (λ yes. as_headed old new generation birth g b asked told yes.3.0 yes.1 yes.3.1 yes.3.2)
+    (λ no. absurd (headed_no_name old generation birth told no.2.0))
+    may)
+    says
+headed_says old (request.Propose g b cut) generation birth told new says = ⊎_elim
+    (λ yes. let clash : reply.Headed generation birth told ≡ reply.Accepted g b cut.epoch = yes.2 in absurd (cc))
+    (λ no. absurd (headed_no_name old generation birth told no.1.0))
+    says
+headed_says old (request.Admit asked) generation birth told new says = ⊎_elim
+    (λ no. let clash : reply.Headed generation birth told ≡ reply.Member = no.1 in absurd (cc))
+    (λ out. ⊎_elim
+    (λ no. let clash : reply.Headed generation birth told ≡ reply.Stranger old.birth = no.2 in absurd (cc))
+    (λ known. ⊎_elim
+    (λ yes. let clash : reply.Headed generation birth told ≡ reply.Admitted asked.generation old.birth = yes.1 in absurd (cc))
+    (λ no. let clash : reply.Headed generation birth told ≡ reply.Behind known.2.0.epoch known.2.0.complete = no.1 in absurd (cc))
+    known.2.2)
+    out)
+    says
+headed_says old (request.Plain asked) generation birth told new says = ⊎_elim
+    (λ no. let clash : reply.Headed generation birth told ≡ reply.Member = no.2 in absurd (cc))
+    (λ yes. let clash : reply.Headed generation birth told ≡ reply.Plain yes.2.0 = yes.2.2 in absurd (cc))
+    says

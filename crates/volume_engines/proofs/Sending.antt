@@ -1,0 +1,134 @@
+-- What an engine may have sent.
+use Rattle.std.proofs.Common.{◌≡◌, ℕ, zero, suc, ◌+◌, ◌≤◌, List, [], ◌∷◌, ◌++◌, map, Option, Some, None}
+use Rattle.std.specs.List.{AllByRecursion}
+use Rattle.redo_core.specs.Data.{CutData}
+use Rattle.messages.specs.Summaries.{SummaryData}
+use Rattle.replica.specs.declared.requests.Request.{Request as SegmentRequest}
+use Rattle.replica.specs.declared.requests.Request.TheVariants as segment
+use Rattle.guard.specs.declared.requests.Request.{Request}
+use Rattle.guard.specs.declared.requests.Request.TheVariants as request
+use Rattle.volume.specs.declared.actions.Action.{Action}
+use Rattle.volume.specs.declared.actions.Action.TheVariants.{Ask}
+use Rattle.volume.specs.declared.errands.Errand.{Errand}
+use Rattle.volume.specs.declared.errands.Errand.TheVariants as errand
+use Rattle.volume.specs.declared.errands.Query.{Query}
+use Rattle.volume.specs.declared.errands.Query.TheVariants as query
+use Rattle.volume.specs.Asking.{requests_of, asks_of, asks_from, asks_at, request_of_query, queries_from, query_to}
+use Rattle.volume_theorems.specs.Runs.{VolumeRun}
+use Rattle.volume_theorems.specs.Opening.{HasAsked}
+use Rattle.volume_theorems.specs.Proposing.{MayPropose}
+
+-- ---- what holds of each request that engine e sends at the moment t
+abbrev pub IsOwnProposal : VolumeRun → ℕ → ℕ → CutData → Type 0
+IsOwnProposal run e t cut = ((run.engines e).cuts cut.epoch ≡ cut) × MayPropose run e cut.epoch t
+
+-- what a node has beyond a summary is asked with one of these summaries, once a quorum is gathered; a front, once all
+-- of it have answered that; and nothing else is asked but to take facts
+abbrev pub RightUnder : VolumeRun → ℕ → (SummaryData → Type 0) → ℕ → SegmentRequest → Type 0
+RightUnder run e Q t (segment.Answer summary) = Q summary × ((run.engines e).gathered ≤ t)
+RightUnder run e Q t segment.Front = HasAsked run e t
+RightUnder run e Q t (segment.Take fact) = Unit {0}
+RightUnder run e Q t segment.Ask = Unit {0}
+RightUnder run e Q t (segment.Absorb summary delta) = Unit {0}
+RightUnder run e Q t asked = ⊥
+
+abbrev pub Right : VolumeRun → ℕ → (SummaryData → Type 0) → ℕ → Request → Type 0
+Right run e Q t (request.As generation birth asked) = RightUnder run e Q t asked
+Right run e Q t (request.Propose generation birth cut) = IsOwnProposal run e t cut
+Right run e Q t asked = Unit {0}
+
+abbrev pub RightAction : VolumeRun → ℕ → (SummaryData → Type 0) → ℕ → Action → Type 0
+RightAction run e Q t (Ask node asked) = Right run e Q t asked
+RightAction run e Q t other = Unit {0}
+
+abbrev pub AllRight : VolumeRun → ℕ → (SummaryData → Type 0) → ℕ → List Action → Type 0
+AllRight run e Q t actions = AllByRecursion (RightAction run e Q t) actions
+
+abbrev pub RightErrand : VolumeRun → ℕ → (SummaryData → Type 0) → ℕ → Errand → Type 0
+RightErrand run e Q t (errand.Pull summary) = Q summary × ((run.engines e).gathered ≤ t)
+RightErrand run e Q t (errand.Push summary delta) = HasAsked run e t
+RightErrand run e Q t (errand.Propose cut) = IsOwnProposal run e t cut
+RightErrand run e Q t (errand.Begin cut) = HasAsked run e t
+RightErrand run e Q t (errand.Close redo) = HasAsked run e t
+RightErrand run e Q t errand.Report = HasAsked run e t
+RightErrand run e Q t other = Unit {0}
+
+-- ---- other summaries
+under_wider : (run : VolumeRun) (e : ℕ) (Q R : SummaryData → Type 0) (t : ℕ) → ((s : SummaryData) → Q s → R s) → (asked : SegmentRequest)
+    → RightUnder run e Q t asked → RightUnder run e R t asked
+under_wider run e Q R t wider (segment.Answer summary) is = (wider summary is.0, is.1)
+under_wider run e Q R t wider segment.Front is = is
+under_wider run e Q R t wider (segment.Take fact) is = is
+under_wider run e Q R t wider segment.Ask is = is
+under_wider run e Q R t wider (segment.Absorb summary delta) is = is
+under_wider run e Q R t wider asked is = absurd is
+
+right_wider : (run : VolumeRun) (e : ℕ) (Q R : SummaryData → Type 0) (t : ℕ) → ((s : SummaryData) → Q s → R s) → (asked : Request)
+    → Right run e Q t asked → Right run e R t asked
+right_wider run e Q R t wider (request.As generation birth asked) is = under_wider run e Q R t wider asked is
+right_wider run e Q R t wider (request.Propose generation birth cut) is = is
+right_wider run e Q R t wider asked is = tt
+
+action_wider : (run : VolumeRun) (e : ℕ) (Q R : SummaryData → Type 0) (t : ℕ) → ((s : SummaryData) → Q s → R s) → (a : Action)
+    → RightAction run e Q t a → RightAction run e R t a
+action_wider run e Q R t wider (Ask node asked) is = right_wider run e Q R t wider asked is
+action_wider run e Q R t wider other is = tt
+
+pub all_wider : (run : VolumeRun) (e : ℕ) (Q R : SummaryData → Type 0) (t : ℕ) → ((s : SummaryData) → Q s → R s) → (actions : List Action)
+    → AllRight run e Q t actions → AllRight run e R t actions
+all_wider run e Q R t wider [] all = tt
+all_wider run e Q R t wider (a ∷ actions) all = (action_wider run e Q R t wider a all.0, all_wider run e Q R t wider actions all.1)
+
+-- ---- lists of requests
+pub all_append : {X : Type 0} (P : X → Type 0) (xs ys : List X) → AllByRecursion P xs → AllByRecursion P ys → AllByRecursion P (xs ++ ys)
+all_append P [] ys one two = two
+all_append P (x ∷ xs) ys one two = (one.0, all_append P xs ys one.1 two)
+
+requests_right : (run : VolumeRun) (e : ℕ) (Q : SummaryData → Type 0) (t generation birth : ℕ) (er : Errand) → RightErrand run e Q t er
+    → AllByRecursion (Right run e Q t) (requests_of generation birth er)
+requests_right run e Q t generation birth (errand.Pull summary) is = (is, tt)
+requests_right run e Q t generation birth errand.Ask is = (tt, tt)
+requests_right run e Q t generation birth (errand.Push summary delta) is = (tt, (is, tt))
+requests_right run e Q t generation birth (errand.Propose cut) is = (is, tt)
+requests_right run e Q t generation birth (errand.Begin cut) is = (tt, (is, tt))
+requests_right run e Q t generation birth (errand.Store redo) is = (tt, tt)
+requests_right run e Q t generation birth (errand.Close redo) is = (tt, (is, tt))
+requests_right run e Q t generation birth (errand.Raise advance) is = (tt, tt)
+requests_right run e Q t generation birth errand.Report is = (is, tt)
+requests_right run e Q t generation birth errand.Found is = (tt, tt)
+requests_right run e Q t generation birth (errand.Join summary delta joining) is = (tt, (tt, tt))
+
+sent_to : (run : VolumeRun) (e : ℕ) (Q : SummaryData → Type 0) (t node : ℕ) (rs : List Request) → AllByRecursion (Right run e Q t) rs
+    → AllRight run e Q t (map (λ r. Ask node r) rs)
+sent_to run e Q t node [] all = tt
+sent_to run e Q t node (r ∷ rs) all = (all.0, sent_to run e Q t node rs all.1)
+
+pub to_node : (run : VolumeRun) (e : ℕ) (Q : SummaryData → Type 0) (t node generation birth : ℕ) (er : Errand) → RightErrand run e Q t er
+    → AllRight run e Q t (asks_of node generation birth er)
+to_node run e Q t node generation birth er is =
+    sent_to run e Q t node (requests_of generation birth er) (requests_right run e Q t generation birth er is)
+
+pub to_each : (run : VolumeRun) (e : ℕ) (Q : SummaryData → Type 0) (t node generation : ℕ) (births : List (Option ℕ)) (er : Errand)
+    → RightErrand run e Q t er → AllRight run e Q t (asks_from generation er node births)
+to_each run e Q t node generation [] er is = tt
+to_each run e Q t node generation (None ∷ births) er is = to_each run e Q t (node + 1) generation births er is
+to_each run e Q t node generation (Some birth ∷ births) er is =
+    all_append (RightAction run e Q t) (asks_of node generation birth er) (asks_from generation er (node + 1) births)
+    (to_node run e Q t node generation birth er is) (to_each run e Q t (node + 1) generation births er is)
+
+pub to_one : (run : VolumeRun) (e : ℕ) (Q : SummaryData → Type 0) (t node generation : ℕ) (birth : Option ℕ) (er : Errand)
+    → RightErrand run e Q t er → AllRight run e Q t (asks_at generation er node birth)
+to_one run e Q t node generation None er is = tt
+to_one run e Q t node generation (Some birth) er is = to_node run e Q t node generation birth er is
+
+-- ---- queries
+query_right : (run : VolumeRun) (e : ℕ) (Q : SummaryData → Type 0) (t : ℕ) (q : Query) → Right run e Q t (request_of_query q)
+query_right run e Q t query.Status = tt
+query_right run e Q t (query.Fence generation) = tt
+
+pub query_one : (run : VolumeRun) (e : ℕ) (Q : SummaryData → Type 0) (t node : ℕ) (q : Query) → AllRight run e Q t (query_to q node)
+query_one run e Q t node q = (query_right run e Q t q, tt)
+
+pub queries_each : (run : VolumeRun) (e : ℕ) (Q : SummaryData → Type 0) (t node count : ℕ) (q : Query) → AllRight run e Q t (queries_from q node count)
+queries_each run e Q t node zero q = tt
+queries_each run e Q t node (suc count) q = (query_right run e Q t q, queries_each run e Q t (node + 1) count q)

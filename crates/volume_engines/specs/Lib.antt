@@ -1,0 +1,4 @@
+pub mod Lives
+pub mod World
+pub mod Engines
+pub mod Proposals

@@ -1,0 +1,9 @@
+pub mod ActionFrames
+pub mod Answering
+pub mod Calling
+pub mod Carried
+pub mod CommandLine
+pub mod EventFrames
+pub mod ReplyFrames
+pub mod RequestFrames
+pub mod Words
