@@ -1,9 +1,14 @@
 # `make help` lists the targets.
+.DEFAULT_GOAL = build
 PYTEST = /usr/bin/python3 -m pytest
 TASK ?= run
 INPUT ?= examples/first.txt
+ARCHIVES = crates/node_c/out/libnode_c.a crates/volume_c/out/libvolume_c.a
 
-.PHONY: build help try test bench prove pictures dist
+$(ARCHIVES) &:
+	tools/build.py node_c volume_c
+
+.PHONY: build help try sqlite test bench prove pictures dist
 
 build: ## prove and build fleet and fleet-node (half an hour or more from nothing)
 	tools/build.py fleet fleet_node
@@ -13,6 +18,11 @@ help: ## this page
 
 try: ## run an example without proofs: make try TASK=run|check|inspect|node INPUT=FILE
 	@tools/try.sh $(TASK) $(INPUT)
+
+sqlite: $(ARCHIVES) ## SQLite's shell over six storage servers in a folder; sqlite/demo --help shows more
+	cd store && cargo build --quiet --release --offline --locked
+	$(MAKE) -s -C sqlite
+	sqlite/demo
 
 test: build ## every test from outside; builds what is missing
 	$(PYTEST) tests

@@ -222,8 +222,8 @@ int database_open(const char *name, struct database *database, int flags, int *o
     int code = read_address(name, &database->address, &database->report);
     if (code) return code;
     bool is_read_only = database->address.is_read_only || flags & SQLITE_OPEN_READONLY;
-    bool may_create = !is_read_only && flags & SQLITE_OPEN_CREATE;
-    code = engine_open(name, &database->address, may_create, &database->engine, &database->report);
+    struct rights rights = {.may_write = !is_read_only, .may_create = !is_read_only && flags & SQLITE_OPEN_CREATE};
+    code = engine_open(name, &database->address, rights, &database->engine, &database->report);
     if (code) return code;
     turn_join(database->engine, &database->member);
     if (out_flags && is_read_only) *out_flags = (flags & ~(SQLITE_OPEN_READWRITE | SQLITE_OPEN_CREATE)) | SQLITE_OPEN_READONLY;

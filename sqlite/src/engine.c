@@ -7,7 +7,8 @@ static struct engine *engines; /* guarded by the mutex that SQLite has for appli
 
 static sqlite3_mutex *list_mutex(void) { return sqlite3_mutex_alloc(SQLITE_MUTEX_STATIC_APP1); }
 
-struct handle *handle_of(struct yieldcleat_volume *volume) {
+/* Makes a handle out of an open volume, or closes the volume and returns null: there is no memory. */
+static struct handle *handle_of(struct yieldcleat_volume *volume) {
     struct handle *handle = sqlite3_malloc64(sizeof *handle);
     if (handle) *handle = (struct handle){.volume = volume};
     if (!handle) yieldcleat_volume_close(volume);
@@ -63,24 +64,90 @@ void engine_lose_writer(struct engine *engine, const struct handle *handle, enum
     sqlite3_mutex_leave(engine->mutex);
 }
 
+/* ---- opening for writing */
+
+static enum yieldcleat_fault open_writer(const struct engine *engine, bool may_create, struct handle **handle, uint64_t *point) {
+    struct yieldcleat_options options = engine->options;
+    struct yieldcleat_volume *volume = 0;
+    options.may_create = may_create;
+    enum yieldcleat_fault fault = yieldcleat_volume_open_writer(engine->place, &options, &volume);
+    if (!fault) fault = yieldcleat_volume_newest(volume, point);
+    if (fault) yieldcleat_volume_close(volume);
+    else *handle = handle_of(volume);
+    return !fault && !*handle ? YIELDCLEAT_NO_MEMORY : fault;
+}
+
+static void put_writer(struct engine *engine, struct handle *handle, uint64_t point) {
+    sqlite3_mutex_enter(engine->mutex);
+    engine->writer = handle;
+    engine->published = point;
+    sqlite3_mutex_leave(engine->mutex);
+}
+
+enum yieldcleat_fault engine_open_writer(struct engine *engine) {
+    struct handle *handle = 0;
+    uint64_t point = 0;
+    enum yieldcleat_fault fault = YIELDCLEAT_OK;
+    sqlite3_mutex_enter(engine->opening);
+    sqlite3_mutex_enter(engine->mutex);
+    bool has_writer = engine->writer; /* since another thread was quicker */
+    sqlite3_mutex_leave(engine->mutex);
+    if (!has_writer) fault = open_writer(engine, false, &handle, &point);
+    if (handle) put_writer(engine, handle, point);
+    sqlite3_mutex_leave(engine->opening);
+    return fault;
+}
+
+bool is_unproved(enum yieldcleat_fault fault) {
+    struct yieldcleat_error error;
+    if (fault != YIELDCLEAT_NO_QUORUM) return false;
+    yieldcleat_volume_last_error(&error);
+    return error.have >= error.need;
+}
+
+/* ---- engines */
+
 static void free_engine(struct engine *engine) {
-    if (engine->writer) yieldcleat_volume_wait(engine->writer->volume, engine->published, 0); /* what synchronous=OFF did not wait for */
     retire(&engine->writer);
     retire(&engine->reader);
+    sqlite3_mutex_free(engine->opening);
     sqlite3_mutex_free(engine->mutex);
     sqlite3_free(engine->place);
     sqlite3_free(engine);
 }
 
+/* Waits for what synchronous=OFF did not wait for. */
+static void settle(struct engine *engine) {
+    struct handle *handle = engine_borrow_writer(engine);
+    if (!handle) return;
+    sqlite3_mutex_enter(engine->mutex);
+    uint64_t point = engine->published;
+    sqlite3_mutex_leave(engine->mutex);
+    enum yieldcleat_fault fault = yieldcleat_volume_wait(handle->volume, point, 0);
+    if (fault) engine_lose_writer(engine, handle, fault);
+    engine_return(engine, handle, YIELDCLEAT_OK);
+}
+
+static void unlink_engine(const struct engine *engine) {
+    struct engine **link = &engines;
+    while (*link != engine) link = &(*link)->next;
+    *link = engine->next;
+}
+
 void engine_close(struct engine *engine) {
     if (!engine) return;
     sqlite3_mutex_enter(list_mutex());
-    bool is_last = --engine->connections == 0;
-    struct engine **link = &engines;
-    while (*link != engine) link = &(*link)->next;
-    if (is_last) *link = engine->next;
+    bool is_last = engine->connections == 1;
     sqlite3_mutex_leave(list_mutex());
-    if (is_last) free_engine(engine);
+    if (is_last) settle(engine);
+    sqlite3_mutex_enter(list_mutex());
+    sqlite3_mutex_enter(engine->mutex);
+    engine->is_idle = --engine->connections == 0;
+    bool ends = engine->is_idle && !engine->writer;
+    sqlite3_mutex_leave(engine->mutex);
+    if (ends) unlink_engine(engine);
+    sqlite3_mutex_leave(list_mutex());
+    if (ends) free_engine(engine);
 }
 
 static struct engine *make_engine(const char *place, const struct address *address) {
@@ -89,7 +156,9 @@ static struct engine *make_engine(const char *place, const struct address *addre
     *engine = (struct engine){.point = address->point, .options.milliseconds = address->milliseconds};
     engine->place = sqlite3_mprintf("%s", place);
     engine->mutex = sqlite3_mutex_alloc(SQLITE_MUTEX_FAST);
-    if (engine->place && engine->mutex) return engine;
+    engine->opening = sqlite3_mutex_alloc(SQLITE_MUTEX_FAST);
+    if (engine->place && engine->mutex && engine->opening) return engine;
+    sqlite3_mutex_free(engine->opening);
     sqlite3_mutex_free(engine->mutex);
     sqlite3_free(engine->place);
     sqlite3_free(engine);
@@ -110,35 +179,41 @@ static struct engine *find_engine(const char *place, const struct address *addre
     return engine;
 }
 
-/* Makes the volume where there is none: whoever does so is its writer from then on. */
-static enum yieldcleat_fault create(struct engine *engine) {
-    struct yieldcleat_options options = engine->options;
+static enum yieldcleat_fault open_for_reading(struct engine *engine) {
     struct yieldcleat_volume *volume = 0;
-    options.may_create = true;
-    enum yieldcleat_fault fault = yieldcleat_volume_open_writer(engine->place, &options, &volume);
-    if (!fault) fault = yieldcleat_volume_newest(volume, &engine->published);
-    if (!fault && !(engine->writer = handle_of(volume))) return YIELDCLEAT_NO_MEMORY;
-    if (fault) yieldcleat_volume_close(volume);
-    return fault;
-}
-
-static enum yieldcleat_fault open_reader(struct engine *engine, bool may_create) {
-    struct yieldcleat_volume *volume = 0;
-    if (engine->reader) return YIELDCLEAT_OK;
     enum yieldcleat_fault fault = yieldcleat_volume_open_reader(engine->place, &engine->options, engine->point, &volume);
-    if (fault == YIELDCLEAT_NOT_FOUND && may_create) {
-        fault = create(engine);
-        if (!fault) fault = yieldcleat_volume_open_reader(engine->place, &engine->options, engine->point, &volume);
-    }
     if (!fault && !(engine->reader = handle_of(volume))) return YIELDCLEAT_NO_MEMORY;
     return fault;
 }
 
-int engine_open(const char *place, const struct address *address, bool may_create, struct engine **engine, struct report *report) {
+/* Opens a handle that reads. The volume is opened for writing before where there is none yet, or where it has to be recovered. */
+static enum yieldcleat_fault open_reader(struct engine *engine, struct rights rights) {
+    enum yieldcleat_fault fault = open_for_reading(engine);
+    bool is_missing = fault == YIELDCLEAT_NOT_FOUND && rights.may_create;
+    bool is_open_half = rights.may_write && engine->point == YIELDCLEAT_FOLLOW && is_unproved(fault);
+    if (!is_missing && !is_open_half) return fault;
+    fault = open_writer(engine, rights.may_create, &engine->writer, &engine->published);
+    return fault ? fault : open_for_reading(engine);
+}
+
+/* Whether the writer that was left by an earlier connection is still the volume's; else it is given up. */
+static void check_writer(struct engine *engine, const struct address *address) {
+    uint64_t point = 0;
+    bool is_same = engine->options.milliseconds == address->milliseconds;
+    if (engine->writer && (!is_same || yieldcleat_volume_newest(engine->writer->volume, &point))) retire(&engine->writer);
+    if (!is_same) retire(&engine->reader);
+    engine->options.milliseconds = address->milliseconds;
+    engine->is_idle = engine->may_write = false;
+}
+
+int engine_open(const char *place, const struct address *address, struct rights rights, struct engine **engine, struct report *report) {
     struct engine *found = find_engine(place, address);
+    enum yieldcleat_fault fault = YIELDCLEAT_OK;
     if (!found) return refuse(report, SQLITE_NOMEM, "open: out of memory");
     sqlite3_mutex_enter(found->mutex);
-    enum yieldcleat_fault fault = open_reader(found, may_create);
+    if (found->is_idle) check_writer(found, address);
+    if (!found->reader) fault = open_reader(found, rights);
+    found->may_write |= rights.may_write && !fault;
     sqlite3_mutex_leave(found->mutex);
     if (!fault) {
         *engine = found;

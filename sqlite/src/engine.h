@@ -1,4 +1,5 @@
-/* What the connections of a process to one volume share: a handle that reads, one that writes while somebody does, and whose turn it is. */
+/* What the connections of a process to one volume share: a handle that reads, one that writes, and whose turn it is. A writer stays after
+ * the last connection, for the next one of the process: each opening for writing spends epochs. */
 #ifndef ENGINE_H
 #define ENGINE_H
 
@@ -27,7 +28,10 @@ struct engine {
     uint64_t point; /* of the past, or YIELDCLEAT_FOLLOW */
     unsigned connections;
     struct yieldcleat_options options;
-    sqlite3_mutex *mutex; /* guards all below */
+    sqlite3_mutex *opening; /* held while a writer is opened, and never together with */
+    sqlite3_mutex *mutex;   /* which guards all below */
+    bool may_write;       /* some connection may; and */
+    bool is_idle;         /* there was none just now */
     struct handle *reader, *writer;
     struct member *members;
     const struct member *owner; /* who is in a write transaction */
@@ -35,10 +39,15 @@ struct engine {
     unsigned losses, fences;    /* writers that were lost, and those of them that were fenced */
 };
 
-/* The engine of a volume, made and opened where the process has none yet; the parameters of the first connection count. */
-int engine_open(const char *place, const struct address *address, bool may_create, struct engine **engine, struct report *report);
+/* What a connection may do to the volume. */
+struct rights {
+    bool may_write, may_create;
+};
 
-/* Gives an engine back; the last connection closes its handles. Null is allowed. */
+/* The engine of a volume, made and opened where the process has none yet; the parameters of the first connection count. */
+int engine_open(const char *place, const struct address *address, struct rights rights, struct engine **engine, struct report *report);
+
+/* Gives an engine back; the last connection closes its handles, unless one of them writes. Null is allowed. */
 void engine_close(struct engine *engine);
 
 /* The writer where there is one, or else the reader, for a call of the volume. */
@@ -53,7 +62,11 @@ bool engine_return(struct engine *engine, struct handle *handle, enum yieldcleat
 /* Gives up the writer: it is fenced, or a commit of it is in doubt. */
 void engine_lose_writer(struct engine *engine, const struct handle *handle, enum yieldcleat_fault fault);
 
-/* Makes a handle out of an open volume, or closes the volume and returns null: there is no memory. */
-struct handle *handle_of(struct yieldcleat_volume *volume);
+/* Opens the volume for writing where the process has no writer. */
+enum yieldcleat_fault engine_open_writer(struct engine *engine);
+
+/* Whether a fault of reading says that enough nodes answer, and no durable commit can be proved: an engine has died while it opened the
+ * volume. Another opening for writing ends that. */
+bool is_unproved(enum yieldcleat_fault fault);
 
 #endif

@@ -16,13 +16,23 @@ void turn_leave(struct engine *engine, struct member *member) {
     sqlite3_mutex_leave(engine->mutex);
 }
 
-enum yieldcleat_fault turn_newest(struct engine *engine, uint64_t *point) {
+static enum yieldcleat_fault ask_newest(struct engine *engine, uint64_t *point) {
     struct handle *handle = 0;
     enum yieldcleat_fault fault = YIELDCLEAT_OK;
     do {
         handle = engine_borrow(engine);
         fault = yieldcleat_volume_newest(handle->volume, point);
     } while (engine_return(engine, handle, fault));
+    return fault;
+}
+
+enum yieldcleat_fault turn_newest(struct engine *engine, uint64_t *point) {
+    enum yieldcleat_fault fault = ask_newest(engine, point);
+    sqlite3_mutex_enter(engine->mutex);
+    bool may_recover = engine->may_write && !engine->writer && is_unproved(fault);
+    sqlite3_mutex_leave(engine->mutex);
+    if (may_recover) fault = engine_open_writer(engine);
+    if (may_recover && !fault) fault = ask_newest(engine, point);
     if (fault) return fault;
     sqlite3_mutex_enter(engine->mutex);
     if (engine->writer && engine->published > *point) *point = engine->published;
@@ -104,24 +114,6 @@ static int claim(struct engine *engine, const struct member *member, bool *has_w
     return is_free ? SQLITE_OK : SQLITE_BUSY;
 }
 
-static enum yieldcleat_fault open_writer(struct engine *engine) {
-    struct yieldcleat_volume *volume = 0;
-    uint64_t point = 0;
-    enum yieldcleat_fault fault = yieldcleat_volume_open_writer(engine->place, &engine->options, &volume);
-    if (!fault) fault = yieldcleat_volume_newest(volume, &point);
-    if (fault) {
-        yieldcleat_volume_close(volume);
-        return fault;
-    }
-    struct handle *handle = handle_of(volume);
-    if (!handle) return YIELDCLEAT_NO_MEMORY;
-    sqlite3_mutex_enter(engine->mutex);
-    engine->writer = handle;
-    engine->published = point;
-    sqlite3_mutex_leave(engine->mutex);
-    return YIELDCLEAT_OK;
-}
-
 static bool is_newest(struct engine *engine, const struct member *member) {
     sqlite3_mutex_enter(engine->mutex);
     bool is = engine->published == member->point;
@@ -136,7 +128,7 @@ int turn_write(struct engine *engine, struct member *member, struct report *repo
         return refuse(report, code, "lock for writing: another engine has opened the volume; open the database again to write");
     }
     if (code) return code;
-    enum yieldcleat_fault fault = has_writer ? YIELDCLEAT_OK : open_writer(engine);
+    enum yieldcleat_fault fault = has_writer ? YIELDCLEAT_OK : engine_open_writer(engine);
     if (fault) {
         give_up(engine);
         return refuse_fault(report, LOCKING, fault);

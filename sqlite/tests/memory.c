@@ -5,7 +5,6 @@
 #include <sqlite3.h>
 #include <stdio.h>
 #include <stdlib.h>
-#include <unistd.h>
 
 enum { TRANSACTIONS = 4 };
 
@@ -54,8 +53,9 @@ static int number(sqlite3 *connection, const char *sql) {
 }
 
 /* Whether the load ended before an allocation could fail. */
-static int round_of(const char *uri, const char *path, long place) {
-    unlink(path);
+static int round_of(const char *folder, long place) {
+    char uri[4096];
+    snprintf(uri, sizeof uri, "file:%s/database%ld?vfs=yieldcleat", folder, place);
     sqlite3 *connection = connect(uri);
     if (!connection || sqlite3_exec(connection, "create table t(a integer primary key, b)", 0, 0, 0)) stop("no table", place, connection);
     sqlite3_close(connection);
@@ -73,7 +73,6 @@ static int round_of(const char *uri, const char *path, long place) {
 }
 
 int main(int count, char **words) {
-    char path[2048], uri[4096];
     sqlite3_mem_methods failing;
     sqlite3 *connection = 0;
     if (count != 4) return 2;
@@ -82,14 +81,12 @@ int main(int count, char **words) {
     failing.xMalloc = failing_malloc;
     failing.xRealloc = failing_realloc;
     sqlite3_config(SQLITE_CONFIG_MALLOC, &failing);
-    snprintf(path, sizeof path, "%s/database", words[2]);
-    snprintf(uri, sizeof uri, "file:%s?vfs=yieldcleat", path);
     sqlite3_open(":memory:", &connection);
     sqlite3_enable_load_extension(connection, 1);
     if (sqlite3_load_extension(connection, words[1], 0, 0) != SQLITE_OK) stop("no extension", 0, connection);
     sqlite3_close(connection);
     long place = 1, step = strtol(words[3], 0, 10);
-    while (!round_of(uri, path, place)) place += step;
+    while (!round_of(words[2], place)) place += step;
     printf("all as expected, up to allocation %ld\n", place);
     return 0;
 }

@@ -1,7 +1,7 @@
 //! Which requests of a client reach the segment and its guard.
 //!
 //! The guard itself, which decides what it answers which engine, is in the archive. Here a client is kept from replacing the segment of a
-//! node that is no member yet, and each delta gets a bound.
+//! node that is no member yet, and each delta of gossip gets a bound. An engine that opens a volume needs all that a node has at once.
 
 use yieldcleat_client::{frames, requests};
 
@@ -20,14 +20,14 @@ pub enum Verdict {
 /// Requests that put another segment in place of the segment, and so forget facts that were acknowledged.
 const REPLACING: [&[u8]; 2] = [b"open", b"finish"];
 
-/// Judges a request. A delta has at most `most` bytes, whoever asks for it.
+/// Judges a request. A delta has at most `most` bytes where it is asked for under no generation.
 pub fn judge(request: Vec<u8>, most: u32) -> Verdict {
     match requests::word(&request) {
         b"report" => Verdict::Report,
         b"metrics" => Verdict::Metrics,
         b"many" => judge_many(request, most),
         word if REPLACING.contains(&word) => Verdict::Answer(b"not allowed".to_vec()),
-        b"answer" | b"within" | b"as" => Verdict::Ask(bounded(&request, most).unwrap_or(request)),
+        b"answer" | b"within" => Verdict::Ask(bounded(&request, most).unwrap_or(request)),
         _ => Verdict::Ask(request),
     }
 }
@@ -47,14 +47,8 @@ fn judge_many(request: Vec<u8>, most: u32) -> Verdict {
     requests::many(asked).map_or_else(|_| Verdict::Answer(b"long frame".to_vec()), Verdict::Ask)
 }
 
-/// The request for a delta with a limit; nothing where the segment will find its form bad.
+/// The request for a delta with a limit; nothing where the segment will find its form bad, or an engine asks under its generation.
 fn bounded(request: &[u8], most: u32) -> Option<Vec<u8>> {
-    let (heading, asked) = requests::heading(request);
-    Some([heading, &bounded_alone(asked, most)?].concat())
-}
-
-/// The same for what is asked under no generation.
-fn bounded_alone(request: &[u8], most: u32) -> Option<Vec<u8>> {
     if let Some(summary) = request.strip_prefix(b"answer ") {
         return Some(requests::within(summary, most));
     }
@@ -91,7 +85,7 @@ mod tests {
         let ask = |request: &[u8]| Verdict::Ask(request.to_vec());
         assert_eq!(judged(b"answer \x10 \0"), ask(b"within 100 \x10 \0"));
         assert_eq!(judged(b"within 101 \x10 \0"), ask(b"within 100 \x10 \0"));
-        assert_eq!(judged(b"as 3 7 answer \x10 \0"), ask(b"as 3 7 within 100 \x10 \0"));
+        assert_eq!(judged(b"as 3 7 answer \x10 \0"), ask(b"as 3 7 answer \x10 \0"));
         assert_eq!(judged(b"as 3 7 take \x03"), ask(b"as 3 7 take \x03"));
         let many = requests::many([&b"front"[..], b"answer \x10", b"within 99 \x10"]).unwrap();
         let limited = requests::many([&b"front"[..], b"within 100 \x10", b"within 99 \x10"]).unwrap();

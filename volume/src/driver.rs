@@ -55,8 +55,8 @@ impl Peer {
     }
 }
 
-/// How long an opening waits for further nodes when some are fenced: it may admit a fresh node only if that has answered before a quorum is.
-const GRACE: Duration = Duration::from_millis(100);
+/// How long an opening goes on when a node is gone that had answered it. It may be one that the opening waits for: then another one begins.
+const WITHOUT: Duration = Duration::from_millis(500);
 
 /// An answer that the machine has not been told.
 struct Held {
@@ -85,7 +85,9 @@ pub struct Driver<M> {
     /// Until when the answers of nodes that are fenced are held back, and these answers.
     grace: Option<Instant>,
     held: Vec<Held>,
-    remind: Duration,
+    /// When an opening that has lost a node is given up.
+    given_up: Option<Instant>,
+    options: Options,
     most_pending: usize,
 }
 
@@ -101,7 +103,8 @@ impl<M: Machine> Driver<M> {
             opening: None,
             grace: None,
             held: Vec::new(),
-            remind: options.remind,
+            given_up: None,
+            options: options.clone(),
             most_pending,
         }
     }
@@ -109,13 +112,14 @@ impl<M: Machine> Driver<M> {
     /// Steps the machine until the volume is closed.
     pub fn run(mut self, inputs: &Receiver<Input>) {
         loop {
-            match inputs.recv_timeout(self.remind) {
+            match inputs.recv_timeout(self.options.remind) {
                 Ok(Input::Heard(heard)) => self.hear(heard),
                 Ok(Input::Call(call)) => self.carry_out(call),
                 Err(RecvTimeoutError::Timeout) => {}
                 Ok(Input::Close) | Err(RecvTimeoutError::Disconnected) => break,
             }
             self.release_held();
+            self.give_up_opening();
             self.remind_idle();
         }
         self.progress.fail(VolumeError::Closed);
@@ -125,12 +129,16 @@ impl<M: Machine> Driver<M> {
         match heard {
             Heard::Up { node, queue } => {
                 self.peers[usize::from(node)] = Peer { queue: Some(queue), ..Peer::new() };
-                self.report_answering();
+                self.report_reached();
                 self.notice(Event::Failed { node });
             }
             Heard::Down { node } => {
+                let had_answered = self.peers[usize::from(node)].is_answering;
                 self.peers[usize::from(node)] = Peer::new();
-                self.report_answering();
+                self.report_reached();
+                if had_answered && self.opening.is_some() {
+                    self.given_up.get_or_insert(Instant::now() + WITHOUT);
+                }
             }
             Heard::Answered { node, request, answer } => {
                 let peer = &mut self.peers[usize::from(node)];
@@ -138,7 +146,7 @@ impl<M: Machine> Driver<M> {
                 peer.active = Instant::now();
                 if !peer.is_answering {
                     peer.is_answering = true;
-                    self.report_answering();
+                    self.report_reached();
                 }
                 match self.grace.is_some() && answer.starts_with(b"fenced ") {
                     true => self.held.push(Held { node, request, answer }),
@@ -159,8 +167,17 @@ impl<M: Machine> Driver<M> {
         }
     }
 
-    fn report_answering(&self) {
-        self.progress.answering(self.peers.iter().filter(|peer| peer.is_answering).count());
+    /// Ends an opening that has lost a node and has not gone on without it: the machine waits for each node of the quorum that it has fenced.
+    fn give_up_opening(&mut self) {
+        if self.given_up.is_some_and(|end| Instant::now() >= end) {
+            let have = self.peers.iter().filter(|peer| peer.is_answering).count() as u8;
+            self.end_opening(Err(Fault::NoQuorum { have, need: self.options.quorum }.into()));
+        }
+    }
+
+    fn report_reached(&self) {
+        let count = |is: fn(&Peer) -> bool| self.peers.iter().filter(|peer| is(peer)).count();
+        self.progress.reached(count(|peer| peer.queue.is_some()), count(|peer| peer.is_answering));
     }
 
     /// A step that no caller waits for. Without memory it counts as not having come, as if a message were lost.
@@ -180,6 +197,7 @@ impl<M: Machine> Driver<M> {
     }
 
     fn end_opening(&mut self, ended: Result<(), VolumeError>) {
+        self.given_up = None;
         if let Some(done) = self.opening.take() {
             // A caller that has given up does not listen.
             let _ = done.send(ended);
@@ -216,7 +234,8 @@ impl<M: Machine> Driver<M> {
             Call::Open { generation, done } => {
                 self.generation = generation;
                 self.held.clear();
-                self.grace = Some(Instant::now() + GRACE);
+                self.given_up = None;
+                self.grace = Some(Instant::now() + self.options.grace);
                 self.begin(Event::Open { generation }, done);
             }
             Call::Commit { writes, header, done } => {
@@ -269,14 +288,15 @@ impl<M: Machine> Driver<M> {
         }
     }
 
-    /// Asks nodes again that are silent while a commit or an opening waits for them: gossip may have brought them what they lacked.
+    /// Asks nodes again that are silent while a commit or an opening waits for them: gossip may have brought them what they lacked. Nodes whose
+    /// answers are held back are not silent.
     fn remind_idle(&mut self) {
-        if self.opening.is_none() && !self.progress.is_waiting() {
+        if self.grace.is_some() || (self.opening.is_none() && !self.progress.is_waiting()) {
             return;
         }
         for place in 0..self.peers.len() {
             let peer = &mut self.peers[place];
-            if peer.queue.is_some() && peer.pending == 0 && peer.active.elapsed() >= self.remind {
+            if peer.queue.is_some() && peer.pending == 0 && peer.active.elapsed() >= self.options.remind {
                 peer.active = Instant::now();
                 self.notice(Event::Failed { node: place as u8 });
             }

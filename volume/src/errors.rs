@@ -1,8 +1,35 @@
 //! Why a call of a volume fails.
 
 use crate::machine::Fault;
-use crate::options::BadOptions;
+use crate::options::{BadOptions, Options};
 use std::fmt;
+
+/// How many nodes there are for a write quorum.
+#[derive(Debug, Clone, Copy, PartialEq, Eq)]
+pub struct Quorum {
+    /// The nodes that answer.
+    pub have: usize,
+    /// How many a quorum takes.
+    pub need: u8,
+    /// The nodes of the volume.
+    pub nodes: usize,
+}
+
+impl Quorum {
+    pub(crate) fn of(have: usize, options: &Options) -> Quorum {
+        Quorum { have, need: options.quorum, nodes: options.nodes.len() }
+    }
+}
+
+impl fmt::Display for Quorum {
+    fn fmt(&self, f: &mut fmt::Formatter<'_>) -> fmt::Result {
+        let Quorum { have, need, nodes } = self;
+        match have < &usize::from(*need) {
+            true => write!(f, "no write quorum: {have} of {nodes} nodes answer"),
+            false => write!(f, "no write quorum in time: {have} of {nodes} nodes answer"),
+        }
+    }
+}
 
 /// Why a call of a volume fails.
 #[derive(Debug, Clone, PartialEq, Eq)]
@@ -14,23 +41,23 @@ pub enum VolumeError {
     Fenced {
         generation: u64,
     },
-    /// In the time allowed only so many nodes answered: the volume is not open.
-    NotOpened {
-        have: usize,
-        need: u8,
-    },
-    /// In the time allowed the commit point did not become durable: only so many nodes answer. The mini-transaction is in doubt until the
-    /// volume is opened again; it is stored as a whole, or not at all.
+    /// The nodes are all fresh: nobody has created the volume.
+    Empty,
+    /// In the time allowed no quorum answered as it must: the volume is not open.
+    NotOpened(Quorum),
+    /// Enough nodes answer, and for some time they have not proved a durable commit: an engine opens the volume, or has died within an
+    /// opening. The next opening for writing ends that.
+    Unproved(Quorum),
+    /// In the time allowed no quorum said that this engine has not been fenced.
+    NotAsked(Quorum),
+    /// In the time allowed the commit point did not become durable. The mini-transaction is in doubt until the volume is opened again; it is
+    /// stored as a whole, or not at all.
     InDoubt {
         commit_point: u64,
-        have: usize,
-        need: u8,
+        quorum: Quorum,
     },
-    /// In the time allowed there was no room for another mini-transaction, which was not sent.
-    Busy {
-        have: usize,
-        need: u8,
-    },
+    /// In the time allowed there was no room for another mini-transaction, or no quorum answered; it was not sent.
+    Busy(Quorum),
     /// No node has the page at the point within the time allowed.
     NotRead {
         page: u16,
@@ -65,13 +92,16 @@ impl fmt::Display for VolumeError {
             VolumeError::Options(bad) => write!(f, "{bad}"),
             VolumeError::Refused(fault) => write!(f, "{fault}"),
             VolumeError::Fenced { generation } => write!(f, "{}", Fault::Fenced { generation: *generation }),
-            VolumeError::NotOpened { have, need } => write!(f, "no write quorum: {have} nodes answer, and it takes {need}"),
-            VolumeError::InDoubt { commit_point, have, need } => {
-                write!(f, "no write quorum: {have} nodes answer, and it takes {need}: commit {commit_point} is in doubt until the volume is opened again")
+            VolumeError::Empty => f.write_str("the nodes are empty"),
+            VolumeError::NotOpened(quorum) | VolumeError::NotAsked(quorum) => write!(f, "{quorum}"),
+            VolumeError::Unproved(_) => f.write_str("no durable commit is proved: an engine opens the volume, or has died while it did"),
+            VolumeError::InDoubt { commit_point, quorum } => {
+                write!(f, "{quorum}: commit {commit_point} is in doubt until the volume is opened again")
             }
-            VolumeError::Busy { have, need } => {
-                write!(f, "too much is not durable yet: {have} nodes answer, and a write quorum takes {need}")
-            }
+            VolumeError::Busy(quorum) => match quorum.have < quorum.need.into() {
+                true => write!(f, "{quorum}"),
+                false => f.write_str("too much is not durable yet"),
+            },
             VolumeError::NotRead { page, point } => write!(f, "no node answers for page {page} at {point}"),
             VolumeError::Below { min } => write!(f, "the point is below the minimum read point {min}"),
             VolumeError::Argument(what) => write!(f, "{what} is out of its range"),

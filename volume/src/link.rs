@@ -172,8 +172,15 @@ fn ask(connection: &mut Connection, batch: &[Vec<u8>]) -> Result<Vec<Vec<u8>>, E
     let request = requests::many(batch.iter().map(Vec::as_slice)).map_err(|_| Error::LongFrame)?;
     let answer = mem::take(&mut connection.ask(&request)?.to_vec());
     match frames::inside(&answer) {
-        Some(answers) if answers.len() == batch.len() => Ok(answers.into_iter().map(<[u8]>::to_vec).collect()),
+        Some(answers) if answers.len() == batch.len() => again_alone(connection, batch, answers),
         // The node says it of the whole frame: that its disk is full, say.
         _ => Ok(vec![answer; batch.len()]),
     }
+}
+
+/// The answers, where those that were too long beside the others are asked for again by themselves. Such requests have changed nothing.
+fn again_alone(connection: &mut Connection, batch: &[Vec<u8>], answers: Vec<&[u8]>) -> Result<Vec<Vec<u8>>, Error> {
+    let is_long = |answer: &[u8]| answer == b"long" || (answer.starts_with(b"as ") && answer.len() < 64 && answer.ends_with(b" long"));
+    let each = batch.iter().zip(answers);
+    each.map(|(request, answer)| if is_long(answer) { Ok(connection.ask(request)?.to_vec()) } else { Ok(answer.to_vec()) }).collect()
 }

@@ -6,6 +6,8 @@ use yieldcleat_client::{Address, Limits};
 
 /// The most nodes of a volume.
 const MOST_NODES: usize = 15;
+/// A node may have all pages, and an opening asks for all that it has.
+const LONGEST_ANSWER: u32 = 1 << 29;
 
 /// The nodes of a volume, and how long calls wait.
 #[derive(Debug, Clone, PartialEq, Eq)]
@@ -22,6 +24,8 @@ pub struct Options {
     pub retry: Duration,
     /// How long nodes are left alone while a commit waits for them; then they are asked again.
     pub remind: Duration,
+    /// How long an opening waits for further nodes when a quorum is there: it may admit a fresh node only if that has answered before.
+    pub grace: Duration,
     /// The most bytes of mini-transactions that are not durable. A commit beyond that waits.
     pub in_flight: usize,
 }
@@ -54,9 +58,10 @@ impl Options {
             quorum: u8::try_from(quorum).unwrap_or(u8::MAX),
             nodes,
             patience: Duration::from_secs(10),
-            limits: Limits { connect: Duration::from_secs(1), answer: Duration::from_secs(5), ..Limits::default() },
+            limits: Limits { connect: Duration::from_secs(1), answer: Duration::from_secs(5), longest: LONGEST_ANSWER },
             retry: Duration::from_millis(100),
             remind: Duration::from_millis(30),
+            grace: Duration::from_millis(250),
             in_flight: 8 << 20,
         }
     }

@@ -1,6 +1,7 @@
 //! How far a volume is, for threads that wait.
 
-use crate::errors::VolumeError;
+use crate::errors::{Quorum, VolumeError};
+use crate::options::Options;
 use std::sync::{Condvar, Mutex, MutexGuard, PoisonError};
 use std::time::Instant;
 
@@ -30,6 +31,7 @@ struct InFlight {
 #[derive(Default)]
 struct State {
     standing: Option<Standing>,
+    connected: usize,
     answering: usize,
     in_flight: Vec<InFlight>,
     failed: Option<VolumeError>,
@@ -76,11 +78,11 @@ impl Progress {
         });
     }
 
-    pub fn answering(&self, count: usize) {
+    pub fn reached(&self, connected: usize, answering: usize) {
         self.change(|state| {
-            state.answering = count;
+            (state.connected, state.answering) = (connected, answering);
             if let Some(standing) = &mut state.standing {
-                standing.answering = count;
+                standing.answering = answering;
             }
         });
     }
@@ -124,8 +126,23 @@ impl Progress {
         }
     }
 
-    pub fn count_answering(&self) -> usize {
-        self.lock().answering
+    /// The last durable commit point with its epoch; zeros where the volume was never open.
+    pub fn last_durable(&self) -> (u16, u64) {
+        self.lock().standing.as_ref().map_or((0, 0), |standing| (standing.epoch, standing.durable))
+    }
+
+    pub fn quorum(&self, options: &Options) -> Quorum {
+        Quorum::of(self.lock().answering, options)
+    }
+
+    /// Waits until so many nodes are connected, or until the deadline.
+    pub fn wait_connected(&self, count: usize, deadline: Instant) {
+        self.wait(deadline, |state| (state.connected >= count).then_some(()));
+    }
+
+    /// The last commit point up to a point that is not durable.
+    pub fn last_waiting(&self, up_to: u64) -> Option<u64> {
+        self.lock().in_flight.iter().map(|it| it.commit_point).filter(|point| *point <= up_to).max()
     }
 
     /// Whether a mini-transaction is not durable.
@@ -147,13 +164,14 @@ impl Progress {
         })
     }
 
-    /// Waits until less than so many bytes are not durable. The result is nothing where that is not before the deadline.
+    /// Waits until less bytes than allowed are not durable, and a quorum answers. The result is nothing where that is not before the deadline.
     ///
     /// Its error is the one that has ended the volume.
-    pub fn wait_room(&self, most: usize, deadline: Instant) -> Option<Result<(), VolumeError>> {
+    pub fn wait_room(&self, options: &Options, deadline: Instant) -> Option<Result<(), VolumeError>> {
+        let has_room = |state: &State| state.in_flight.iter().map(|it| it.bytes).sum::<usize>() < options.in_flight;
         self.wait(deadline, |state| match &state.failed {
             Some(error) => Some(Err(error.clone())),
-            None => (state.in_flight.iter().map(|it| it.bytes).sum::<usize>() < most).then_some(Ok(())),
+            None => (state.answering >= usize::from(options.quorum) && has_room(state)).then_some(Ok(())),
         })
     }
 }

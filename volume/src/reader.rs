@@ -1,76 +1,135 @@
 //! A handle that reads a volume and fences nobody.
 
-use crate::errors::VolumeError;
+use crate::errors::{Quorum, VolumeError};
+use crate::newest::{show, together, Shown, Together};
+use crate::nodes::Nodes;
 use crate::options::Options;
 use crate::page_zero::PageZero;
-use crate::reading::{Range, Readers};
-use std::sync::atomic::{AtomicU64, AtomicUsize, Ordering};
-use std::sync::{Mutex, PoisonError};
+use crate::panel::Panel;
+use crate::reading::{At, Range, Readers};
+use std::sync::atomic::{AtomicU64, Ordering};
+use std::sync::{Arc, Mutex, PoisonError};
 use std::thread;
-use std::time::Instant;
-use yieldcleat_client::{answers, engines, Membership, PAGE_LEN};
-
-/// What one node shows of itself: a member's generation and front, and page 0 at its complete point.
-#[derive(Debug, Clone, PartialEq, Eq)]
-struct Shown {
-    epoch: u16,
-    commit_point: u64,
-}
-
-/// What each node says of itself; nothing for one that does not answer.
-pub fn statuses(options: &Options) -> Vec<Option<Membership>> {
-    let readers = Readers::new(options);
-    (0..options.nodes.len()).map(|node| engines::membership(&readers.ask(node, engines::STATUS)?).ok()).collect()
-}
-
-/// The newest durable commit point that these nodes prove, with its epoch: among those of the newest epoch the `quorum`-th greatest.
-fn durable(shown: &[Shown], quorum: usize) -> Option<(u16, u64)> {
-    let epoch = shown.iter().map(|it| it.epoch).max()?;
-    let mut points: Vec<_> = shown.iter().filter(|it| it.epoch == epoch).map(|it| it.commit_point).collect();
-    points.sort_unstable_by(|one, other| other.cmp(one));
-    points.get(quorum.checked_sub(1)?).map(|point| (epoch, *point))
-}
+use std::time::{Duration, Instant};
 
 /// A volume that this process reads. Its calls may come from many threads.
 pub struct Reader {
     options: Options,
+    nodes: Arc<Nodes>,
     readers: Readers,
+    panel: Panel,
     /// The newest durable commit point that was found, with its epoch.
     newest: Mutex<(u16, u64)>,
-    /// The greatest generation of a member, and how many nodes answered, when they were asked last.
+    /// The greatest generation of a member that was seen.
     generation: AtomicU64,
-    answering: AtomicUsize,
 }
+
+/// What a round of questions has brought.
+#[derive(Default)]
+struct Round {
+    shown: Vec<Shown>,
+    answered: usize,
+    fresh: usize,
+}
+
+/// What all rounds of one call have brought: the least bound of the newest epoch, and the greatest durable point in it.
+#[derive(Default)]
+struct Search {
+    epoch: u16,
+    bound: Option<u64>,
+    durable: Option<u64>,
+}
+
+impl Search {
+    /// Adds what nodes show together. The result is a durable point that nothing durable was above when the call began.
+    fn add(&mut self, found: Together) -> Option<(u16, u64)> {
+        if found.epoch > self.epoch {
+            *self = Search { epoch: found.epoch, ..Search::default() };
+        }
+        if found.epoch == self.epoch {
+            self.bound = self.bound.into_iter().chain(found.bound).min();
+            self.durable = self.durable.max(found.durable);
+        }
+        let point = self.durable.filter(|durable| self.bound.is_some_and(|bound| *durable >= bound))?;
+        Some((self.epoch, point))
+    }
+}
+
+/// How long enough nodes may prove no commit: that long another engine may take to open the volume.
+const UNPROVED: Duration = Duration::from_secs(2);
+
+/// The pauses between two rounds: commits may be on their way to the nodes that lack them.
+const PAUSES: [Duration; 2] = [Duration::from_millis(1), Duration::from_millis(50)];
 
 impl Reader {
     /// Reads the volume of these nodes.
     ///
-    /// Errors: `Options`.
+    /// Errors: `Options`, `Thread`.
     pub fn open(options: Options) -> Result<Reader, VolumeError> {
         options.check().map_err(VolumeError::Options)?;
-        let readers = Readers::new(&options);
-        Ok(Reader { options, readers, newest: Mutex::new((0, 0)), generation: AtomicU64::new(0), answering: AtomicUsize::new(0) })
+        let nodes = Arc::new(Nodes::new(&options));
+        let panel = Panel::start(&nodes).map_err(|error| VolumeError::Thread(error.kind()))?;
+        let (newest, generation) = (Mutex::new((0, 0)), AtomicU64::new(0));
+        Ok(Reader { readers: Readers::new(&nodes), options, nodes, panel, newest, generation })
     }
 
     /// The newest durable commit point: at or above each one that a handle has seen durable before.
     ///
-    /// Errors: `NotOpened`, where too few nodes prove one within the time allowed.
+    /// Errors: `NotOpened`, where too few nodes answer within the time allowed; `Unproved`; `Empty`.
     pub fn newest(&self) -> Result<u64, VolumeError> {
-        let deadline = Instant::now() + self.options.patience;
+        let begun = Instant::now();
+        let deadline = begun + self.options.patience;
+        let (mut search, mut pause) = (Search::default(), PAUSES[0]);
         loop {
-            let statuses: Vec<_> = (0..self.options.nodes.len()).filter_map(|node| Some((node, self.status(node)?))).collect();
-            self.answering.store(statuses.len(), Ordering::Relaxed);
-            let shown: Vec<_> = statuses.iter().filter_map(|(node, status)| self.show(*node, status)).collect();
-            if let Some(found) = durable(&shown, self.options.quorum.into()) {
-                let mut newest = self.newest.lock().unwrap_or_else(PoisonError::into_inner);
-                *newest = found.max(*newest);
-                return Ok(newest.1);
+            let round_end = Instant::now() + self.options.limits.answer.min(self.options.patience);
+            let (round, found) = self.ask_round(&mut search, round_end);
+            if let Some(found) = found {
+                return Ok(self.learn(found));
+            }
+            let quorum = Quorum::of(round.shown.len(), &self.options);
+            if round.fresh == self.options.nodes.len() {
+                return Err(VolumeError::Empty);
+            }
+            if round.shown.len() >= usize::from(self.options.quorum) && begun.elapsed() >= UNPROVED.min(self.options.patience) {
+                return Err(VolumeError::Unproved(quorum));
             }
             if Instant::now() >= deadline {
-                return Err(VolumeError::NotOpened { have: statuses.len(), need: self.options.quorum });
+                return Err(VolumeError::NotOpened(quorum));
             }
-            thread::sleep(self.options.retry);
+            thread::sleep(pause);
+            pause = (pause * 2).min(PAUSES[1]);
         }
+    }
+
+    /// Asks all nodes once, until they prove a point.
+    fn ask_round(&self, search: &mut Search, deadline: Instant) -> (Round, Option<(u16, u64)>) {
+        let (answers, mut round) = (self.panel.ask(show), Round::default());
+        let mut end = deadline;
+        while let Some((_, answer)) = answers.next(end) {
+            let Some((status, shown)) = answer else {
+                continue;
+            };
+            self.generation.fetch_max(status.generation, Ordering::Relaxed);
+            round.answered += 1;
+            round.fresh += usize::from(!status.is_member);
+            round.shown.extend(shown);
+            let together = together(&round.shown, self.options.nodes.len(), self.options.quorum.into());
+            if let Some(found) = together.and_then(|it| search.add(it)) {
+                return (round, Some(found));
+            }
+            if round.answered >= usize::from(self.options.quorum) {
+                // The others may be away: another round may prove more.
+                end = end.min(Instant::now() + self.options.remind);
+            }
+        }
+        (round, None)
+    }
+
+    /// A durable commit point that somebody else has found, with its epoch, and the newest one that is known then.
+    pub fn learn(&self, found: (u16, u64)) -> u64 {
+        let mut newest = self.newest.lock().unwrap_or_else(PoisonError::into_inner);
+        *newest = found.max(*newest);
+        newest.1
     }
 
     /// The greatest generation of a member that was seen.
@@ -80,41 +139,28 @@ impl Reader {
 
     /// How many nodes answered when they were asked last.
     pub fn answering(&self) -> usize {
-        self.answering.load(Ordering::Relaxed)
-    }
-
-    fn status(&self, node: usize) -> Option<Membership> {
-        let status = engines::membership(&self.readers.ask(node, engines::STATUS)?).ok()?;
-        self.generation.fetch_max(status.generation, Ordering::Relaxed);
-        Some(status)
-    }
-
-    /// What a node counts for. It counts where it is a member, and page 0 was written last in its epoch by the engine that fenced it.
-    fn show(&self, node: usize, status: &Membership) -> Option<Shown> {
-        let page = self.readers.ask(node, format!("read 0 {} 0 {PAGE_LEN}", status.front.complete).as_bytes())?;
-        let page = PageZero::read(&answers::bytes(&page, "page ").ok()?)?;
-        let counts = status.is_member && page.epoch == status.front.epoch && page.generation == status.generation;
-        counts.then_some(Shown { epoch: status.front.epoch, commit_point: page.commit_point })
+        self.nodes.answering()
     }
 
     /// Page 0 at a point.
     ///
     /// Errors: `Below`, `NotRead`, and `Damaged` where no volume wrote it.
     pub fn page_zero(&self, point: u64) -> Result<PageZero, VolumeError> {
-        self.readers.page_zero(self.epoch(), point, Instant::now() + self.options.patience)
+        self.readers.page_zero(self.at(point), Instant::now() + self.options.patience)
     }
 
     /// `length` bytes of a page from `offset` on, at a durable commit point.
     ///
     /// Errors: `Argument`, `Below`, `NotRead`.
     pub fn read(&self, page: u16, point: u64, offset: u16, length: u16) -> Result<Vec<u8>, VolumeError> {
-        let range = Range { epoch: self.epoch(), page, point, offset, length };
+        let range = Range { at: self.at(point), page, offset, length };
         range.check()?;
         self.readers.read(range, Instant::now() + self.options.patience)
     }
 
-    fn epoch(&self) -> u16 {
-        self.newest.lock().unwrap_or_else(PoisonError::into_inner).0
+    fn at(&self, point: u64) -> At {
+        let epoch = self.newest.lock().unwrap_or_else(PoisonError::into_inner).0;
+        At { epoch, point, is_durable: true }
     }
 }
 
@@ -122,12 +168,19 @@ impl Reader {
 mod tests {
     use super::*;
 
+    fn found(epoch: u16, durable: Option<u64>, bound: Option<u64>) -> Together {
+        Together { epoch, durable, bound }
+    }
+
     #[test]
-    fn the_quorum_of_the_newest_epoch_counts() {
-        let shown = |of: &[(u16, u64)]| of.iter().map(|it| Shown { epoch: it.0, commit_point: it.1 }).collect::<Vec<_>>();
-        assert_eq!(durable(&shown(&[(1, 9), (1, 5), (1, 7)]), 2), Some((1, 7)));
-        assert_eq!(durable(&shown(&[(1, 9), (2, 5), (1, 7)]), 2), None);
-        assert_eq!(durable(&shown(&[(1, 9), (2, 5), (2, 4)]), 2), Some((2, 4)));
-        assert_eq!(durable(&[], 1), None);
+    fn a_point_is_found_once_nothing_durable_is_above() {
+        let mut search = Search::default();
+        assert_eq!(search.add(found(1, Some(5), Some(9))), None);
+        assert_eq!(search.add(found(1, Some(9), Some(12))), Some((1, 9)));
+        let mut search = Search::default();
+        assert_eq!(search.add(found(1, None, Some(9))), None);
+        assert_eq!(search.add(found(2, Some(7), None)), None);
+        assert_eq!(search.add(found(1, Some(9), Some(9))), None);
+        assert_eq!(search.add(found(2, Some(8), Some(8))), Some((2, 8)));
     }
 }

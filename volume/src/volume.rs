@@ -1,18 +1,21 @@
 //! The engine's handle of a volume.
 
 use crate::driver::{Call, Driver, Input};
-use crate::errors::VolumeError;
+use crate::errors::{Quorum, VolumeError};
 use crate::link::Link;
 use crate::machine::{Fault, Machine};
+use crate::nodes::Nodes;
 use crate::options::Options;
 use crate::page_zero::{PageZero, MOST_HEADER};
+use crate::panel::Panel;
 use crate::progress::{Progress, Standing};
-use crate::reading::{Range, Readers};
+use crate::reading::{At, Range, Readers};
+use crate::standing::{ask_standing, Statuses};
 use std::sync::mpsc::{self, Sender};
 use std::sync::Arc;
 use std::thread::{self, JoinHandle};
 use std::time::{Duration, Instant};
-use yieldcleat_client::{engines, Patch, PAGE_LEN};
+use yieldcleat_client::{Patch, PAGE_LEN};
 
 /// The last bytes of each page, which are the volume's own.
 const RESERVED: usize = 8;
@@ -65,6 +68,7 @@ pub struct Volume {
     inputs: Sender<Input>,
     progress: Arc<Progress>,
     readers: Readers,
+    panel: Panel,
     /// Ended before the driver.
     links: Vec<Link>,
     driver: Option<JoinHandle<()>>,
@@ -80,16 +84,20 @@ impl Volume {
             Some(created) => created?,
             None => return Err(volume.not_opened()),
         }
-        volume.open_until(deadline)?;
+        volume.open_until(1, deadline)?;
         Ok(volume)
     }
 
     /// Opens the volume for writing, and fences each engine that has it open.
     ///
-    /// Errors: `Options`, `Thread`, `NotOpened`, `Refused`.
+    /// Errors: `Options`, `Thread`, `Empty`, `NotOpened`, `Refused`.
     pub fn open<M: Machine + 'static>(machine: M, options: Options) -> Result<Volume, VolumeError> {
         let (volume, deadline) = Volume::start(machine, options)?;
-        volume.open_until(deadline)?;
+        let statuses = volume.statuses(deadline);
+        if statuses.are_all_fresh() {
+            return Err(VolumeError::Empty);
+        }
+        volume.open_until(statuses.generation(), deadline)?;
         Ok(volume)
     }
 
@@ -102,26 +110,36 @@ impl Volume {
         let driver = Driver::new(machine, &options, progress.clone());
         let thread = |error: std::io::Error| VolumeError::Thread(error.kind());
         let driver = thread::Builder::new().name("volume".into()).spawn(move || driver.run(&received)).map_err(thread)?;
-        let readers = Readers::new(&options);
-        let mut volume = Volume { inputs, progress, readers, links: Vec::new(), driver: Some(driver), options };
+        let nodes = Arc::new(Nodes::new(&options));
+        let (readers, panel) = (Readers::new(&nodes), Panel::start(&nodes).map_err(thread)?);
+        let mut volume = Volume { inputs, progress, readers, panel, links: Vec::new(), driver: Some(driver), options };
         for node in 0..volume.options.nodes.len() {
             let inputs = volume.inputs.clone();
             let link = Link::start(node as u8, &volume.options, move |heard| inputs.send(Input::Heard(heard)).ok());
             volume.links.push(link.map_err(thread)?);
         }
+        // A connection that is new while an opening runs counts as one that has broken.
+        volume.progress.wait_connected(volume.options.nodes.len(), deadline.min(Instant::now() + volume.options.grace));
         Ok((volume, deadline))
     }
 
-    /// Opens under ever greater generations, until it succeeds or the time is up.
-    fn open_until(&self, deadline: Instant) -> Result<(), VolumeError> {
-        let mut generation = self.next_generation();
+    /// What the nodes say of themselves: all of them, or after a while those that have answered.
+    fn statuses(&self, deadline: Instant) -> Statuses {
+        let end = deadline.min(Instant::now() + self.options.grace);
+        ask_standing(&self.panel, self.options.nodes.len(), |statuses| if statuses.count() == 0 { deadline } else { end })
+    }
+
+    /// Opens under ever greater generations above one that nodes have shown, until it succeeds or the time is up.
+    fn open_until(&self, shown: u64, deadline: Instant) -> Result<(), VolumeError> {
+        let (mut generation, mut attempt) = (shown.saturating_add(1), self.options.patience / 8);
         loop {
-            match self.call(|done| Call::Open { generation, done }, deadline) {
+            match self.call(|done| Call::Open { generation, done }, deadline.min(Instant::now() + attempt)) {
                 Some(Ok(())) => return Ok(()),
                 Some(Err(VolumeError::Fenced { generation: later })) => generation = later.saturating_add(1),
                 Some(Err(VolumeError::Refused(Fault::NoQuorum { .. }))) => generation = generation.saturating_add(1),
                 Some(Err(error)) => return Err(error),
-                None => return Err(self.not_opened()),
+                // It may wait for a node whose answer was lost and that does not repeat it. The next one has more time.
+                None => (generation, attempt) = (generation.saturating_add(1), attempt * 2),
             }
             if Instant::now() >= deadline {
                 return Err(self.not_opened());
@@ -132,13 +150,7 @@ impl Volume {
     }
 
     fn not_opened(&self) -> VolumeError {
-        VolumeError::NotOpened { have: self.progress.count_answering(), need: self.options.quorum }
-    }
-
-    /// One above the greatest generation that a node shows.
-    fn next_generation(&self) -> u64 {
-        let answers = self.readers.ask_all(engines::STATUS);
-        answers.iter().filter_map(|answer| Some(engines::membership(answer).ok()?.generation)).max().unwrap_or(0).saturating_add(1)
+        VolumeError::NotOpened(self.progress.quorum(&self.options))
     }
 
     /// Sends a call to the driver, and waits for its result; nothing where it does not come before the deadline.
@@ -157,8 +169,46 @@ impl Volume {
         self.progress.standing()
     }
 
+    /// The last commit point that this handle knows to be durable, with the epoch; also where the volume has ended.
+    pub fn durable(&self) -> (u16, u64) {
+        self.progress.last_durable()
+    }
+
+    /// The newest durable commit point, which is one of this handle's own or the one that it opened at: a quorum says that no other engine has
+    /// fenced it. All commits that anybody has seen durable before are at or below it.
+    ///
+    /// Errors: `NotAsked` after the time allowed; `Fenced` and what else has ended the volume.
+    pub fn newest(&self) -> Result<u64, VolumeError> {
+        let (own, deadline) = (self.standing()?, Instant::now() + self.options.patience);
+        let mut have = 0;
+        while Instant::now() < deadline {
+            let end = deadline.min(Instant::now() + self.options.limits.answer);
+            let statuses = ask_standing(&self.panel, self.options.nodes.len(), |statuses| {
+                if statuses.are_of(own.generation, self.options.quorum) {
+                    Instant::now()
+                } else {
+                    end
+                }
+            });
+            have = statuses.count();
+            if let Some(generation) = statuses.later_than(own.generation) {
+                self.progress.fail(VolumeError::Fenced { generation });
+                return Err(VolumeError::Fenced { generation });
+            }
+            if statuses.are_of(own.generation, self.options.quorum) {
+                let bound = statuses.bound(own.epoch, self.options.quorum);
+                if let Some(seen) = self.progress.last_waiting(bound) {
+                    self.wait(seen, deadline.saturating_duration_since(Instant::now()))?;
+                }
+                return Ok(self.standing()?.durable);
+            }
+            thread::sleep(self.options.retry.min(deadline.saturating_duration_since(Instant::now())));
+        }
+        Err(VolumeError::NotAsked(Quorum::of(have, &self.options)))
+    }
+
     /// Writes a mini-transaction with up to 1,024 bytes of the engine's own, and returns its commit point. It is sent, and not yet
-    /// durable: `wait` says when it is. Where too much is not durable it waits first.
+    /// durable: `wait` says when it is. Where too much is not durable, or no quorum answers, it waits first.
     ///
     /// Errors: `Argument`, and `Busy` after the time allowed, where nothing was written; `Fenced` and what else has ended the volume.
     pub fn write(&self, writes: Vec<PageWrite>, header: Vec<u8>) -> Result<u64, VolumeError> {
@@ -167,9 +217,9 @@ impl Volume {
             return Err(VolumeError::Argument("a header"));
         }
         let deadline = Instant::now() + self.options.patience;
-        match self.progress.wait_room(self.options.in_flight, deadline) {
+        match self.progress.wait_room(&self.options, deadline) {
             Some(room) => room?,
-            None => return Err(VolumeError::Busy { have: self.progress.count_answering(), need: self.options.quorum }),
+            None => return Err(VolumeError::Busy(self.progress.quorum(&self.options))),
         }
         // The driver waits for no node, so it answers. Where it does not, the mini-transaction may be sent, and nothing may follow it.
         let written = self.call(|done| Call::Commit { writes, header, done }, deadline + self.options.patience);
@@ -183,7 +233,7 @@ impl Volume {
     ///
     /// Errors: `InDoubt` after the time allowed, and then it may be waited for again; `Fenced` and what else has ended the volume.
     pub fn wait(&self, commit_point: u64, patience: Duration) -> Result<(), VolumeError> {
-        let in_doubt = || VolumeError::InDoubt { commit_point, have: self.progress.count_answering(), need: self.options.quorum };
+        let in_doubt = || VolumeError::InDoubt { commit_point, quorum: self.progress.quorum(&self.options) };
         self.progress.wait_durable(commit_point, Instant::now() + patience).unwrap_or_else(|| Err(in_doubt()))
     }
 
@@ -196,20 +246,30 @@ impl Volume {
         Ok(commit_point)
     }
 
-    /// `length` bytes of a page from `offset` on, at a durable commit point.
+    /// `length` bytes of a page from `offset` on, at a commit point, which need not be durable yet.
     ///
-    /// Errors: `Argument`, `Below`, `NotRead`.
+    /// Errors: `Argument`, `Below`, `NotRead`, and what has ended the volume.
     pub fn read(&self, page: u16, point: u64, offset: u16, length: u16) -> Result<Vec<u8>, VolumeError> {
-        let range = Range { epoch: self.progress.standing()?.epoch, page, point, offset, length };
+        let range = Range { at: self.at(point)?, page, offset, length };
         range.check()?;
-        self.readers.read(range, Instant::now() + self.options.patience)
+        self.readers.read(range, Instant::now() + self.options.patience).map_err(|error| self.ended_by(error))
     }
 
-    /// Page 0 at a durable commit point: who committed it, and the header.
+    /// Page 0 at such a point: who committed it, and the header.
     ///
     /// Errors: those of `read`.
     pub fn page_zero(&self, point: u64) -> Result<PageZero, VolumeError> {
-        self.readers.page_zero(self.progress.standing()?.epoch, point, Instant::now() + self.options.patience)
+        self.readers.page_zero(self.at(point)?, Instant::now() + self.options.patience).map_err(|error| self.ended_by(error))
+    }
+
+    fn at(&self, point: u64) -> Result<At, VolumeError> {
+        let standing = self.progress.standing()?;
+        Ok(At { epoch: standing.epoch, point, is_durable: point <= standing.durable })
+    }
+
+    /// Why a call has failed: what has ended the volume meanwhile, or else this.
+    fn ended_by(&self, error: VolumeError) -> VolumeError {
+        self.progress.standing().err().unwrap_or(error)
     }
 
     /// Says that a reader, from 1, reads nothing below a durable commit point any more.

@@ -9,7 +9,7 @@ use std::sync::{Arc, Mutex};
 use std::time::{Duration, Instant};
 use std::{env, fs, process, thread};
 use yieldcleat_client::{frames, Address, Limits, Patch, Record, PAGE_LEN};
-use yieldcleat_volume::{Action, Event, Fault, Machine, Options, OutOfMemory, PageWrite, Volume, VolumeError};
+use yieldcleat_volume::{Action, Event, Fault, Machine, Options, OutOfMemory, PageWrite, Quorum, Volume, VolumeError};
 
 // A machine that counts fronts
 
@@ -169,6 +169,7 @@ impl State {
         let words: Vec<_> = text.split(' ').collect();
         match words[0] {
             "front" => format!("front 0 {} 0", self.complete()).into_bytes(),
+            "status" => format!("status 2 7 1 0 {} 0", self.complete()).into_bytes(),
             "read" => self.read(&words),
             _ => b"bad request".to_vec(),
         }
@@ -270,6 +271,10 @@ fn write(place: u64) -> Vec<PageWrite> {
     vec![PageWrite { page: 1 + (place % 2) as u16, init: false, patches: vec![patch] }]
 }
 
+fn of_three(have: usize) -> Quorum {
+    Quorum { have, need: 2, nodes: 3 }
+}
+
 fn shows(volume: &Volume, place: u64, point: u64) -> bool {
     volume.read(1 + (place % 2) as u16, point, 8 * (place % 100) as u16, 8).unwrap() == place.to_be_bytes()
 }
@@ -327,7 +332,7 @@ fn two_of_three_nodes_are_enough_and_one_is_not() {
     three.nodes[1].go_away();
     let point = volume.write(write(3), Vec::new()).unwrap();
     let begun = Instant::now();
-    assert_eq!(volume.wait(point, Duration::from_millis(200)), Err(VolumeError::InDoubt { commit_point: point, have: 1, need: 2 }));
+    assert_eq!(volume.wait(point, Duration::from_millis(200)), Err(VolumeError::InDoubt { commit_point: point, quorum: of_three(1) }));
     assert!(begun.elapsed() < Duration::from_secs(2));
     three.nodes[1].set(|state| state.is_away = false);
     assert_eq!(volume.wait(point, Duration::from_secs(5)), Ok(()));
@@ -341,7 +346,7 @@ fn what_no_quorum_has_is_bounded() {
     three.nodes[0].go_away();
     three.nodes[1].go_away();
     let refused = (1..=100).find_map(|place| volume.write(write(place), Vec::new()).err());
-    assert_eq!(refused, Some(VolumeError::Busy { have: 1, need: 2 }));
+    assert_eq!(refused, Some(VolumeError::Busy(of_three(1))));
 }
 
 #[test]
@@ -374,7 +379,7 @@ fn a_volume_without_a_quorum_does_not_open() {
     three.nodes[1].go_away();
     let begun = Instant::now();
     let opened = three.open(Options { patience: Duration::from_millis(300), ..three.options() });
-    assert_eq!(opened.err(), Some(VolumeError::NotOpened { have: 1, need: 2 }));
+    assert_eq!(opened.err(), Some(VolumeError::NotOpened(of_three(1))));
     assert!(begun.elapsed() < Duration::from_secs(2), "{:?}", begun.elapsed());
 }
 

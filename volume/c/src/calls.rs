@@ -29,6 +29,14 @@ pub struct RawPatch {
     bytes: *const u8,
 }
 
+/// `struct yieldcleat_range`, which C passes by value.
+#[repr(C)]
+pub struct RawRange {
+    page: u32,
+    offset: u32,
+    length: u32,
+}
+
 /// Runs a call, and keeps why it fails. A panic does not unwind into C.
 fn run(call: impl FnOnce() -> Result<(), Failure>) -> Fault {
     match catch_unwind(AssertUnwindSafe(call)) {
@@ -167,15 +175,9 @@ pub unsafe extern "C" fn yieldcleat_volume_header(
 /// # Safety
 /// As the header says.
 #[no_mangle]
-pub unsafe extern "C" fn yieldcleat_volume_read(
-    volume: *mut Handle,
-    point: u64,
-    page: u32,
-    offset: u32,
-    length: u32,
-    into: *mut c_void,
-) -> Fault {
+pub unsafe extern "C" fn yieldcleat_volume_read(volume: *mut Handle, point: u64, range: RawRange, into: *mut c_void) -> Fault {
     run(|| {
+        let RawRange { page, offset, length } = range;
         // SAFETY: the header's.
         let volume = unsafe { handle(volume)? };
         let found = volume.read(point, page, offset, length)?;

@@ -3,7 +3,7 @@
 use std::cell::RefCell;
 use std::ffi::c_char;
 use std::io::ErrorKind;
-use yieldcleat_volume::{BadPlace, Fault as Refusal, VolumeError};
+use yieldcleat_volume::{BadPlace, Fault as Refusal, Quorum, VolumeError};
 
 const MESSAGE_BYTES: usize = 256;
 
@@ -58,10 +58,6 @@ impl Failure {
         Failure::new(Fault::Misuse, message.into())
     }
 
-    pub fn not_found(message: &str) -> Failure {
-        Failure::new(Fault::NotFound, message.into())
-    }
-
     /// The point is above the newest one.
     pub fn above(point: u64, newest: u64) -> Failure {
         Failure { point: newest, ..Failure::new(Fault::Above, format!("the point {point} is above the newest one, {newest}")) }
@@ -99,12 +95,17 @@ pub fn last() -> Details {
 impl From<VolumeError> for Failure {
     fn from(error: VolumeError) -> Failure {
         let of = |fault| Failure::new(fault, error.to_string());
-        let counted = |fault, have: usize, need: u8| Failure { have: have as u32, need: need.into(), ..of(fault) };
+        let counted = |fault, quorum: Quorum| Failure { have: quorum.have as u32, need: quorum.need.into(), ..of(fault) };
         match error {
             VolumeError::Fenced { .. } => of(Fault::Fenced),
-            VolumeError::NotOpened { have, need } | VolumeError::Busy { have, need } => counted(Fault::NoQuorum, have, need),
-            VolumeError::Refused(Refusal::NoQuorum { have, need }) => counted(Fault::NoQuorum, have.into(), need),
-            VolumeError::InDoubt { have, need, .. } => counted(Fault::Timeout, have, need),
+            VolumeError::Empty => of(Fault::NotFound),
+            VolumeError::NotOpened(quorum) | VolumeError::Unproved(quorum) | VolumeError::NotAsked(quorum) | VolumeError::Busy(quorum) => {
+                counted(Fault::NoQuorum, quorum)
+            }
+            VolumeError::Refused(Refusal::NoQuorum { have, need }) => {
+                Failure { have: have.into(), need: need.into(), ..of(Fault::NoQuorum) }
+            }
+            VolumeError::InDoubt { quorum, .. } => counted(Fault::Timeout, quorum),
             VolumeError::NotRead { .. } => of(Fault::NoQuorum),
             VolumeError::Below { min } => Failure { point: min, ..of(Fault::Below) },
             VolumeError::Refused(Refusal::Ahead { durable }) => Failure { point: durable, ..of(Fault::Above) },

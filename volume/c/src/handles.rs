@@ -1,13 +1,14 @@
 //! What the calls do, with values of Rust.
 
 use crate::faults::Failure;
+use crate::known::Known;
 use crate::proved::Proved;
 use std::path::Path;
 use std::sync::atomic::{AtomicU64, Ordering};
-use std::sync::{Mutex, MutexGuard, PoisonError};
+use std::sync::{Arc, Mutex, MutexGuard, PoisonError};
 use std::time::Duration;
 use yieldcleat_client::Patch;
-use yieldcleat_volume::{statuses, Options, PageWrite, PageZero, Reader, Volume};
+use yieldcleat_volume::{Fault, Options, PageWrite, PageZero, Reader, Volume, VolumeError};
 
 /// The bytes of a page that its user has.
 pub const PAGE_BYTES: u32 = 4088;
@@ -18,6 +19,7 @@ const READER: u8 = 1;
 pub struct Handle {
     side: Side,
     options: Options,
+    known: Arc<Known>,
     /// The least readable point, as far as this handle knows.
     least: AtomicU64,
 }
@@ -56,20 +58,22 @@ fn options_at(place: &Path, milliseconds: u32) -> Result<Options, Failure> {
 }
 
 impl Handle {
-    fn of(side: Side, options: Options) -> Handle {
-        Handle { side, options, least: AtomicU64::new(0) }
+    fn of(side: Side, place: &Path, options: Options) -> Handle {
+        Handle { side, options, known: Known::of(place), least: AtomicU64::new(0) }
     }
 
     pub fn open_writer(place: &Path, milliseconds: u32, may_create: bool) -> Result<Handle, Failure> {
         let options = options_at(place, milliseconds)?;
-        let is_empty = statuses(&options).iter().all(|status| status.is_some_and(|status| !status.is_member));
-        let machine = Proved::start(options.nodes.len(), options.quorum)?;
-        let volume = match (is_empty, may_create) {
-            (true, false) => return Err(Failure::not_found("the nodes are empty")),
-            (true, true) => Volume::create(machine, options.clone())?,
-            (false, _) => Volume::open(machine, options.clone())?,
-        };
-        Ok(Handle::of(Side::Writer { volume, staged: Mutex::default() }, options))
+        let machine = || Proved::start(options.nodes.len(), options.quorum);
+        let mut volume = Volume::open(machine()?, options.clone());
+        if may_create && matches!(volume, Err(VolumeError::Empty)) {
+            volume = Volume::create(machine()?, options.clone());
+            if matches!(volume, Err(VolumeError::Refused(Fault::NotFresh))) {
+                // Another engine has created it just now.
+                volume = Volume::open(machine()?, options.clone());
+            }
+        }
+        Ok(Handle::of(Side::Writer { volume: volume?, staged: Mutex::default() }, place, options))
     }
 
     pub fn open_reader(place: &Path, milliseconds: u32, point: Option<u64>) -> Result<Handle, Failure> {
@@ -82,7 +86,7 @@ impl Handle {
             }
             reader.page_zero(point)?;
         }
-        Ok(Handle::of(Side::Reader { reader, point, newest: AtomicU64::new(newest) }, options))
+        Ok(Handle::of(Side::Reader { reader, point, newest: AtomicU64::new(newest) }, place, options))
     }
 
     /// Notes the least readable point, where a call fails for it.
@@ -96,7 +100,11 @@ impl Handle {
 
     pub fn newest(&self) -> Result<u64, Failure> {
         match &self.side {
-            Side::Writer { volume, .. } => Ok(volume.standing()?.durable),
+            Side::Writer { volume, .. } => {
+                let newest = volume.newest();
+                self.tell();
+                Ok(newest?)
+            }
             Side::Reader { point: Some(point), .. } => Ok(*point),
             Side::Reader { reader, newest, .. } => {
                 let found = reader.newest()?;
@@ -116,11 +124,25 @@ impl Handle {
     }
 
     fn check_point(&self, point: u64) -> Result<(), Failure> {
-        let greatest = self.greatest()?;
+        let mut greatest = self.greatest()?;
+        if let (Side::Reader { reader, point: None, newest }, true) = (&self.side, point > greatest) {
+            greatest = reader.learn(self.known.newest());
+            if point > greatest {
+                greatest = reader.newest()?;
+            }
+            newest.fetch_max(greatest, Ordering::Relaxed);
+        }
         if point > greatest {
             Err(Failure::above(point, greatest))
         } else {
             Ok(())
+        }
+    }
+
+    /// Tells the other handles of this process what a writer has made durable.
+    fn tell(&self) {
+        if let Side::Writer { volume, .. } = &self.side {
+            self.known.raise(volume.durable());
         }
     }
 
@@ -180,7 +202,9 @@ impl Handle {
             0 => self.options.patience,
             _ => Duration::from_millis(milliseconds.into()),
         };
-        Ok(self.writer()?.0.wait(point, patience)?)
+        let waited = self.writer()?.0.wait(point, patience);
+        self.tell();
+        Ok(waited?)
     }
 
     pub fn advance(&self, point: u64) -> Result<(), Failure> {

@@ -7,6 +7,7 @@
 mod calls;
 mod faults;
 mod handles;
+mod known;
 #[allow(unsafe_code)]
 mod proved;
 

@@ -1,0 +1,102 @@
+//! Whether an engine has been fenced, as the nodes say.
+
+use crate::panel::Panel;
+use std::time::Instant;
+use yieldcleat_client::{engines, Calls, Connection, Membership};
+
+/// What nodes say of themselves; a node that does not answer says nothing.
+#[derive(Debug, Clone, PartialEq, Eq)]
+pub struct Statuses {
+    answered: Vec<Membership>,
+    nodes: usize,
+}
+
+fn status(connection: &mut Connection) -> Option<Membership> {
+    engines::membership(connection.ask(engines::STATUS).ok()?).ok()
+}
+
+/// Asks all nodes for their status. How long it waits for the next one depends on those that have answered.
+pub fn ask_standing(panel: &Panel, nodes: usize, until: impl Fn(&Statuses) -> Instant) -> Statuses {
+    let (answers, mut statuses) = (panel.ask(status), Statuses { answered: Vec::new(), nodes });
+    while let Some((_, answer)) = answers.next(until(&statuses)) {
+        statuses.answered.extend(answer);
+    }
+    statuses
+}
+
+impl Statuses {
+    /// How many nodes have answered.
+    pub fn count(&self) -> usize {
+        self.answered.len()
+    }
+
+    /// Whether all nodes have answered, and none of them is a member.
+    pub fn are_all_fresh(&self) -> bool {
+        self.count() == self.nodes && self.answered.iter().all(|it| !it.is_member)
+    }
+
+    /// The greatest generation of a member; 0 without any.
+    pub fn generation(&self) -> u64 {
+        self.members().map(|it| it.generation).max().unwrap_or(0)
+    }
+
+    fn members(&self) -> impl Iterator<Item = &Membership> {
+        self.answered.iter().filter(|it| it.is_member)
+    }
+
+    /// A generation above this one, where a member has one.
+    pub fn later_than(&self, generation: u64) -> Option<u64> {
+        Some(self.generation()).filter(|found| *found > generation)
+    }
+
+    /// Whether members of this generation make a quorum, and no member has a later one.
+    pub fn are_of(&self, generation: u64, quorum: u8) -> bool {
+        self.later_than(generation).is_none() && self.members().filter(|it| it.generation == generation).count() >= usize::from(quorum)
+    }
+
+    /// All points of this epoch that anybody has seen durable are at or below it: it counts nodes that say nothing as if they had all.
+    pub fn bound(&self, epoch: u16, quorum: u8) -> u64 {
+        let mut points: Vec<_> = self.members().map(|it| if it.front.epoch == epoch { it.front.complete } else { 0 }).collect();
+        points.sort_unstable_by(|one, other| other.cmp(one));
+        let others = self.nodes.saturating_sub(points.len());
+        usize::from(quorum).checked_sub(others + 1).map_or(u64::MAX, |place| points.get(place).copied().unwrap_or(0))
+    }
+}
+
+#[cfg(test)]
+mod tests {
+    use super::*;
+    use yieldcleat_client::Front;
+
+    fn of(answered: &[(u64, bool, u64)], nodes: usize) -> Statuses {
+        let member = |it: &(u64, bool, u64)| {
+            let front = Front { epoch: 1, complete: it.2, min: 0 };
+            Membership { generation: it.0, birth: 7, is_member: it.1, front, accepted: None }
+        };
+        Statuses { answered: answered.iter().map(member).collect(), nodes }
+    }
+
+    #[test]
+    fn a_quorum_of_members_of_the_generation() {
+        assert!(of(&[(3, true, 0), (3, true, 0)], 3).are_of(3, 2));
+        assert!(!of(&[(3, true, 0), (3, false, 0)], 3).are_of(3, 2));
+        assert!(!of(&[(3, true, 0), (2, true, 0)], 3).are_of(3, 2));
+        assert!(!of(&[(3, true, 0), (3, true, 0), (4, true, 0)], 3).are_of(3, 2));
+        assert_eq!(of(&[(3, true, 0), (4, true, 0)], 3).later_than(3), Some(4));
+        assert_eq!(of(&[(3, true, 0)], 3).later_than(3), None);
+    }
+
+    #[test]
+    fn fresh_nodes() {
+        assert!(of(&[(0, false, 0), (0, false, 0)], 2).are_all_fresh());
+        assert!(!of(&[(0, false, 0)], 2).are_all_fresh());
+        assert!(!of(&[(0, false, 0), (1, true, 0)], 2).are_all_fresh());
+    }
+
+    #[test]
+    fn the_bound_of_what_is_durable() {
+        assert_eq!(of(&[(3, true, 9), (3, true, 5), (3, true, 7)], 3).bound(1, 2), 7);
+        assert_eq!(of(&[(3, true, 9), (3, true, 5)], 3).bound(1, 2), 9);
+        assert_eq!(of(&[(3, true, 9), (3, true, 5)], 3).bound(2, 2), 0);
+    }
+}
