@@ -60,7 +60,7 @@ def seconds(request):
 
 
 def place_of(crate, ending=""):
-    return ROOT / "crates" / crate / "out" / (f"lib{crate}.a" if crate == "node_c" else f"{crate}{ending}")
+    return ROOT / "crates" / crate / "out" / (f"lib{crate}.a" if crate in ("node_c", "volume_c") else f"{crate}{ending}")
 
 
 def pytest_generate_tests(metafunc):
@@ -95,6 +95,11 @@ def fleet_node(request):
 
 
 @pytest.fixture(scope="session")
+def volume_node(request):
+    return program(request, "volume_node")
+
+
+@pytest.fixture(scope="session")
 def call_cases(request):
     return program(request, "call_cases")
 
@@ -107,6 +112,11 @@ def thread_cases(request):
 @pytest.fixture(scope="session")
 def archive(request):
     return program(request, "node_c")
+
+
+@pytest.fixture(scope="session")
+def volume_archive(request):
+    return program(request, "volume_c")
 
 
 # What refuses

@@ -40,7 +40,7 @@ def test_named_files_are_there(page):
     for name in FILE.findall(page.read_text()):
         is_path = name.split("/")[0] in FOLDERS.split("|")
         is_page = "/" not in name and name.endswith((".md", ".py"))
-        if (is_path or is_page) and "NAME" not in name and not any([*place.glob(name)] for place in (ROOT, ROOT / "docs", page.parent)):
+        if (is_path or is_page) and "NAME" not in name and not any([*place.glob(name)] for place in (ROOT, ROOT / "docs", ROOT / "crates", page.parent)):
             absent.append(name)
     assert absent == []
 

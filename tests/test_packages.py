@@ -1,4 +1,4 @@
-"""The own tests of the Rust packages that need no archive or link it only to be tested: `client`, `volume` and `store`."""
+"""The own tests of the Rust packages: `client`, `volume` over the programs of its machine and its nodes, `store` over the archive."""
 
 import re
 import shutil
@@ -27,9 +27,12 @@ def own_tests(name, folder, **settings):
     assert sum(int(it[0]) for it in counts) and {it[1:] for it in counts} == {("0", "0")}
 
 
-@pytest.mark.parametrize("name", ["client", "volume"])
-def test_package(name, tmp_path):
-    own_tests(name, tmp_path)
+def test_client(tmp_path):
+    own_tests("client", tmp_path)
+
+
+def test_volume(volume_node, fleet_node, tmp_path):
+    own_tests("volume", tmp_path, YIELDCLEAT_VOLUME_NODE=volume_node, YIELDCLEAT_FLEET_NODE=fleet_node)
 
 
 def test_store(archive, tmp_path):

@@ -22,7 +22,7 @@ CHECKS = {
     "checks": ["random", "sizes", "spill", "vacuum", "snapshots", "readers", "threads", "writers", "waits", "turns", "past", "keep", "openings",
                "other_page_sizes", "several_databases", "calls"],
     "crashes": ["crashes"],
-    "faults": ["faults", "in_doubt", "lost_writer", "fences", "nodes", "fenced_calls"],
+    "faults": ["faults", "kept_writer", "in_doubt", "lost_writer", "fences", "nodes", "fenced_calls"],
 }
 NAMES = [name for names in CHECKS.values() for name in names]
 SCRIPTS = dict(re.findall(r"(?ms)^-- == (.*?)\n(.*?)(?=^-- == |\Z)", (CASES / "sqlite.sql").read_text()))

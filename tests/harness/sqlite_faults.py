@@ -39,6 +39,8 @@ def check_faults(world):
         for fault, code in codes.items():
             for mode in ("delete", "memory", "off"):
                 number += 10
+                if call == "open_writer":
+                    world.ask("work_change_to", "volume", number)  # so that this process needs another writer
                 ours, other = world.open(timeout=50), world.open()
                 ours.execute(f"pragma journal_mode = {mode}")
                 if call != "open_writer":
@@ -130,6 +132,32 @@ def check_fences(world):
     change(third, 251)
     for it in (ours, again, third):
         assert one(it, "select b from t where a = 1") == "changed 251" and is_whole(it)
+
+
+def check_kept_writer(world):
+    """A process opens a volume for writing once, however often it connects, until another one does or the times are to be others."""
+    made(world)
+    opened = world.calls("open_writer")
+    for number in range(5):
+        ours = world.open()
+        change(ours, number)
+        ours.close()
+    assert world.calls("open_writer") == opened
+    for number in range(10, 13):
+        world.ask("work_change_to", "volume", number)
+        ours = world.open()
+        assert one(ours, "select max(b) from t where a % 50 = ?", number) == f"changed {number}"
+        change(ours, 20 + number)
+        ours.close()
+    assert world.calls("open_writer") == opened + 3
+    ours = world.open(timeout=2000)
+    change(ours, 40)
+    ours.close()
+    assert world.calls("open_writer") == opened + 4
+    world.fail("newest", NO_QUORUM)
+    ours = world.open(timeout=2000)
+    change(ours, 41)
+    assert world.calls("open_writer") == opened + 5 and is_whole(ours)
 
 
 def check_nodes(world):

@@ -571,8 +571,11 @@ class World:
         node, seen = self.nodes[i], view(self.nodes[i].facts)
         if not self.broken("reader_counts_plain_fronts"):
             record = next((record for record in seen.linked if record[2] == seen.commit), None)
-            of_epoch = record is not None and record[1] == seen.k and self.writers.get(record[1]) == node.generation
-            if not node.is_member or not of_epoch:
+            if not node.is_member or record is None:
+                return
+            if record[1] < seen.k:  # at or below the truncation that began the epoch
+                self.claims.add((seen.commit, seen.k))
+            if record[1] < seen.k or self.writers[record[1]] < node.generation:
                 return
         self.reader[i] = seen.k, seen.commit
         newest = max(k for k, _ in self.reader.values())

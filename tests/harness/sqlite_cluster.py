@@ -1,0 +1,231 @@
+"""Six storage servers, and proxies before them that let a process die within what it sends."""
+
+import contextlib
+import multiprocessing
+import os
+import shutil
+import signal
+import socket
+import subprocess
+import threading
+import time
+
+from harness import environment
+from harness.shims import kit
+from harness.stores import Store, until
+
+NODES, QUORUM = 6, 4
+
+
+def build_extension(archive, folder, root):
+    """The extension over the driver and the archive of the machine."""
+    settings = environment(YIELDCLEAT_VOLUME_ARCHIVE=archive.parent, RATTLE_C=kit() / "c")
+    command = ["make", "-s", "-C", root / "sqlite", f"BUILD={folder}", "volume"]
+    done = subprocess.run(command, env=settings, capture_output=True, text=True, check=False)
+    assert (done.returncode, done.stderr) == (0, ""), done.stderr[-3000:]
+    return folder / "volume/yieldcleat.so"
+
+
+# The servers
+
+
+class Cluster:
+    """Servers in a folder, with the files that name them: `volume`, and `proxied` behind proxies."""
+
+    def __init__(self, program, folder, disk, gossip_every=50):
+        """Servers that gossip every so many milliseconds."""
+        self.folder = folder
+        folder.mkdir()
+        places = [f"unix:{folder}/n{number}/socket" for number in range(NODES)]
+        self.stores = []
+        for number in range(NODES):
+            peers = [word for place in places if place != places[number] for word in ("--peer", place)]
+            self.stores.append(Store(program, folder / f"n{number}", "--gossip-every", gossip_every, *peers, shim=disk))
+        (folder / "volume").write_text("".join(f"{place}\n" for place in places))
+        (folder / "proxied").write_text("".join(f"unix:{folder}/p{number}\n" for number in range(NODES)))
+        self.stopped = set()
+
+    def start(self, *numbers, delay=0):
+        """Starts those of the servers that do not run; each flush takes so many microseconds."""
+        for store in (self.stores[number] for number in numbers or range(NODES)):
+            if not store.process or store.process.poll() is not None:
+                store.settings["DISK_DELAY"] = delay
+                store.full.unlink(missing_ok=True)
+                store.start()
+
+    def kill(self, *numbers):
+        for number in numbers:
+            self.resume(number)
+            self.stores[number].close()
+
+    def wipe(self, number):
+        self.kill(number)
+        shutil.rmtree(self.stores[number].data, ignore_errors=True)
+
+    def pause(self, number):
+        self.stores[number].process.send_signal(signal.SIGSTOP)
+        self.stopped.add(number)
+
+    def resume(self, *numbers):
+        for number in self.stopped & set(numbers or range(NODES)):
+            self.stores[number].process.send_signal(signal.SIGCONT)
+            self.stopped.discard(number)
+
+    def fill_disk(self, number, is_full=True):
+        self.stores[number].full.touch() if is_full else self.stores[number].full.unlink(missing_ok=True)
+
+    def heal(self):
+        """All run, with room on their disks."""
+        self.resume()
+        for number in range(NODES):
+            self.fill_disk(number, False)
+        self.start()
+
+    def status(self, number):
+        """Generation, birth, membership, epoch, complete point and minimum read point of a server that runs; else nothing."""
+        store = self.stores[number]
+        if number in self.stopped or not store.process or store.process.poll() is not None:
+            return None
+        with contextlib.suppress(OSError):
+            return [int(word) for word in store.ask(b"status").split()[1:7]]
+        return None
+
+    def members(self):
+        return [number for number in range(NODES) if (status := self.status(number)) and status[2]]
+
+    def fronts(self):
+        return [status[3:5] if (status := self.status(number)) else None for number in range(NODES)]
+
+    def settled(self):
+        """Whether all have the same front after a while."""
+        return until(lambda: len({tuple(front or ()) for front in self.fronts()}) == 1)
+
+    def close(self):
+        self.resume()
+        for store in self.stores:
+            store.close()
+
+
+# The proxies
+
+
+def read_frame(connection):
+    head = read_bytes(connection, 4)
+    return read_bytes(connection, int.from_bytes(head, "big"))
+
+
+def read_bytes(connection, count):
+    parts = []
+    while count:
+        part = connection.recv(min(count, 1 << 20))
+        if not part:
+            raise ConnectionError
+        parts.append(part)
+        count -= len(part)
+    return b"".join(parts)
+
+
+def framed(request):
+    return len(request).to_bytes(4, "big") + request
+
+
+def inside(frames):
+    found = []
+    while frames:
+        end = 4 + int.from_bytes(frames[:4], "big")
+        found.append(frames[4:end])
+        frames = frames[end:]
+    return found
+
+
+class Proxy:
+    """Passes the requests of an engine on to a server one by one, until so many are spent; then it holds back what comes."""
+
+    def __init__(self, folder, number, spent):
+        self.place, self.server, self.spent = f"{folder}/p{number}", f"{folder}/n{number}/socket", spent
+        self.left = None  # no bound
+        self.drops = 0  # how often what was held back has been dropped
+        self.listener = socket.socket(socket.AF_UNIX)
+        self.listener.bind(self.place)
+        self.listener.listen(64)
+        threading.Thread(target=self.accept, daemon=True).start()
+
+    def accept(self):
+        while True:
+            threading.Thread(target=self.serve, args=(self.listener.accept()[0],), daemon=True).start()
+
+    def may_pass(self, request):
+        """Questions for the status and reads spend nothing."""
+        if self.left is None or request.startswith((b"status", b"read ", b"front")):
+            return True
+        self.left -= 1
+        if self.left < 0:
+            self.spent.set()
+        return self.left >= 0
+
+    def serve(self, engine):
+        with contextlib.suppress(OSError), socket.socket(socket.AF_UNIX) as server:
+            server.connect(self.server)
+            while True:
+                request = read_frame(engine)
+                many = request.startswith(b"many ")
+                answers = [self.ask(server, it) for it in (inside(request[5:]) if many else [request])]
+                engine.sendall(framed(b"".join(map(framed, answers)) if many else answers[0]))
+        engine.close()
+
+    def ask(self, server, request):
+        drops = self.drops
+        while not self.may_pass(request):
+            time.sleep(0.02)
+        if self.drops != drops:
+            raise ConnectionError
+        server.sendall(framed(request))
+        return read_frame(server)
+
+
+def run_proxies(pipe, folder):
+    """Sets what each proxy may still pass on, and says when the first one has spent that."""
+    spent = threading.Event()
+    proxies = [Proxy(folder, number, spent) for number in range(NODES)]
+    pipe.send("ready")
+    while True:
+        word, value, drops = pipe.recv()
+        if word == "bound":
+            spent.clear()
+            for proxy, left in zip(proxies, value or [None] * NODES):
+                proxy.drops += drops
+                proxy.left = left
+            pipe.send("done")
+        else:
+            pipe.send(spent.wait(value))
+
+
+class Proxies:
+    """The proxies in a process of their own."""
+
+    def __init__(self, folder):
+        fork = multiprocessing.get_context("fork")
+        self.pipe, theirs = fork.Pipe()
+        self.process = fork.Process(target=run_proxies, args=(theirs, folder), daemon=True)
+        self.process.start()
+        self.pipe.recv()
+
+    def bound(self, counts, drops=False):
+        """How many requests each server still gets, or None for all; what was held back is dropped, or arrives late."""
+        self.pipe.send(("bound", counts, drops))
+        self.pipe.recv()
+
+    def wait(self, seconds):
+        """Whether a bound is spent within the time."""
+        self.pipe.send(("wait", seconds, False))
+        return self.pipe.recv()
+
+    def close(self):
+        self.process.kill()
+        self.process.join()
+
+
+def kill_process(process):
+    with contextlib.suppress(ProcessLookupError):
+        os.kill(process.pid, signal.SIGKILL)
+    process.join()

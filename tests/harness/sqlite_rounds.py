@@ -1,0 +1,241 @@
+"""What is left of a database over six servers whose engine was killed, while servers are killed, stopped, wiped, slow or full.
+
+By hand, for many rounds: python3 -m harness.sqlite_rounds EXTENSION STORE DISK FOLDER SEED SECONDS
+"""
+
+import ctypes
+import random
+import shutil
+import sqlite3
+import sys
+import time
+from pathlib import Path
+
+if __name__ == "__main__":
+    sys.path.insert(0, str(Path(__file__).resolve().parents[1]))
+
+from harness.sqlite_cluster import NODES, QUORUM, Cluster, Proxies, kill_process
+from harness.sqlite_crashes import Child, digest
+from harness.sqlite_transactions import TABLES, transaction
+from harness.sqlite_worlds import content, is_whole, one
+
+MOST_LOST = 2  # servers at a time that have lost their files and are not admitted
+PATIENCE = 20000  # milliseconds of an engine that is to succeed
+ROUNDS = 150  # of one cluster
+
+
+LOG = []  # what SQLite has logged in this process: why a database is not opened, above all
+
+
+@ctypes.CFUNCTYPE(None, ctypes.c_void_p, ctypes.c_int, ctypes.c_char_p)
+def note(_, code, text):
+    LOG.append(f"({code}) {text.decode()}")
+
+
+def told(error):
+    """An error with its message, and what SQLite has logged of the VFS."""
+    said = [line for line in LOG[-3:] if "yieldcleat" in line]
+    return f"{error.sqlite_errorname}: {error} {said}"
+
+
+def load(extension):
+    """Registers the VFS, for this process and those that are forked from it."""
+    library = ctypes.CDLL("libsqlite3.so.0")  # the one of Python's module
+    library.sqlite3_shutdown()
+    library.sqlite3_config(16, note, None)  # SQLITE_CONFIG_LOG
+    library.sqlite3_initialize()
+    first = sqlite3.connect(":memory:")
+    first.enable_load_extension(True)
+    first.load_extension(str(Path(extension).with_suffix("")))
+    first.close()
+
+
+def connect(place, **parameters):
+    """A connection with a busy timeout: the first lock for writing after a crash may find a commit that is newer than the snapshot."""
+    words = "".join(f"&{key}={value}" for key, value in parameters.items())
+    return sqlite3.connect(f"file:{place}?vfs=yieldcleat{words}", uri=True, isolation_level=None, timeout=10, check_same_thread=False)
+
+
+# What runs in processes of their own
+
+
+def work(pipe, place, seed, mode):
+    """Does the transactions after the last one that the database has, and sends the number of each after its commit."""
+    try:
+        ours = connect(place, timeout=PATIENCE)
+        pipe.send("open")
+        ours.execute(f"pragma synchronous = {mode}")
+        ours.execute("begin immediate").execute("rollback")
+        last = one(ours, "select number from done")
+        ours.execute(f"pragma cache_size = {5 + last % 3 * 40}")
+        pipe.send("writing")
+        for number in range(last + 1, last + 400):
+            transaction(ours, seed, number)
+            pipe.send(number)
+    except sqlite3.Error as error:
+        pipe.send(told(error))
+
+
+def make(pipe, place):
+    """Makes the volume. One that dies here leaves servers which no engine opens: they promised nothing, and have to be started afresh."""
+    connect(place, timeout=PATIENCE).executescript(f"begin; {TABLES} commit")
+    pipe.send("made")
+
+
+def look(pipe, place, writes):
+    """Sends the state of the database: whether it is whole, the last transaction in it, and a digest. With a lock for writing nothing that
+    an older engine has sent arrives any more."""
+    try:
+        ours = connect(place, timeout=PATIENCE)
+        ours.execute("begin immediate" if writes else "begin")
+        last = one(ours, "select number from done")
+        pipe.send((is_whole(ours), last, digest(ours)))
+        ours.execute("commit")
+    except sqlite3.Error as error:
+        pipe.send((told(error), None, None))
+
+
+def watch(pipe, place):
+    """Sends a digest whenever it is asked, by one connection that only reads."""
+    ours = connect(place, mode="ro", timeout=PATIENCE)
+    while pipe.recv():
+        try:
+            pipe.send(digest(ours))
+        except sqlite3.Error as error:
+            pipe.send(told(error))
+
+
+# A round
+
+
+class Rounds:
+    """Rounds over one cluster, each fixed by the seed and its number, as far as time allows."""
+
+    def __init__(self, store, folder, disk, seed):
+        self.cluster, self.seed, self.folder = Cluster(store, folder, disk), seed, folder
+        self.cluster.start()
+        self.proxies = Proxies(folder)
+        self.plain = sqlite3.connect(":memory:", isolation_level=None)
+        self.plain.executescript(TABLES)
+        assert Child(make, folder / "volume").said() == ["made"]
+        self.last, self.reached, self.watcher, self.counts = 0, 0, None, {"rounds": 0, "returned": 0, "in doubt": 0, "lost by off": 0, "deaths": 0}
+
+    def disturb(self, choose):
+        """Something that happens to at most two servers, while all others run."""
+        kind = choose.choice(["nothing", "kill", "kill", "stop", "wipe", "slow", "full", "late"])
+        victims = choose.sample(range(NODES), choose.choice([1, 2]))
+        for number in victims:
+            if kind in ("kill", "late"):
+                self.cluster.kill(number)
+            elif kind == "stop":
+                self.cluster.pause(number)
+            elif kind == "full":
+                self.cluster.fill_disk(number)
+            elif kind == "slow":
+                self.cluster.kill(number)
+                self.cluster.start(number, delay=choose.randrange(1000, 80000))
+            elif kind == "wipe" and NODES - len(self.cluster.members()) < MOST_LOST:
+                self.cluster.wipe(number)
+                if choose.random() < 0.7:
+                    self.cluster.start(number)
+        return kind, victims
+
+    def run_and_kill(self, choose, mode):
+        """The last transaction of which an engine says, before it is killed, that its commit returned."""
+        how = choose.choice(["bytes", "bytes", "time", "opening", "opening"])
+        place = self.folder / ("volume" if how == "time" else "proxied")
+        if how == "opening":
+            self.proxies.bound([choose.randrange(14) for _ in range(NODES)])
+        child = Child(work, place, self.seed, mode)
+        said = []
+        if how == "bytes":
+            while child.pipe.poll(30) and (not said or said[-1] != "writing") and not child.pipe.closed:
+                try:
+                    said.append(child.pipe.recv())
+                except EOFError:
+                    break
+            self.proxies.bound([choose.choice([0, choose.randrange(6), choose.randrange(60), choose.randrange(300)]) for _ in range(NODES)])
+        if how == "time":
+            time.sleep(choose.randrange(1500) / 1000)
+        else:
+            self.proxies.wait(2)
+            time.sleep(choose.choice([0, 0.005, 0.05]))
+        kill_process(child.process)
+        said += child.said()
+        self.proxies.bound(None, choose.random() < 0.5)
+        return how, [it for it in said if isinstance(it, int)], [it for it in said if isinstance(it, str)]
+
+    def play(self, round_):
+        """Plays a round; the result says what is wrong, or is empty."""
+        choose = random.Random(f"{self.seed} round {round_}")
+        mode = choose.choice(["full", "normal", "off"])
+        kind, victims = self.disturb(choose)
+        deaths, well = [], self.last
+        for _ in range(choose.choice([1, 1, 2])):
+            how, numbers, words = self.run_and_kill(choose, mode)
+            deaths.append((how, max(numbers, default=None), words[-1:]))
+            well = max([well, *numbers])
+            self.counts["deaths"] += 1
+            if numbers and len(deaths) == 1 and choose.random() < 0.5:
+                break
+        if kind != "late" or choose.random() < 0.5 or len(self.cluster.members()) < QUORUM:  # a fresh one counts in no quorum
+            self.cluster.heal()
+        where, least = f"round {round_}: {mode}, {kind} {victims}, {deaths}: {well} returned", self.last if mode == "off" else well
+        for writes in [True] if choose.random() < 0.6 else [False, True]:
+            [(is_good, now, found)] = Child(look, self.folder / "volume", writes).said()
+            wrong = str(is_good) if is_good is not True else self.judge(least, now, well + 1, found)
+            if wrong:
+                return f"{where}; {'a writer' if writes else 'a reader'}: {wrong}"
+            least = now
+        self.cluster.heal()
+        self.watcher = self.watcher or Child(watch, self.folder / "volume")
+        seen = self.watcher.ask()
+        if seen != found:
+            return f"{where}; a reader sees {seen if isinstance(seen, str) else 'another content'}"
+        self.counts["rounds"] += 1
+        self.counts["returned"] += max(0, well - self.last)
+        self.counts["in doubt"] += now == well + 1
+        self.counts["lost by off"] += now < well
+        self.last = now
+        return ""
+
+    def judge(self, least, now, most, found):
+        """What is wrong with the content that was found, after so many transactions."""
+        if not least <= now <= most:
+            return f"{now} found, not {least} to {most}"
+        while self.reached < now:
+            self.reached += 1
+            transaction(self.plain, self.seed, self.reached)
+        return "" if digest(self.plain) == found else f"{now} found with another content"
+
+    def close(self):
+        if self.watcher:
+            kill_process(self.watcher.process)
+        self.proxies.close()
+        self.cluster.close()
+
+
+def run(extension, store, disk, folder, seed, seconds, rounds=10**9):
+    """Rounds until the time is up, over a new cluster now and then. Returns the counts, and what is wrong."""
+    load(extension)
+    end, place, total = time.monotonic() + seconds, 0, {}
+    while place == 0 or (time.monotonic() < end and place < rounds):
+        here, wrong = Rounds(store, Path(folder) / f"c{place}", disk, f"{seed} {place}"), ""
+        try:
+            first = place
+            while not wrong and (place == first or (time.monotonic() < end and place < min(rounds, first + ROUNDS))):
+                wrong = here.play(place)
+                place += 1
+        finally:
+            here.close()
+            total = {name: total.get(name, 0) + count for name, count in here.counts.items()}
+        if wrong:
+            return total, wrong
+        shutil.rmtree(here.folder)
+    return total, ""
+
+
+if __name__ == "__main__":
+    counts, wrong = run(*sys.argv[1:5], int(sys.argv[5]), float(sys.argv[6]))
+    print(f"seed {sys.argv[5]}: {counts}", wrong)
+    sys.exit(bool(wrong))

@@ -1,0 +1,94 @@
+"""SQLite over six storage servers: crashes of engines beside what happens to servers, and schedules that random rounds hit seldom."""
+
+import shutil
+import subprocess
+import sys
+
+import pytest
+import test_sqlite
+
+from harness import ROOT
+from harness.sqlite_cluster import build_extension
+from harness.sqlite_schedules import SCHEDULES
+
+pytestmark = [pytest.mark.xdist_group("sqlite_nodes"), *test_sqlite.pytestmark[1:]]
+SECONDS = 240  # until a run counts as not ended
+
+# Faults of the driver: the schedule that finds each, a file, and what is there with what is put in its place.
+MUTANTS = {
+    "acknowledges_at_once": ("two_engines", "progress.rs", {"if durable >= commit_point {": "if durable >= commit_point.min(1) {"}),
+    "page_0_first": (
+        "one_snapshot",
+        "driver.rs",
+        {
+            "        for (place, write) in": "        let early = self.step(Event::Commit { header }).and_then(accepted);\n        for (place, write) in",
+            "match self.step(Event::Commit { header }).and_then(accepted) {": "match early {",
+        },
+    ),
+    "writer_asks_nobody": ("fenced_reader", "volume.rs", {"let mut have = 0;": "let mut have = 0;\n        if have == 0 {\n            return Ok(own.durable);\n        }"}),
+    "reads_without_a_snapshot": ("one_snapshot", "../c/src/handles.rs", {"reader.read(page, point, offset, length)": "reader.read(page, reader.newest()?, offset, length)"}),
+    "believes_one_server": ("not_yet_durable", "newest.rs", {"nth_greatest(counted, quorum.saturating_sub(1))": "nth_greatest(counted, quorum.saturating_sub(quorum))"}),
+    "reminds_what_it_holds_back": (
+        "openings_with_stopped_servers",
+        "driver.rs",
+        {
+            "if self.grace.is_some() || (self.opening.is_none() && !self.progress.is_waiting()) {": "if self.opening.is_none() && !self.progress.is_waiting() {",
+        },
+    ),
+    "keeps_to_itself_what_was_durable": ("third_server", "../c/src/known.rs", {"*newest = found.max(*newest);": "*newest = found.min(*newest);"}),
+}
+
+
+def run(module, extension, store, disk, folder, *words):
+    """What a module of the harness prints, in a process of its own; its end is to be good."""
+    folder.mkdir()
+    command = [sys.executable, "-m", f"harness.{module}", extension, store, disk, folder, *map(str, words)]
+    return subprocess.run(command, cwd=ROOT / "tests", stdout=subprocess.PIPE, stderr=subprocess.STDOUT, text=True, timeout=SECONDS, check=False)
+
+
+@pytest.fixture(scope="module")
+def extension(volume_archive, tmp_path_factory):
+    return build_extension(volume_archive, tmp_path_factory.mktemp("extension"), ROOT)
+
+
+@pytest.fixture(scope="module")
+def parts(extension, store_program, disk):
+    return extension, store_program, disk
+
+
+def test_crash_rounds(parts, tmp_path, seed, seconds):
+    done = run("sqlite_rounds", *parts, tmp_path / "s", seed, 2 * seconds)
+    assert done.returncode == 0, done.stdout[-3000:]
+    print(done.stdout)
+
+
+@pytest.mark.parametrize("name", SCHEDULES)
+def test_schedule(parts, tmp_path, seed, name):
+    done = run("sqlite_schedules", *parts, tmp_path / "s", seed, name)
+    assert done.returncode == 0, f"seed {seed}\n{done.stdout[-3000:]}"
+
+
+@pytest.fixture(scope="module")
+def copy(tmp_path_factory):
+    """A copy of the sources, so that each mutant builds two packages."""
+    folder = tmp_path_factory.mktemp("copy")
+    for name in ("client", "volume", "sqlite"):
+        shutil.copytree(ROOT / name, folder / name, ignore=shutil.ignore_patterns("target", "build"))
+    return folder
+
+
+@pytest.mark.parametrize("name", MUTANTS)
+def test_mutant(copy, volume_archive, store_program, disk, tmp_path, seed, name):
+    schedule, file, changes = MUTANTS[name]
+    path = copy / "volume/src" / file
+    text = changed = path.read_text()
+    for old, new in changes.items():
+        assert changed.count(old) == 1, f"{changed.count(old)} places of {old}"
+        changed = changed.replace(old, new)
+    path.write_text(changed)
+    try:
+        extension = build_extension(volume_archive, copy / "build", copy)
+        done = run("sqlite_schedules", extension, store_program, disk, tmp_path / "s", seed, schedule)
+    finally:
+        path.write_text(text)
+    assert "AssertionError" in done.stdout and done.returncode == 1, f"nobody noticed\n{done.stdout[-2000:]}"
