@@ -67,6 +67,10 @@ pub enum VolumeError {
     Below {
         min: u64,
     },
+    /// The point is above the newest durable one that the reader has learnt, so it may belong to an engine that lost its epoch.
+    Above {
+        newest: u64,
+    },
     /// An argument is out of its range.
     Argument(&'static str),
     /// The machine lacks memory. The call has changed nothing.
@@ -104,6 +108,7 @@ impl fmt::Display for VolumeError {
             },
             VolumeError::NotRead { page, point } => write!(f, "no node answers for page {page} at {point}"),
             VolumeError::Below { min } => write!(f, "the point is below the minimum read point {min}"),
+            VolumeError::Above { newest } => write!(f, "the point is above the newest one that is known, {newest}"),
             VolumeError::Argument(what) => write!(f, "{what} is out of its range"),
             VolumeError::Memory => f.write_str("out of memory"),
             VolumeError::Thread(kind) => write!(f, "a thread was not started: {kind}"),

@@ -37,6 +37,8 @@ pub enum BadOptions {
     Nodes { count: usize },
     /// A quorum is more than half of the nodes, and at most all.
     Quorum { quorum: u8, nodes: usize },
+    /// Two nodes, by their numbers from 0, have one address: a quorum could be fewer disks than it counts.
+    Twice { first: usize, second: usize },
 }
 
 impl fmt::Display for BadOptions {
@@ -44,6 +46,7 @@ impl fmt::Display for BadOptions {
         match self {
             BadOptions::Nodes { count } => write!(f, "{count} nodes are not 1 to {MOST_NODES}"),
             BadOptions::Quorum { quorum, nodes } => write!(f, "{quorum} of {nodes} nodes are no write quorum"),
+            BadOptions::Twice { first, second } => write!(f, "nodes {} and {} have the same address", first + 1, second + 1),
         }
     }
 }
@@ -75,7 +78,11 @@ impl Options {
         if usize::from(quorum) > nodes || 2 * usize::from(quorum) <= nodes {
             return Err(BadOptions::Quorum { quorum, nodes });
         }
-        Ok(())
+        let twice = (0..nodes).find_map(|second| {
+            let first = self.nodes[..second].iter().position(|it| *it == self.nodes[second])?;
+            Some(BadOptions::Twice { first, second })
+        });
+        twice.map_or(Ok(()), Err)
     }
 }
 
@@ -102,5 +109,8 @@ mod tests {
         for quorum in [0, 3, 7] {
             assert_eq!(Options { quorum, ..of(6) }.check(), Err(BadOptions::Quorum { quorum, nodes: 6 }));
         }
+        let mut options = of(6);
+        options.nodes[4] = options.nodes[1].clone();
+        assert_eq!(options.check(), Err(BadOptions::Twice { first: 1, second: 4 }));
     }
 }

@@ -144,23 +144,27 @@ impl Reader {
 
     /// Page 0 at a point.
     ///
-    /// Errors: `Below`, `NotRead`, and `Damaged` where no volume wrote it.
+    /// Errors: those of `read`, and `Damaged` where no volume wrote it.
     pub fn page_zero(&self, point: u64) -> Result<PageZero, VolumeError> {
-        self.readers.page_zero(self.at(point), Instant::now() + self.options.patience)
+        self.readers.page_zero(self.at(point)?, Instant::now() + self.options.patience)
     }
 
-    /// `length` bytes of a page from `offset` on, at a durable commit point.
+    /// `length` bytes of a page from `offset` on, at a durable commit point up to the newest one that `newest` or `learn` has returned.
     ///
-    /// Errors: `Argument`, `Below`, `NotRead`.
+    /// Errors: `Argument`, `Above`, `Below`, `NotRead`.
     pub fn read(&self, page: u16, point: u64, offset: u16, length: u16) -> Result<Vec<u8>, VolumeError> {
-        let range = Range { at: self.at(point), page, offset, length };
+        let range = Range { at: self.at(point)?, page, offset, length };
         range.check()?;
         self.readers.read(range, Instant::now() + self.options.patience)
     }
 
-    fn at(&self, point: u64) -> At {
-        let epoch = self.newest.lock().unwrap_or_else(PoisonError::into_inner).0;
-        At { epoch, point, is_durable: true }
+    /// A node of an earlier epoch than that of the point may have dead records in its place, so the epoch must be known.
+    fn at(&self, point: u64) -> Result<At, VolumeError> {
+        let (epoch, newest) = *self.newest.lock().unwrap_or_else(PoisonError::into_inner);
+        if point > newest {
+            return Err(VolumeError::Above { newest });
+        }
+        Ok(At { epoch, point, is_durable: true })
     }
 }
 
@@ -170,6 +174,15 @@ mod tests {
 
     fn found(epoch: u16, durable: Option<u64>, bound: Option<u64>) -> Together {
         Together { epoch, durable, bound }
+    }
+
+    #[test]
+    fn no_point_above_the_newest_one_is_read() {
+        let node = yieldcleat_client::Address::Unix("nobody".into());
+        let reader = Reader::open(Options::new(vec![node])).unwrap();
+        assert_eq!(reader.read(1, 1, 0, 1), Err(VolumeError::Above { newest: 0 }));
+        assert_eq!(reader.learn((2, 7)), 7);
+        assert_eq!(reader.page_zero(8), Err(VolumeError::Above { newest: 7 }));
     }
 
     #[test]

@@ -13,13 +13,23 @@ const LENGTH: usize = 20;
 
 /// The birth that a folder has, or a new one for a folder that has no files of a store, which is made where it is missing.
 ///
-/// Errors: `Io`; `Locked` while a store has the folder open; `Missing` where the folder has a log or a snapshot and no birth; `Damaged`.
+/// A birth without a log is not used again: the files may have been lost, and the node would count as one that has what they held.
+///
+/// Errors: `Io`; `Locked` while a store has the folder open; `Missing` where a file of the store is missing beside others; `Damaged`.
 pub fn birth(folder: &Path) -> Result<u64, StoreError> {
     // Two processes that start at the same time draw one birth.
-    let _lock = Folder::open(folder)?;
+    let lock = Folder::open(folder)?;
     let path = folder.join("birth");
     match File::open(&path) {
-        Ok(file) => read(file, &path),
+        Ok(file) => {
+            let birth = read(file, &path)?;
+            let has_lived = lock.generation()?.is_some();
+            if has_lived {
+                Ok(birth)
+            } else {
+                write(folder, &path)
+            }
+        }
         Err(error) if error.kind() == ErrorKind::NotFound => draw(folder, &path),
         Err(error) => Err(StoreError::io(&path)(error)),
     }
@@ -41,9 +51,14 @@ fn encoded(birth: u64) -> Vec<u8> {
     bytes
 }
 
-/// Writes a birth that nobody had, all of it or nothing.
+/// The birth of a folder without files.
 fn draw(folder: &Path, path: &Path) -> Result<u64, StoreError> {
     refuse_files(folder, path)?;
+    write(folder, path)
+}
+
+/// Writes a birth that nobody had, all of it or nothing.
+fn write(folder: &Path, path: &Path) -> Result<u64, StoreError> {
     let birth = random().map_err(StoreError::io(Path::new(RANDOM)))?;
     let draft = folder.join("birth.draft");
     let mut file = File::create(&draft).map_err(StoreError::io(&draft))?;
@@ -81,6 +96,7 @@ mod tests {
     fn a_birth_stays_with_its_folder() {
         let place = Place::new("birth");
         let first = birth(place.path()).unwrap();
+        fs::write(place.path().join("log.0"), "").unwrap();
         assert_eq!(birth(place.path()).unwrap(), first);
         let folder = Folder::open(place.path()).unwrap();
         assert!(matches!(birth(place.path()), Err(StoreError::Locked { .. })));
@@ -90,6 +106,21 @@ mod tests {
         let mut names: Vec<_> = fs::read_dir(place.path()).unwrap().map(|it| it.unwrap().file_name()).collect();
         names.sort();
         assert_eq!(names, ["birth", "lock"]);
+    }
+
+    #[test]
+    fn a_folder_that_lost_its_log_is_born_again() {
+        let place = Place::new("emptied");
+        let first = birth(place.path()).unwrap();
+        let log = place.path().join("log.0");
+        fs::write(&log, "").unwrap();
+        fs::remove_file(&log).unwrap();
+        let second = birth(place.path()).unwrap();
+        assert_ne!(second, first);
+        fs::write(place.path().join("snapshot.1"), "").unwrap();
+        assert!(matches!(birth(place.path()), Err(StoreError::Missing { .. })));
+        fs::write(place.path().join("log.1"), "").unwrap();
+        assert_eq!(birth(place.path()).unwrap(), second);
     }
 
     #[test]

@@ -108,6 +108,7 @@ impl From<VolumeError> for Failure {
             VolumeError::InDoubt { quorum, .. } => counted(Fault::Timeout, quorum),
             VolumeError::NotRead { .. } => of(Fault::NoQuorum),
             VolumeError::Below { min } => Failure { point: min, ..of(Fault::Below) },
+            VolumeError::Above { newest } => Failure { point: newest, ..of(Fault::Above) },
             VolumeError::Refused(Refusal::Ahead { durable }) => Failure { point: durable, ..of(Fault::Above) },
             VolumeError::Refused(Refusal::Full) => of(Fault::Full),
             VolumeError::Refused(Refusal::Damaged | Refusal::NotFresh) | VolumeError::Thread(_) | VolumeError::Closed => of(Fault::Io),
