@@ -45,9 +45,9 @@ fn nth_greatest(points: impl Iterator<Item = u64>, place: usize) -> Option<u64> 
 
 /// What follows from what members show, of so many nodes.
 ///
-/// Page 0 of an earlier epoch is at or below the truncation that began the epoch, so its commit is durable; so is one of the epoch that a
-/// quorum has that no later engine had fenced: each one that fences a quorum then finds it. A durable commit is at each node of some quorum, so `bound` counts nodes that show
-/// nothing as if they had it.
+/// Page 0 of an earlier epoch is at or below the truncation that began the epoch, so its commit is durable. So is a commit of the epoch at
+/// a quorum that no later engine had fenced: an engine that fences a quorum later finds it. A durable commit is at each node of some
+/// quorum, so `bound` counts nodes that show nothing as if they had it.
 pub fn together(shown: &[Shown], nodes: usize, quorum: usize) -> Option<Together> {
     let epoch = shown.iter().map(|it| it.epoch).max()?;
     let here: Vec<_> = shown.iter().filter(|it| it.epoch == epoch).collect();
