@@ -1,9 +1,7 @@
 -- The last commit point of a union, as an engine reads it from page 0.
-use Rattle.std.proofs.Common.{◌≡◌, ℕ, ◌^◌, ◌<◌, ◌≤◌, ⊎_elim, inl, inr, List, None, refl, sym, ◌∙◌, subst, ap, arith}
+use Rattle.std.proofs.Common.{◌≡◌, ℕ, ◌<◌, ◌≤◌, ⊎_elim, inl, inr, List, refl, sym, ◌∙◌, subst, ap, arith}
 use Rattle.std.specs.List.{Contains}
-use Rattle.std.proofs.lemmas.Bool.Decides.{nat_tests}
 use Rattle.redo_core.specs.Data.{RecordData, CutData}
-use Rattle.redo_core.specs.Shape.{record_fault, max_number}
 use Rattle.redo_core.specs.Order.{IsGreatest}
 use Rattle.redo_core.specs.Linked.{IsLinkedRecord}
 use Rattle.redo_core.specs.Position.{Position}
@@ -26,10 +24,7 @@ use Rattle.volume.specs.Planning.{IsOwnCut}
 use Rattle.volume_theorems.specs.Contents.{IsCommitPoint}
 use Rattle.redo_writer.specs.Layout.{number_of}
 use Rattle.volume_logs.specs.PageLayout.{LeavesNumber}
-use Rattle.volume_logs.proofs.PageLayout.{page_number, last_number, last_greatest}
-
-fits : (r : RecordData) → record_fault r ≡ None → r.number < 2 ^ 64
-fits r fault = let low : r.number ≤ max_number = grind (arith, nat_tests) in omega arith
+use Rattle.volume_logs.proofs.PageLayout.{number_fits, page_number, last_number, last_greatest}
 
 -- lo is the greatest commit point of the facts that the union means
 pub record IsLast (facts : List Fact) (k : ℕ) (cut : CutData) : Type 0 where
@@ -66,7 +61,7 @@ module _ (readers : ℕ) (log facts : List Fact) (p : Position) (s : State) (cut
   top : cut.lo ≡ last_number 0 shown.written
   top = own.lo.2 ∙ ap number_of shown.result ∙ page_number shown.written (λ r inside.
       let linked = ((shown.lists.members r).0 inside).0 in
-      (fits r (kept readers log (Record r) sound (of_log r linked)).shape, leaves r (of_log r linked)))
+      (number_fits r (kept readers log (Record r) sound (of_log r linked)).shape, leaves r (of_log r linked)))
 
   greatest : IsGreatest (HasNumber Applied) cut.lo
   greatest = subst (IsGreatest (HasNumber Applied)) (sym top)

@@ -16,7 +16,7 @@ use Rattle.log_theorems.proofs.Views.{alive_up}
 use Rattle.volume_theorems.specs.Nodes.{Content}
 use Rattle.volume_theorems.specs.Runs.{VolumeRun, MakesMove, Many}
 use Rattle.volume_theorems.specs.Runs.Move.{Accepts}
-use Rattle.volume_theorems.specs.Opening.{AnswersUnder, IsCutSent}
+use Rattle.volume_theorems.specs.Opening.{CountsUnder, IsCutSent}
 use Rattle.volume_theorems.specs.Protocol.{IsVoting}
 use Rattle.volume_theorems.specs.Stopping.{FollowsUntil}
 use Rattle.volume_theorems.specs.ByMoment.{HasOpenedBy, IsReportedBy, IsDurableBy}
@@ -109,7 +109,7 @@ module _ (run : VolumeRun) (h : History) (stop : ℕ) (follows : FollowsUntil ru
 
   reported_point : (t e epoch point : ℕ) → t ≤ stop → IsReportedBy run t e epoch point → IsCommitPoint (log_at h t) epoch point
   reported_point t e epoch point upto many =
-      let Had : ℕ → Type 0 = λ i. (s : ℕ) × (s ≤ t) × AnswersUnder run e s i
+      let Had : ℕ → Type 0 = λ i. (s : ℕ) × (s ≤ t) × CountsUnder run e s i
       × ((run.nodes s i).content.epoch ≡ epoch) × Contains (run.nodes s i).content.points point in
       let met = meet_within run Had Had follows.overlap many many in
       let x = met.1 in

@@ -17,6 +17,7 @@ use Rattle.log_theorems.proofs.Views.{linked_below}
 use Rattle.volume_theorems.specs.Runs.{VolumeRun}
 use Rattle.volume_theorems.specs.Stopping.{FollowsUntil}
 use Rattle.volume_theorems.specs.ByMoment.{IsReportedBy}
+use Rattle.volume_theorems.proofs.Guards.{answers_count}
 use Rattle.volume_theorems.proofs.Contents.{parts_grow}
 use Rattle.volume_logs.specs.Histories.{History, log_at}
 use Rattle.volume_logs.specs.Emitting.{IsEmitted}
@@ -92,6 +93,6 @@ fronts_make_durable run h stop t e k r follows is upto opened inside page many =
       λ i among.
           let x = many.2 i among in
           let has = front_has run h stop follows is t x.0 i k r x.1 upto inside page x.3 in
-          (x.0, x.1, x.2, has.0, has.1),
+          (x.0, x.1, answers_count run e x.0 i x.2, has.0, has.1),
     ) in
     (opened, inr reported)

@@ -10,7 +10,7 @@ use Rattle.redo_core.proofs.FactParts.{record_in, part_cuts}
 use Rattle.redo_core.proofs.CompleteEpochs.{one_complete_epoch}
 use Rattle.volume_theorems.specs.Runs.{VolumeRun, MakesMove}
 use Rattle.volume_theorems.specs.Runs.Move.{Accepts}
-use Rattle.volume_theorems.specs.Opening.{HasAsked, AnswersUnder}
+use Rattle.volume_theorems.specs.Opening.{HasAsked, CountsUnder}
 use Rattle.volume_theorems.specs.Protocol.{IsVoting}
 use Rattle.volume_theorems.specs.Stopping.{FollowsUntil}
 use Rattle.volume_theorems.specs.ByMoment.{HasOpenedBy, IsReportedBy}
@@ -56,7 +56,7 @@ opened_asked run t e k is opened =
 -- the engine whose record of page 0 the node shows
 record IsOf (run : VolumeRun) (s i epoch e : ℕ) : Type 0 where
   opened : HasOpenedBy run s e epoch
-  generation : (run.nodes s i).generation ≡ (run.engines e).generation
+  generation : (run.nodes s i).generation ≤ (run.engines e).generation
 
 -- what a counted node's page 0 was last written by: a record of the epoch, whose number is the point
 record IsCommitOf (run : VolumeRun) (h : History) (s i epoch p : ℕ) (counted : IsCounted run h s i epoch p) (r : RecordData) (e : ℕ) : Type 0 where
@@ -93,7 +93,7 @@ module _ (run : VolumeRun) (h : History) (stop : ℕ) (follows : FollowsUntil ru
         record {
           of = record {
             opened = subst (λ (k : ℕ). HasOpenedBy run s w.0 k) same w.1.opened;
-            generation = sym counted.generation ∙ says.generation_is;
+            generation = subst (λ (n : ℕ). (run.nodes s i).generation ≤ n) says.generation_is counted.generation;
           };
           linked = member.0;
           page = member.1;
@@ -153,8 +153,8 @@ module _ (run : VolumeRun) (h : History) (stop : ℕ) (follows : FollowsUntil ru
       }
 
 pub counted_is_durable : CountedIsDurable
-counted_is_durable run h stop t s i epoch point follows is upto order one many =
-    let until : FollowsUntil run t = until_earlier run t stop upto follows in
+counted_is_durable run h stop t s i epoch point follows is within order one many =
+    let until : FollowsUntil run t = until_earlier run t stop within follows in
     let of = counted_of run h stop follows is s i epoch point (omega arith) one in
     let e : ℕ = of.0 in
     let opened : HasOpenedBy run t e epoch = opened_later run s t e epoch order of.1.opened in
@@ -166,17 +166,17 @@ counted_is_durable run h stop t s i epoch point follows is upto order one many =
           let before : x.0 ≤ t = x.2 in
           let its = counted_of run h stop follows is x.0 j epoch x.1 (omega arith) x.4 in
           let itself : its.0 ≡ e = one_writer_by run t its.0 e epoch until (opened_later run x.0 t its.0 epoch before its.1.opened) opened in
-          let generation : (run.nodes x.0 j).generation ≡ (run.engines e).generation =
-          its.1.generation ∙ ap (λ (n : ℕ). (run.engines n).generation) itself in
+          let upto : (run.nodes x.0 j).generation ≤ (run.engines e).generation =
+          subst (λ (n : ℕ). (run.nodes x.0 j).generation ≤ (run.engines n).generation) itself its.1.generation in
           let asked : HasAsked run e x.0 =
           subst (λ (n : ℕ). HasAsked run n x.0) itself
           (opened_asked run x.0 its.0 epoch (until_earlier run x.0 stop (omega arith) follows) its.1.opened) in
-          let answers : AnswersUnder run e x.0 j = record { asked = asked; under = (x.4.member, generation) } in (
+          let counts : CountsUnder run e x.0 j = record { asked = asked; member = x.4.member; upto = upto } in (
             x.0,
             before,
-            answers,
+            counts,
             content_epoch run h stop follows is x.0 j epoch x.1 x.4,
-            has_point run h stop follows is t s i x.0 j epoch point x.1 upto order before one x.4 x.3,
+            has_point run h stop follows is t s i x.0 j epoch point x.1 within order before one x.4 x.3,
           ),
     ) in
     (e, (opened, inr reported))

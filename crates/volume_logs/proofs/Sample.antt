@@ -23,17 +23,18 @@ use Rattle.redo_writer.proofs.Tracking.{nothing_tracked}
 use Rattle.redo_writer.proofs.Continuing.{continues_advance}
 use Rattle.volume_theorems.specs.Runs.{MakesMove, Many}
 use Rattle.volume_theorems.specs.Runs.Move.{Accepts}
-use Rattle.volume_theorems.specs.Opening.{AnswersUnder, IsCutSent}
+use Rattle.volume_theorems.specs.Opening.{CountsUnder, IsCutSent}
 use Rattle.volume_theorems.specs.ByMoment.{HasOpenedBy, IsReportedBy, IsDurableBy}
 use Rattle.volume_theorems.specs.Contents.{IsContentOf}
 use Rattle.volume_theorems.specs.Sample.{sample_cut, nothing, content_of, sample_moves, sample_nodes, sample_run}
 use Rattle.volume_theorems.proofs.Quorums.{meet_within}
+use Rattle.volume_theorems.proofs.Guards.{answers_count}
 use Rattle.volume_theorems.proofs.Stopping.{lt_true, lt_false, follows_each}
 use Rattle.volume_theorems.proofs.Sample.{some_run, of_all, answers}
 use Rattle.volume_logs.specs.Histories.{log_to, log_at}
 use Rattle.volume_logs.specs.Writes.{GivesFact, Writes}
 use Rattle.redo_writer.specs.Layout.{commit_patch}
-use Rattle.volume_logs.specs.PageLayout.{LeavesNumber, IsCommitRecord}
+use Rattle.volume_logs.specs.PageLayout.{LeavesNumber, generation_of, IsCommitRecord}
 use Rattle.volume_logs.specs.Emitting.{IsWriter, IsContentIn, IsEmitted}
 use Rattle.volume_logs.specs.Sample.{sample_record, sample_advance, sample_facts, sample_written, sample_history, SomeHistory}
 use Rattle.redo_core.specs.Position.{Position, IsPosition}
@@ -227,8 +228,8 @@ writes_now t after = ⊎_elim
 -- ---- durable
 reported : (t : ℕ) → 8 ≤ t → IsReportedBy sample_run t 0 1 7
 reported t after = of_all
-    (λ (i : ℕ). (s : ℕ) × (s ≤ t) × AnswersUnder sample_run 0 s i × ((sample_nodes s i).content.epoch ≡ 1) × Contains (sample_nodes s i).content.points 7)
-    (7, omega arith, answers 7 (omega arith) (refl, refl), refl, there 0 (7 ∷ []) 7 (here 7 []))
+    (λ (i : ℕ). (s : ℕ) × (s ≤ t) × CountsUnder sample_run 0 s i × ((sample_nodes s i).content.epoch ≡ 1) × Contains (sample_nodes s i).content.points 7)
+    (7, omega arith, answers_count sample_run 0 7 0 (answers 7 (omega arith) (refl, refl)), refl, there 0 (7 ∷ []) 7 (here 7 []))
 
 durable : (t : ℕ) → 8 ≤ t → IsDurableBy sample_run t 0 1 7
 durable t after = (opened t (omega arith), inr (reported t after))
@@ -515,7 +516,7 @@ counted = record {
   image = page_zero;
   shown = shown;
   own = says.epoch_is;
-  generation = says.generation_is;
+  generation = (let same : generation_of page_zero ≡ 2 = says.generation_is in omega arith);
   point_is = says.number_is;
 }
 

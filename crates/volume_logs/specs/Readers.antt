@@ -17,7 +17,7 @@ use Rattle.volume_logs.specs.PageLayout.{generation_of, epoch_of_page}
 use Rattle.volume_logs.specs.Emitting.{IsEmitted}
 
 -- A reader counts node i, at the commit point, by one answer of the moment s: it is a member, its front is of the epoch, and page 0 at the
--- front's complete point was last written in that epoch, under the node's own generation, at the commit point.
+-- front's complete point was last written in that epoch, under the node's own generation or a later one, at the commit point.
 pub record IsCounted (run : VolumeRun) (h : History) (s i epoch point : ℕ) : Type 0 where
   pub part : List Fact
   pub inner : IsPart part (log_at h s)
@@ -30,7 +30,7 @@ pub record IsCounted (run : VolumeRun) (h : History) (s i epoch point : ℕ) : T
   pub image : List ℕ
   pub shown : IsPageAt part epoch 0 front.complete image
   pub own : epoch_of_page image ≡ epoch
-  pub generation : generation_of image ≡ (run.nodes s i).generation
+  pub generation : (run.nodes s i).generation ≤ generation_of image
   pub point_is : number_of image ≡ point
 
 -- a node was counted by the moment t, at or above the point

@@ -16,7 +16,7 @@ use Rattle.volume_theorems.proofs.Quorums.{meet_within}
 use Rattle.volume_theorems.proofs.Choosing.{one_truncation, one_writer, sent_chosen}
 use Rattle.volume_theorems.proofs.Lasting.{lo_rises, durable_lasts}
 use Rattle.volume_theorems.proofs.Proposing.{all_sent}
-use Rattle.volume_theorems.proofs.Stopping.{stopped_follows, made_until, makes_back, sent_is, makes_is, answers_is, of_node}
+use Rattle.volume_theorems.proofs.Stopping.{stopped_follows, made_until, makes_back, sent_is, makes_is, counts_is, of_node}
 
 -- ---- what was done by the moment was done in the run that stops then
 opened_is : (run : VolumeRun) (t e epoch : ℕ) → HasOpenedBy run t e epoch → HasOpened (stopped run t) e epoch
@@ -38,7 +38,7 @@ reported_is run t e epoch point many = (
   λ i among.
       let x = many.2 i among in (
         x.0,
-        answers_is run t e x.0 i x.1 x.2,
+        counts_is run t e x.0 i x.1 x.2,
         (
           of_node run t (λ (n : VolumeNode). n.content.epoch ≡ epoch) x.0 i x.1 x.3,
           of_node run t (λ (n : VolumeNode). Contains n.content.points point) x.0 i x.1 x.4,

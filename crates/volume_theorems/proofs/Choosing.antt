@@ -11,7 +11,7 @@ use Rattle.volume_theorems.specs.Choosing.{IsChosen, OneTruncation, OnlyChosen, 
 use Rattle.volume_theorems.proofs.Quorums.{quorums_meet}
 use Rattle.volume_theorems.proofs.Orders.{by_time, vote_itself, IsVoteWithin}
 use Rattle.volume_theorems.proofs.Births.{made}
-use Rattle.volume_theorems.proofs.Guards.{asked_by_union, asked_later, fenced_before, raised, guarded}
+use Rattle.volume_theorems.proofs.Guards.{asked_by_union, asked_later, answers_count, fenced_before, raised, guarded}
 use Rattle.volume_theorems.proofs.Standing.{one_of_generation}
 use Rattle.volume_theorems.proofs.Seeing.{votes_are_seen, epochs_are_seen}
 use Rattle.volume_theorems.proofs.Proposing.{WasProposed, IsFromProposal, proposed_later, votes_proposed, all_sent}
@@ -48,7 +48,7 @@ vote_under run e k s i is makes =
       ap (λ (n : VolumeNode). n.generation) says.new_is ∙ says.under.1,
     ) in (
       suc s,
-      record { asked = asked_later run e s (suc s) (omega arith) (proposer_asked run e k s says.proposed); under = under },
+      answers_count run e (suc s) i (record { asked = asked_later run e s (suc s) (omega arith) (proposer_asked run e k s says.proposed); under = under }),
       subst (λ (v : Option Vote). VoteUpTo (Some (vote_for run e k)) v) (sym votes) (vote_itself (Some (vote_for run e k))),
     )
 
@@ -66,7 +66,7 @@ reported_under run e k t is p = (
   λ i among.
       let x = p.known.2 i among in
       let at : (run.nodes x.0 i).content.epoch ≡ p.union.epoch = x.3 in
-      (x.0, x.2, omega arith),
+      (x.0, answers_count run e x.0 i x.2, omega arith),
 )
 
 -- an engine of a higher generation proposes no truncation of a lower epoch

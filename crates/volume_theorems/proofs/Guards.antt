@@ -3,7 +3,7 @@ use Rattle.std.proofs.Common.{◌≡◌, ℕ, zero, suc, ◌<◌, ◌≤◌, ⊎
 use Rattle.volume_theorems.specs.Nodes.{Content, Vote, VolumeNode, HasNothing, volume_node, with_content, with_generation, with_vote}
 use Rattle.volume_theorems.specs.Runs.{VolumeRun, Move}
 use Rattle.volume_theorems.specs.Runs.Move.{Rests, ComesFresh, Learns, IsReplaced, IsCreated, IsFenced, Accepts, IsAdmitted}
-use Rattle.volume_theorems.specs.Opening.{IsInQuorum, HasGathered, HasAsked, IsUnion}
+use Rattle.volume_theorems.specs.Opening.{IsInQuorum, HasGathered, HasAsked, AnswersUnder, CountsUnder, IsUnion}
 use Rattle.volume_theorems.specs.Protocol.{FollowsProtocol, IsRaised, IsEntering, Moves}
 use Rattle.volume_theorems.proofs.Orders.{last_or_earlier, IsVoteWithin, within_higher}
 use Rattle.volume_theorems.proofs.Births.{made, goes_on}
@@ -34,6 +34,12 @@ fenced_before run e t i is among =
 pub raised : (run : VolumeRun) (e i : ℕ) → FollowsProtocol run → HasGathered run e → IsInQuorum run e i
     → IsRaised run e (run.nodes ((run.engines e).fenced i) i) (run.nodes (suc ((run.engines e).fenced i)) i)
 raised run e i is has among = made run ((run.engines e).fenced i) i (IsFenced e) is (has.fenced i among)
+
+-- a node that answers under the engine's generation counts for the engine
+pub answers_count : (run : VolumeRun) (e s i : ℕ) → AnswersUnder run e s i → CountsUnder run e s i
+answers_count run e s i answers =
+    let same : (run.nodes s i).generation ≡ (run.engines e).generation = answers.under.1 in
+    record { asked = answers.asked; member = answers.under.0; upto = omega arith }
 
 -- ---- guards
 pub record IsGuarded (n : VolumeNode) : Type 0 where

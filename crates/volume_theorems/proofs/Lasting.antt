@@ -13,7 +13,7 @@ use Rattle.volume_theorems.specs.Lasting.{IsReported, DurableLasts, OpensAbove, 
 use Rattle.volume_theorems.proofs.Quorums.{quorums_meet}
 use Rattle.volume_theorems.proofs.Orders.{by_time}
 use Rattle.volume_theorems.proofs.Births.{made}
-use Rattle.volume_theorems.proofs.Guards.{asked_by_union, fenced_before}
+use Rattle.volume_theorems.proofs.Guards.{asked_by_union, answers_count, fenced_before}
 use Rattle.volume_theorems.proofs.Lives.{next_later}
 use Rattle.volume_theorems.proofs.Standing.{one_of_generation}
 use Rattle.volume_theorems.proofs.Seeing.{IsHandedOn, HadUnder, quorums_see, fenced_in_union}
@@ -227,7 +227,7 @@ origin_claim run a c is chosen cut o =
         λ i among.
             let x = p.known.2 i among in
             let at : (run.nodes x.0 i).content.epoch ≡ p.union.epoch = x.3 in
-            (x.0, x.2, (omega arith, subst (λ (p : ℕ). Contains (run.nodes x.0 i).content.points p) lo x.4)),
+            (x.0, answers_count run o.engine x.0 i x.2, (omega arith, subst (λ (p : ℕ). Contains (run.nodes x.0 i).content.points p) lo x.4)),
       );
       upto = λ t d sent (above : p.union.epoch < d.epoch) (within : d.epoch ≤ c.epoch).
           let same : d.epoch ≡ c.epoch = omega arith in

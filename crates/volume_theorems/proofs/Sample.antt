@@ -6,10 +6,11 @@ use Rattle.redo_core.proofs.Members.{none_in, here, there, only}
 use Rattle.volume_theorems.specs.Nodes.{HasNothing, VoteUpTo, GrowsTo, IsOfGeneration}
 use Rattle.volume_theorems.specs.Runs.{MakesMove, Many}
 use Rattle.volume_theorems.specs.Runs.Move.{IsFenced, Accepts}
-use Rattle.volume_theorems.specs.Opening.{HasGathered, HasShown, HasAsked, AnswersUnder, IsCutSent, IsUnion}
+use Rattle.volume_theorems.specs.Opening.{HasGathered, HasShown, HasAsked, AnswersUnder, CountsUnder, IsCutSent, IsUnion}
 use Rattle.volume_theorems.specs.Proposing.{MayPropose}
 use Rattle.volume_theorems.specs.Protocol.{Moves}
 use Rattle.volume_theorems.proofs.Orders.{grows_itself}
+use Rattle.volume_theorems.proofs.Guards.{answers_count}
 use Rattle.volume_theorems.specs.Sample.{sample_cut, nothing, is_zero, sample_node, sample_nodes, sample_run, SomeRun}
 
 -- ---- the engine
@@ -114,7 +115,7 @@ some_run = (
   (
     record { own = refl; accepted = of_all (λ (i : ℕ). (s : ℕ) × MakesMove sample_run s i (Accepts 0 1)) (4, (refl, refl)) },
     inr (of_all
-        (λ (i : ℕ). (s : ℕ) × AnswersUnder sample_run 0 s i × (((sample_nodes s i).content.epoch ≡ 1) × Contains (sample_nodes s i).content.points 7))
-        (7, answers 7 (omega arith) (refl, refl), (refl, there 0 (7 ∷ []) 7 (here 7 [])))),
+        (λ (i : ℕ). (s : ℕ) × CountsUnder sample_run 0 s i × (((sample_nodes s i).content.epoch ≡ 1) × Contains (sample_nodes s i).content.points 7))
+        (7, answers_count sample_run 0 7 0 (answers 7 (omega arith) (refl, refl)), (refl, there 0 (7 ∷ []) 7 (here 7 [])))),
   ),
 )

@@ -1,9 +1,9 @@
 -- What a quorum had under one generation is found by each engine of a higher one.
 use Rattle.std.proofs.Common.{◌≡◌, ◌≢◌, ℕ, suc, ◌<◌, ◌≤◌, ◌⊎◌, ⊎_elim, Option, Some, refl, sym, ◌∙◌, subst, ap, arith, IsTrue}
-use Rattle.volume_theorems.specs.Nodes.{Content, Vote, VolumeNode, IsOfGeneration, VoteUpTo, GrowsTo}
+use Rattle.volume_theorems.specs.Nodes.{Content, Vote, VolumeNode, VoteUpTo, GrowsTo}
 use Rattle.volume_theorems.specs.Runs.{VolumeRun, Move, MakesMove, IsOneBirth, Many}
 use Rattle.volume_theorems.specs.Runs.Move.{Rests, ComesFresh, Learns, IsReplaced, IsCreated, IsFenced, Accepts, IsAdmitted}
-use Rattle.volume_theorems.specs.Opening.{IsInQuorum, HasGathered, HasAsked, AnswersUnder, IsUnion}
+use Rattle.volume_theorems.specs.Opening.{IsInQuorum, HasGathered, HasAsked, CountsUnder, IsUnion}
 use Rattle.volume_theorems.specs.Protocol.{FollowsProtocol, IsFirstMember, IsEntering}
 use Rattle.volume_theorems.specs.Lives.{IsLaterNode}
 use Rattle.volume_theorems.specs.Standing.{StandsFrom}
@@ -22,9 +22,9 @@ pub record IsHandedOn (run : VolumeRun) (Has : ℕ → ℕ → Type 0) : Type 0 
   pub keeps : (t i : ℕ) → IsOneBirth run i t (suc t) → IsTrue (run.nodes t i).is_member → Has t i → Has (suc t) i
   pub passes : (t i e j : ℕ) → MakesMove run t i (IsAdmitted e) → IsInQuorum run e j → Has ((run.engines e).fenced j) j → Has (suc t) i
 
--- at some moment at which the node answers what the engine asks under its generation, it had it
+-- at some moment at which the node counts for the engine, it had it
 abbrev pub HadUnder : VolumeRun → ℕ → (ℕ → ℕ → Type 0) → ℕ → Type 0
-HadUnder run e Has i = (t : ℕ) × AnswersUnder run e t i × Has t i
+HadUnder run e Has i = (t : ℕ) × CountsUnder run e t i × Has t i
 
 -- the engine found it at a node of its quorum
 abbrev pub Finds : VolumeRun → ℕ → (ℕ → ℕ → Type 0) → Type 0
@@ -110,20 +110,19 @@ module _ (run : VolumeRun) (e : ℕ) (Has : ℕ → ℕ → Type 0) (is : Follow
   had_since j x y a n (Accepts f k) w earlier first last same since makes enters = absurd enters
 
   had_when_fenced : (f t j x n : ℕ) → ((s : ℕ) → s < n → AllFind run e Has s) → (run.engines f).gathered ≡ n → HasAsked run f t → IsInQuorum run f j
-      → (run.engines e).generation < (run.engines f).generation → HasAsked run e x
-      → IsOfGeneration (run.nodes x j) (run.engines e).generation → Has x j → Has ((run.engines f).fenced j) j
-  had_when_fenced f t j x n earlier now asked among higher own under had =
+      → (run.engines e).generation < (run.engines f).generation → CountsUnder run e x j → Has x j → Has ((run.engines f).fenced j) j
+  had_when_fenced f t j x n earlier now asked among higher counts had =
       let y : ℕ = (run.engines f).fenced j in
       let g : ℕ = (run.engines f).gathered in
       let stands : StandsFrom run f j = quorums_stand run f t j is asked among in
       let rises = raised run f j is asked.gathered among in
       let left = fence_leaves run f j y rises in
       let before : y < g = asked.gathered.before j among in
-      let generation : (run.nodes x j).generation ≡ (run.engines e).generation = under.1 in
+      let low : (run.nodes x j).generation ≤ (run.engines e).generation = counts.upto in
       let early : x < g =
       ⊎_elim
       (λ (it : x < g). it)
-      (λ (after : g ≤ x). let upto : (run.engines f).generation ≤ (run.nodes x j).generation = stands.since x after under.0 in absurd (omega arith))
+      (λ (after : g ≤ x). let upto : (run.engines f).generation ≤ (run.nodes x j).generation = stands.since x after counts.member in absurd (omega arith))
       (let which : (x < g) ⊎ (g ≤ x) = grind arith in which) in
       ⊎_elim
       (λ (same : IsOneBirth run j x y).
@@ -135,7 +134,7 @@ module _ (run : VolumeRun) (e : ℕ) (Has : ℕ → ℕ → Type 0) (is : Follow
       let upto : (run.nodes (suc y) j).generation ≤ (run.nodes x j).generation = later.generation left.under.0 in
       let at : (run.nodes (suc y) j).generation ≡ (run.engines f).generation = left.under.1 in absurd (omega arith))
       (let which : (x ≤ y) ⊎ (y < x) = grind arith in which) in
-      had_in_birth j x y order same under.0 had)
+      had_in_birth j x y order same counts.member had)
       (λ (apart : ¬ (IsOneBirth run j x y)).
       let order : x < y =
       ⊎_elim
@@ -143,7 +142,7 @@ module _ (run : VolumeRun) (e : ℕ) (Has : ℕ → ℕ → Type 0) (is : Follow
       (λ (after : y ≤ x). absurd (apart (sym (no_return run j y x g is after (omega arith) stands.birth))))
       (let which : (x < y) ⊎ (y ≤ x) = grind arith in which) in
       let entry : HasEntered run j y = has_entered run j y is rises.member in
-      let w : IsElsewhere run e j x y = record { asked = own; first = order; apart = apart } in
+      let w : IsElsewhere run e j x y = record { asked = counts.asked; first = order; apart = apart } in
       had_since j x y entry.moment n (run.moves entry.moment) w earlier entry.before (omega arith) (entry.same ∙ entry.since) entry.since entry.makes entry.enters)
       (let which : ((run.nodes x j).birth ≡ (run.nodes y j).birth) ⊎ ((run.nodes x j).birth ≢ (run.nodes y j).birth) = grind arith in which)
 
@@ -151,7 +150,7 @@ module _ (run : VolumeRun) (e : ℕ) (Has : ℕ → ℕ → Type 0) (is : Follow
   all_find many = by_time (AllFind run e Has) (λ n earlier f t now asked higher.
       let met = quorums_meet run (HadUnder run e Has) (IsInQuorum run f) is many (own_quorum run f asked.gathered) in
       let had = met.1 in
-      (met.0, met.2, had_when_fenced f t met.0 had.0 n earlier now asked met.2 higher had.1.asked had.1.under had.2))
+      (met.0, met.2, had_when_fenced f t met.0 had.0 n earlier now asked met.2 higher had.1 had.2))
 
   -- What a quorum had under an engine, each engine of a higher generation finds.
   pub quorums_see : (f t : ℕ) → Many run (HadUnder run e Has) → HasAsked run f t → (run.engines e).generation < (run.engines f).generation

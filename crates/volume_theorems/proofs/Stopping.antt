@@ -7,7 +7,7 @@ use Rattle.redo_core.specs.Data.{CutData}
 use Rattle.volume_theorems.specs.Nodes.{Content, Vote, VolumeNode, HasNothing, IsOfGeneration, GrowsTo, VoteUpTo}
 use Rattle.volume_theorems.specs.Runs.{VolumeRun, Move, MakesMove, IsOneBirth}
 use Rattle.volume_theorems.specs.Runs.Move.{Rests, ComesFresh, Learns, IsReplaced, IsCreated, IsFenced, Accepts, IsAdmitted}
-use Rattle.volume_theorems.specs.Opening.{HasGathered, HasShown, HasAsked, AnswersUnder, IsCutSent, IsUnion, IsKnownToMany, IsBest}
+use Rattle.volume_theorems.specs.Opening.{HasGathered, HasShown, HasAsked, AnswersUnder, CountsUnder, IsCutSent, IsUnion, IsKnownToMany, IsBest}
 use Rattle.volume_theorems.specs.Proposing.{AdoptsPending, MakesOwn, MayPropose, MayAdmit}
 use Rattle.volume_theorems.specs.Protocol.{Moves}
 use Rattle.volume_theorems.specs.Stopping.{FollowsUntil, stopped, StoppedFollows, FollowsEach, FollowsOn, FollowsAll}
@@ -74,10 +74,17 @@ module _ (run : VolumeRun) (stop : ℕ) where
         (of.0, of.1, shown_is e i of.0 t of.1 upto (fenced_before run e t i asked among) of.2);
   }
 
-  pub answers_is : (e s i : ℕ) → s ≤ stop → AnswersUnder run e s i → AnswersUnder Late e s i
+  answers_is : (e s i : ℕ) → s ≤ stop → AnswersUnder run e s i → AnswersUnder Late e s i
   answers_is e s i upto answers = record {
     asked = asked_is e s upto answers.asked;
     under = of_node (λ (n : VolumeNode). IsOfGeneration n (run.engines e).generation) s i upto answers.under;
+  }
+
+  pub counts_is : (e s i : ℕ) → s ≤ stop → CountsUnder run e s i → CountsUnder Late e s i
+  counts_is e s i upto counts = record {
+    asked = asked_is e s upto counts.asked;
+    member = of_node (λ n. IsTrue n.is_member) s i upto counts.member;
+    upto = of_node (λ n. n.generation ≤ (run.engines e).generation) s i upto counts.upto;
   }
 
   pub sent_is : (t : ℕ) (c : CutData) → t ≤ stop → IsCutSent run t c → IsCutSent Late t c

@@ -5,7 +5,7 @@ use Rattle.redo_core.specs.Data.{CutData}
 use Rattle.redo_core.specs.CompleteEpoch.{HasCutsTo}
 use Rattle.volume_theorems.specs.Runs.{VolumeRun, MakesMove, Many}
 use Rattle.volume_theorems.specs.Runs.Move.{Accepts}
-use Rattle.volume_theorems.specs.Opening.{AnswersUnder, IsCutSent}
+use Rattle.volume_theorems.specs.Opening.{CountsUnder, IsCutSent}
 use Rattle.volume_theorems.specs.Stopping.{FollowsUntil}
 
 -- a quorum has accepted the truncation that the engine made itself, before the moment
@@ -13,10 +13,10 @@ pub record HasOpenedBy (run : VolumeRun) (t e epoch : ℕ) : Type 0 where
   pub own : (run.engines e).opens ≡ epoch
   pub accepted : Many run (λ i. (s : ℕ) × (s < t) × MakesMove run s i (Accepts e epoch))
 
--- a quorum has reported the commit point by the moment, under the engine's generation and in the epoch
+-- a quorum has reported the commit point in the epoch by the moment, as members of the engine's generation or of lower ones
 abbrev pub IsReportedBy : VolumeRun → ℕ → ℕ → ℕ → ℕ → Type 0
 IsReportedBy run t e epoch point =
-    Many run (λ i. (s : ℕ) × (s ≤ t) × AnswersUnder run e s i
+    Many run (λ i. (s : ℕ) × (s ≤ t) × CountsUnder run e s i
     × ((run.nodes s i).content.epoch ≡ epoch) × Contains (run.nodes s i).content.points point)
 
 -- by the moment the engine has opened the epoch at the commit point, or a quorum has reported the commit point in that epoch

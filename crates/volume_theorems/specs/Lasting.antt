@@ -8,8 +8,8 @@ use Rattle.volume_theorems.specs.Opening.{WasUnder, IsUnion}
 use Rattle.volume_theorems.specs.Protocol.{FollowsProtocol}
 use Rattle.volume_theorems.specs.Choosing.{IsChosen, HasOpened}
 
--- A quorum has reported the commit point, under the engine's generation and in the epoch. So the engine counts what it hears, and so does a
--- reader what it sees: the last record of page 0 shows which engine has written in the epoch.
+-- A quorum has reported the commit point in the epoch, as members of the engine's generation or of lower ones. So the engine counts what it
+-- hears, and so does a reader what it sees: the last record of page 0 shows which engine has written in the epoch.
 abbrev pub IsReported : VolumeRun → ℕ → ℕ → ℕ → Type 0
 IsReported run e epoch point = Many run (WasUnder run e (λ n. (n.content.epoch ≡ epoch) × Contains n.content.points point))
 

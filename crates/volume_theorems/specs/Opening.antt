@@ -35,9 +35,16 @@ pub record AnswersUnder (run : VolumeRun) (e s i : ℕ) : Type 0 where
   pub asked : HasAsked run e s
   pub under : IsOfGeneration (run.nodes s i) (run.engines e).generation
 
--- it has answered so at some moment, and was such a node
+-- What the node has at the moment s counts for the engine: the engine has asked its whole quorum by then, and the node is a member of its
+-- generation or of a lower one.
+pub record CountsUnder (run : VolumeRun) (e s i : ℕ) : Type 0 where
+  pub asked : HasAsked run e s
+  pub member : IsTrue (run.nodes s i).is_member
+  pub upto : (run.nodes s i).generation ≤ (run.engines e).generation
+
+-- it counts so at some moment, and was such a node
 abbrev pub WasUnder : VolumeRun → ℕ → (VolumeNode → Type 0) → ℕ → Type 0
-WasUnder run e IsSuch i = (s : ℕ) × AnswersUnder run e s i × IsSuch (run.nodes s i)
+WasUnder run e IsSuch i = (s : ℕ) × CountsUnder run e s i × IsSuch (run.nodes s i)
 
 -- an engine has sent the truncation to be taken, before the moment t: a quorum has accepted it
 abbrev pub IsCutSent : VolumeRun → ℕ → CutData → Type 0
