@@ -35,7 +35,8 @@ MUTANTS = {
             "if self.grace.is_some() || (self.opening.is_none() && !self.progress.is_waiting()) {": "if self.opening.is_none() && !self.progress.is_waiting() {",
         },
     ),
-    "keeps_to_itself_what_was_durable": ("third_server", "../c/src/known.rs", {"*newest = found.max(*newest);": "*newest = found.min(*newest);"}),
+    "keeps_to_itself_what_was_durable": ("third_server", "../c/src/known.rs", {"lock(&self.0).learn(found);": "let _ = found;"}),
+    "believes_another_volume": ("another_volume", "known.rs", {"if !self.meets(found) {": "if self.births.is_empty() {"}),
 }
 
 

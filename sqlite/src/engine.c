@@ -196,12 +196,15 @@ static enum yieldcleat_fault open_reader(struct engine *engine, struct rights ri
     return fault ? fault : open_for_reading(engine);
 }
 
-/* Whether the writer that was left by an earlier connection is still the volume's; else it is given up. */
+/* Whether the writer that was left by an earlier connection is still the volume's; else the handles are given up: the place may have another
+ * volume, or none. */
 static void check_writer(struct engine *engine, const struct address *address) {
     uint64_t point = 0;
     bool is_same = engine->options.milliseconds == address->milliseconds;
-    if (engine->writer && (!is_same || yieldcleat_volume_newest(engine->writer->volume, &point))) retire(&engine->writer);
-    if (!is_same) retire(&engine->reader);
+    if (!engine->writer || !is_same || yieldcleat_volume_newest(engine->writer->volume, &point)) {
+        retire(&engine->writer);
+        retire(&engine->reader);
+    }
     engine->options.milliseconds = address->milliseconds;
     engine->is_idle = engine->may_write = false;
 }

@@ -58,9 +58,10 @@ class Cluster:
             self.resume(number)
             self.stores[number].close()
 
-    def wipe(self, number):
-        self.kill(number)
-        shutil.rmtree(self.stores[number].data, ignore_errors=True)
+    def wipe(self, *numbers):
+        for number in numbers:
+            self.kill(number)
+            shutil.rmtree(self.stores[number].data, ignore_errors=True)
 
     def pause(self, number):
         self.stores[number].process.send_signal(signal.SIGSTOP)

@@ -70,6 +70,11 @@ class Engine:
         answer = self.run(f"insert into t(b) values('{text}')")
         assert answer == [], answer
 
+    def fails(self, sql, *words):
+        """Runs a statement that is to fail, with an error that begins with one of these words."""
+        answer = self.run(sql)
+        assert isinstance(answer, str) and answer.startswith(words), f"{sql}: {answer}"
+
     def rows(self):
         return self.run("select count(*) from t")
 
@@ -114,6 +119,15 @@ def filled(cluster, rows=3):
     ours = Engine(cluster.folder / "volume")
     assert ours.opened == "open", ours.opened
     ours.run(TABLE, *["insert into t(b) values(randomblob(20))"] * rows)
+    ours.close()
+
+
+def commit_at_four(cluster):
+    """Three commits at all servers, and 20 more without the last two, which are away."""
+    filled(cluster)
+    cluster.kill(4, 5)
+    ours = Engine(cluster.folder / "volume")
+    ours.run(*["insert into t(b) values('four have it')"] * 20)
     ours.close()
 
 
@@ -180,7 +194,7 @@ def check_two_engines(world):
             engine.send(f"insert into t(b) values('{turn}')")
         for place, engine in enumerate(engines):
             answer = engine.answer()
-            assert answer == [] or answer.startswith(("SQLITE_IOERR_LOCK", "SQLITE_BUSY", "SQLITE_IOERR_FSYNC")), answer
+            assert answer == [] or str(answer).startswith(("SQLITE_IOERR_LOCK", "SQLITE_BUSY", "SQLITE_IOERR_FSYNC")), answer
             acknowledged[place] += answer == []
             engine.close()
     [(found,)] = Engine(cluster.folder / "volume").rows()
@@ -198,9 +212,9 @@ def check_old_engine(world):
     other = Engine(cluster.folder / "volume")
     assert other.run("insert into t(b) values('other')", "select count(*) from t") == [(4,)]
     old.resume()
-    assert old.run("commit").startswith("SQLITE_IOERR_LOCK"), "it commits"
+    old.fails("commit", "SQLITE_IOERR_LOCK")
     assert old.rows() == other.rows() == [(4,)]
-    assert old.run("insert into t(b) values('again')").startswith("SQLITE_IOERR_LOCK")
+    old.fails("insert into t(b) values('again')", "SQLITE_IOERR_LOCK")
     old.close()
     other.close()
     shows(cluster, 4)
@@ -239,14 +253,9 @@ def check_late_requests(world):
 def check_counted_too_early(world):
     """Four servers have the commits. Two of them lose their files, and the other two are away: there is no quorum until they are back."""
     cluster = world.cluster(NO_GOSSIP)
-    filled(cluster)
-    cluster.kill(4, 5)
-    ours = Engine(cluster.folder / "volume")
-    ours.run(*["insert into t(b) values('four have it')"] * 20)
-    ours.close()
+    commit_at_four(cluster)
     cluster.kill(0, 1)
-    cluster.wipe(2)
-    cluster.wipe(3)
+    cluster.wipe(2, 3)
     cluster.start(2, 3, 4, 5)
     for parameters in ({"mode": "ro"}, {}):
         refused = Engine(cluster.folder / "volume", timeout=1500, **parameters)
@@ -260,18 +269,55 @@ def check_counted_too_early(world):
 def check_two_admitted(world):
     """Two servers that lost their files are admitted at once; with two others, which lack the newest commits otherwise, they have all."""
     cluster = world.cluster(NO_GOSSIP)
-    filled(cluster)
-    cluster.kill(4, 5)
-    ours = Engine(cluster.folder / "volume")
-    ours.run(*["insert into t(b) values('four have it')"] * 20)
-    ours.close()
-    cluster.wipe(2)
-    cluster.wipe(3)
+    commit_at_four(cluster)
+    cluster.wipe(2, 3)
     cluster.start()
     shows(cluster, 23)
     assert until(lambda: cluster.members() == list(range(NODES))), cluster.members()
     cluster.kill(0, 1)
     shows(cluster, 24)
+
+
+def check_another_volume(world):
+    """All servers lose their files, and the place comes to have another volume. Who knew the former one believes nothing of it."""
+    cluster = world.cluster()
+    for is_made_by_other in (True, False):
+        place = cluster.folder / "volume"
+        outlives, writes = Child(outlive, place), Engine(place, timeout=20000)
+        assert outlives.pipe.recv() == 30
+        reads = Engine(place, mode="ro")
+        writes.write("former")
+        assert reads.rows() == [(31,)]
+        cluster.wipe(*range(NODES))
+        cluster.start()
+        if is_made_by_other:
+            other = Engine(place)
+            other.run(TABLE, "insert into t(b) values('another')")
+            other.close()
+        outlives.pipe.send("again")
+        assert outlives.said() == [(1 + is_made_by_other, True)]
+        assert reads.rows() == [(1 + is_made_by_other,)]
+        writes.fails("insert into t(b) values('former')", "SQLITE_IOERR_LOCK")
+        reads.close()
+        writes.close()
+        cluster.wipe(*range(NODES))
+        cluster.start()
+
+
+def outlive(pipe, place):
+    """Writes a table and closes the database, and later opens it again and adds a row to what is there."""
+    ours = connect(place)
+    ours.execute(TABLE)
+    for _ in range(30):
+        ours.execute("insert into t(b) values('former')")
+    pipe.send(one(ours, "select count(*) from t"))
+    ours.close()
+    pipe.recv()
+    ours = connect(place)
+    ours.execute(TABLE.replace("table t", "table if not exists t"))
+    ours.execute("insert into t(b) values('again')")
+    pipe.send((one(ours, "select count(*) from t"), is_whole(ours)))
+    ours.close()
 
 
 # Recovery
@@ -283,11 +329,7 @@ def check_two_epochs(world):
     for late in ((4,), (5,), (4, 5)):
         cluster = world.cluster(NO_GOSSIP)
         proxies = world.proxies(cluster)
-        filled(cluster)
-        cluster.kill(4, 5)
-        ours = Engine(cluster.folder / "volume")
-        ours.run(*["insert into t(b) values('four have it')"] * 20)
-        ours.close()
+        commit_at_four(cluster)
         cluster.start(4, 5)
         for step in range(3, 10):
             proxies.bound([30 if number in late else step for number in range(NODES)])
@@ -337,8 +379,7 @@ def check_not_yet_durable(world):
         ours.write("four")
         assert reader.rows() == [(4,)]
         proxies.bound([1000 if number < has else 0 for number in range(NODES)])
-        answer = ours.run("insert into t(b) values('few')")
-        assert answer.startswith("SQLITE_IOERR_FSYNC: commit in doubt: no write quorum"), answer
+        ours.fails("insert into t(b) values('few')", "SQLITE_IOERR_FSYNC: commit in doubt: no write quorum")
         seen = reader.rows()
         assert seen == [(4,)], seen
         ours.kill()
@@ -380,7 +421,7 @@ def check_fenced_reader(world):
     for count in range(5, 8):
         other.write("other")
         assert old.rows() == [(count,)]
-    assert old.run("insert into t(b) values('old')").startswith("SQLITE_IOERR_LOCK")
+    old.fails("insert into t(b) values('old')", "SQLITE_IOERR_LOCK")
 
 
 # Servers that are slow or away
@@ -424,8 +465,7 @@ def check_third_server(world):
     ours.write("four")
     ours.run("begin immediate", "insert into t(b) values('within')")
     cluster.kill(2)
-    answer = ours.run("commit")
-    assert answer.startswith(("SQLITE_IOERR_WRITE: commit: no write quorum", "SQLITE_IOERR_FSYNC: commit in doubt: no write quorum")), answer
+    ours.fails("commit", "SQLITE_IOERR_WRITE: commit: no write quorum", "SQLITE_IOERR_FSYNC: commit in doubt: no write quorum")
     cluster.start(2)
     ours.close()
     shows(cluster, 6, 7)

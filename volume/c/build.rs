@@ -1,36 +1,8 @@
-//! Finds what is linked: the archive of the machine, which `rt lib` in `crates/volume_c` makes, and the heap calls that the toolchain brings along.
+//! Links the archive of the machine.
 
-use std::env;
-use std::path::{Path, PathBuf};
+#[path = "../../client/link.rs"]
+mod link;
 
 fn main() {
-    let crates = Path::new(env!("CARGO_MANIFEST_DIR")).join("../../crates");
-    link("YIELDCLEAT_VOLUME_ARCHIVE", "volume_c", || Some(crates.join("volume_c/out")), "`rt lib` in crates/volume_c makes it");
-    link("RATTLE_C", "libc_c", heap_of_toolchain, "it is in the folder c/ of the toolchain, which is found where `rt` on the path leads");
-    println!("cargo:rerun-if-env-changed=PATH");
-}
-
-/// Links lib`name`.a, from the folder that the variable names or from the usual one.
-fn link(variable: &str, name: &str, usual: impl Fn() -> Option<PathBuf>, advice: &str) {
-    println!("cargo:rerun-if-env-changed={variable}");
-    let Some(folder) = env::var_os(variable).map(PathBuf::from).or_else(usual) else {
-        panic!("no folder of lib{name}.a: name it in {variable}; {advice}");
-    };
-    let archive = folder.join(format!("lib{name}.a"));
-    if !archive.is_file() {
-        panic!("{} is not there: {advice}, and {variable} names another folder", archive.display());
-    }
-    println!("cargo:rerun-if-changed={}", archive.display());
-    println!("cargo:rustc-link-search=native={}", folder.display());
-    println!("cargo:rustc-link-lib=static={name}");
-}
-
-/// The folder c/ of the toolchain whose command `rt` is on the path, perhaps as a link.
-fn heap_of_toolchain() -> Option<PathBuf> {
-    let path = env::var_os("PATH")?;
-    let folders = env::split_paths(&path).filter_map(|folder| {
-        let command = folder.join("rt").canonicalize().ok()?;
-        Some(command.parent()?.parent()?.join("c"))
-    });
-    folders.into_iter().find(|folder| folder.join("liblibc_c.a").is_file())
+    link::archive("YIELDCLEAT_VOLUME_ARCHIVE", "volume_c", "../../crates");
 }

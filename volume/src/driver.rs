@@ -9,6 +9,7 @@ use crate::volume::PageWrite;
 use std::sync::mpsc::{Receiver, RecvTimeoutError, Sender};
 use std::sync::Arc;
 use std::time::{Duration, Instant};
+use yieldcleat_client::engines;
 
 /// A call of the engine. Its result goes to the sender in it.
 pub enum Call {
@@ -148,7 +149,11 @@ impl<M: Machine> Driver<M> {
                     peer.is_answering = true;
                     self.report_reached();
                 }
-                match self.grace.is_some() && answer.starts_with(b"fenced ") {
+                let fenced = answer.starts_with(b"fenced ").then(|| engines::fenced(&answer)).and_then(Result::ok);
+                if let Some(fenced) = fenced {
+                    self.progress.met(fenced.birth);
+                }
+                match self.grace.is_some() && fenced.is_some() {
                     true => self.held.push(Held { node, request, answer }),
                     false => self.notice(Event::Answered { node, request: &request, answer: &answer }),
                 }

@@ -9,6 +9,7 @@
 mod driver;
 mod errors;
 mod framed;
+mod known;
 mod link;
 mod machine;
 mod newest;
@@ -25,6 +26,7 @@ mod volume;
 
 pub use errors::{Quorum, VolumeError};
 pub use framed::Framed;
+pub use known::Known;
 pub use machine::{Action, Event, Fault, Machine, OutOfMemory};
 pub use options::{BadOptions, Options};
 pub use page_zero::{PageZero, MOST_HEADER};

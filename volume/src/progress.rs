@@ -1,7 +1,9 @@
 //! How far a volume is, for threads that wait.
 
 use crate::errors::{Quorum, VolumeError};
+use crate::known::Known;
 use crate::options::Options;
+use std::collections::BTreeSet;
 use std::sync::{Condvar, Mutex, MutexGuard, PoisonError};
 use std::time::Instant;
 
@@ -33,6 +35,8 @@ struct State {
     standing: Option<Standing>,
     connected: usize,
     answering: usize,
+    /// Of the nodes that have answered as members.
+    births: BTreeSet<u64>,
     in_flight: Vec<InFlight>,
     failed: Option<VolumeError>,
 }
@@ -87,6 +91,11 @@ impl Progress {
         });
     }
 
+    /// A member has this birth.
+    pub fn met(&self, birth: u64) {
+        self.lock().births.insert(birth);
+    }
+
     pub fn committed(&self, commit_point: u64, bytes: usize) {
         self.change(|state| {
             state.in_flight.push(InFlight { commit_point, bytes });
@@ -126,9 +135,11 @@ impl Progress {
         }
     }
 
-    /// The last durable commit point with its epoch; zeros where the volume was never open.
-    pub fn last_durable(&self) -> (u16, u64) {
-        self.lock().standing.as_ref().map_or((0, 0), |standing| (standing.epoch, standing.durable))
+    /// The last durable commit point; zeros where the volume was never open.
+    pub fn known(&self) -> Known {
+        let state = self.lock();
+        let newest = state.standing.as_ref().map_or((0, 0), |standing| (standing.epoch, standing.durable));
+        Known::of(newest, state.births.iter().copied())
     }
 
     pub fn quorum(&self, options: &Options) -> Quorum {

@@ -1,6 +1,7 @@
 //! A handle that reads a volume and fences nobody.
 
 use crate::errors::{Quorum, VolumeError};
+use crate::known::Known;
 use crate::newest::{show, together, Shown, Together};
 use crate::nodes::Nodes;
 use crate::options::Options;
@@ -8,7 +9,7 @@ use crate::page_zero::PageZero;
 use crate::panel::Panel;
 use crate::reading::{At, Range, Readers};
 use std::sync::atomic::{AtomicU64, Ordering};
-use std::sync::{Arc, Mutex, PoisonError};
+use std::sync::{Arc, Mutex, MutexGuard, PoisonError};
 use std::thread;
 use std::time::{Duration, Instant};
 
@@ -18,8 +19,7 @@ pub struct Reader {
     nodes: Arc<Nodes>,
     readers: Readers,
     panel: Panel,
-    /// The newest durable commit point that was found, with its epoch.
-    newest: Mutex<(u16, u64)>,
+    known: Mutex<Known>,
     /// The greatest generation of a member that was seen.
     generation: AtomicU64,
 }
@@ -28,6 +28,7 @@ pub struct Reader {
 #[derive(Default)]
 struct Round {
     shown: Vec<Shown>,
+    births: Vec<u64>,
     answered: usize,
     fresh: usize,
 }
@@ -69,11 +70,11 @@ impl Reader {
         options.check().map_err(VolumeError::Options)?;
         let nodes = Arc::new(Nodes::new(&options));
         let panel = Panel::start(&nodes).map_err(|error| VolumeError::Thread(error.kind()))?;
-        let (newest, generation) = (Mutex::new((0, 0)), AtomicU64::new(0));
-        Ok(Reader { readers: Readers::new(&nodes), options, nodes, panel, newest, generation })
+        let (known, generation) = (Mutex::default(), AtomicU64::new(0));
+        Ok(Reader { readers: Readers::new(&nodes), options, nodes, panel, known, generation })
     }
 
-    /// The newest durable commit point: at or above each one that a handle has seen durable before.
+    /// The newest durable commit point: at or above each one of this volume that a handle has seen durable before.
     ///
     /// Errors: `NotOpened`, where too few nodes answer within the time allowed; `Unproved`; `Empty`.
     pub fn newest(&self) -> Result<u64, VolumeError> {
@@ -84,7 +85,9 @@ impl Reader {
             let round_end = Instant::now() + self.options.limits.answer.min(self.options.patience);
             let (round, found) = self.ask_round(&mut search, round_end);
             if let Some(found) = found {
-                return Ok(self.learn(found));
+                let mut known = self.lock();
+                known.learn(&Known::of(found, round.births));
+                return Ok(known.newest().1);
             }
             let quorum = Quorum::of(round.shown.len(), &self.options);
             if round.fresh == self.options.nodes.len() {
@@ -112,6 +115,7 @@ impl Reader {
             self.generation.fetch_max(status.generation, Ordering::Relaxed);
             round.answered += 1;
             round.fresh += usize::from(!status.is_member);
+            round.births.extend(status.is_member.then_some(status.birth));
             round.shown.extend(shown);
             let together = together(&round.shown, self.options.nodes.len(), self.options.quorum.into());
             if let Some(found) = together.and_then(|it| search.add(it)) {
@@ -125,11 +129,22 @@ impl Reader {
         (round, None)
     }
 
-    /// A durable commit point that somebody else has found, with its epoch, and the newest one that is known then.
-    pub fn learn(&self, found: (u16, u64)) -> u64 {
-        let mut newest = self.newest.lock().unwrap_or_else(PoisonError::into_inner);
-        *newest = found.max(*newest);
-        newest.1
+    fn lock(&self) -> MutexGuard<'_, Known> {
+        self.known.lock().unwrap_or_else(PoisonError::into_inner)
+    }
+
+    /// The newest durable commit point, as far as this handle knows without asking a node.
+    pub fn known(&self) -> u64 {
+        self.lock().newest().1
+    }
+
+    /// What somebody else knows, which counts where it is of this volume. The result is the newest durable commit point that is known then.
+    pub fn learn(&self, found: &Known) -> u64 {
+        let mut known = self.lock();
+        if known.meets(found) {
+            known.learn(found);
+        }
+        known.newest().1
     }
 
     /// The greatest generation of a member that was seen.
@@ -160,7 +175,7 @@ impl Reader {
 
     /// A node of an earlier epoch than that of the point may have dead records in its place, so the epoch must be known.
     fn at(&self, point: u64) -> Result<At, VolumeError> {
-        let (epoch, newest) = *self.newest.lock().unwrap_or_else(PoisonError::into_inner);
+        let (epoch, newest) = self.lock().newest();
         if point > newest {
             return Err(VolumeError::Above { newest });
         }

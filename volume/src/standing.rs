@@ -1,5 +1,6 @@
 //! Whether an engine has been fenced, as the nodes say.
 
+use crate::known::Known;
 use crate::panel::Panel;
 use std::time::Instant;
 use yieldcleat_client::{engines, Calls, Connection, Membership};
@@ -38,6 +39,12 @@ impl Statuses {
     /// The greatest generation of a member; 0 without any.
     pub fn generation(&self) -> u64 {
         self.members().map(|it| it.generation).max().unwrap_or(0)
+    }
+
+    /// Whether a quorum is of members that another volume has than this.
+    pub fn are_of_another(&self, own: &Known, quorum: u8) -> bool {
+        let found = Known::of((0, 0), self.members().map(|it| it.birth));
+        self.members().count() >= usize::from(quorum) && !found.meets(own)
     }
 
     fn members(&self) -> impl Iterator<Item = &Membership> {
@@ -84,6 +91,14 @@ mod tests {
         assert!(!of(&[(3, true, 0), (3, true, 0), (4, true, 0)], 3).are_of(3, 2));
         assert_eq!(of(&[(3, true, 0), (4, true, 0)], 3).later_than(3), Some(4));
         assert_eq!(of(&[(3, true, 0)], 3).later_than(3), None);
+    }
+
+    #[test]
+    fn members_of_another_volume() {
+        let found = of(&[(3, true, 0), (3, true, 0), (0, false, 0)], 3);
+        assert!(found.are_of_another(&Known::of((1, 9), [1, 2]), 2));
+        assert!(!found.are_of_another(&Known::of((1, 9), [1, 7]), 2));
+        assert!(!found.are_of_another(&Known::of((1, 9), [1, 2]), 3));
     }
 
     #[test]

@@ -2,6 +2,7 @@
 
 use crate::driver::{Call, Driver, Input};
 use crate::errors::{Quorum, VolumeError};
+use crate::known::Known;
 use crate::link::Link;
 use crate::machine::{Fault, Machine};
 use crate::nodes::Nodes;
@@ -169,15 +170,16 @@ impl Volume {
         self.progress.standing()
     }
 
-    /// The last commit point that this handle knows to be durable, with the epoch; also where the volume has ended.
-    pub fn durable(&self) -> (u16, u64) {
-        self.progress.last_durable()
+    /// The last commit point that this handle knows to be durable; also where the volume has ended.
+    pub fn known(&self) -> Known {
+        self.progress.known()
     }
 
     /// The newest durable commit point, which is one of this handle's own or the one that it opened at: a quorum says that no other engine has
     /// fenced it. All commits that anybody has seen durable before are at or below it.
     ///
-    /// Errors: `NotAsked` after the time allowed; `Fenced` and what else has ended the volume.
+    /// Errors: `NotAsked` after the time allowed; `Fenced`, also where the nodes have another volume; `Empty` where all have lost their files; and
+    /// what else has ended this volume.
     pub fn newest(&self) -> Result<u64, VolumeError> {
         let (own, deadline) = (self.standing()?, Instant::now() + self.options.patience);
         let mut have = 0;
@@ -191,7 +193,11 @@ impl Volume {
                 }
             });
             have = statuses.count();
-            if let Some(generation) = statuses.later_than(own.generation) {
+            if statuses.are_all_fresh() {
+                return Err(VolumeError::Empty);
+            }
+            let other = statuses.are_of_another(&self.known(), self.options.quorum).then(|| statuses.generation());
+            if let Some(generation) = statuses.later_than(own.generation).or(other) {
                 self.progress.fail(VolumeError::Fenced { generation });
                 return Err(VolumeError::Fenced { generation });
             }

@@ -1,7 +1,7 @@
 //! What the calls do, with values of Rust.
 
 use crate::faults::Failure;
-use crate::known::Known;
+use crate::known::Shared;
 use crate::proved::Proved;
 use std::path::Path;
 use std::sync::atomic::{AtomicU64, Ordering};
@@ -19,7 +19,7 @@ const READER: u8 = 1;
 pub struct Handle {
     side: Side,
     options: Options,
-    known: Arc<Known>,
+    shared: Arc<Shared>,
     /// The least readable point, as far as this handle knows.
     least: AtomicU64,
 }
@@ -33,7 +33,6 @@ enum Side {
     Reader {
         reader: Reader,
         point: Option<u64>,
-        newest: AtomicU64,
     },
 }
 
@@ -59,7 +58,7 @@ fn options_at(place: &Path, milliseconds: u32) -> Result<Options, Failure> {
 
 impl Handle {
     fn of(side: Side, place: &Path, options: Options) -> Handle {
-        Handle { side, options, known: Known::of(place), least: AtomicU64::new(0) }
+        Handle { side, options, shared: Shared::of(place), least: AtomicU64::new(0) }
     }
 
     pub fn open_writer(place: &Path, milliseconds: u32, may_create: bool) -> Result<Handle, Failure> {
@@ -86,7 +85,7 @@ impl Handle {
             }
             reader.page_zero(point)?;
         }
-        Ok(Handle::of(Side::Reader { reader, point, newest: AtomicU64::new(newest) }, place, options))
+        Ok(Handle::of(Side::Reader { reader, point }, place, options))
     }
 
     /// Notes the least readable point, where a call fails for it.
@@ -106,11 +105,7 @@ impl Handle {
                 Ok(newest?)
             }
             Side::Reader { point: Some(point), .. } => Ok(*point),
-            Side::Reader { reader, newest, .. } => {
-                let found = reader.newest()?;
-                newest.fetch_max(found, Ordering::Relaxed);
-                Ok(found)
-            }
+            Side::Reader { reader, .. } => Ok(reader.newest()?),
         }
     }
 
@@ -119,18 +114,17 @@ impl Handle {
         match &self.side {
             Side::Writer { volume, .. } => Ok(volume.standing()?.committed),
             Side::Reader { point: Some(point), .. } => Ok(*point),
-            Side::Reader { newest, .. } => Ok(newest.load(Ordering::Relaxed)),
+            Side::Reader { reader, .. } => Ok(reader.known()),
         }
     }
 
     fn check_point(&self, point: u64) -> Result<(), Failure> {
         let mut greatest = self.greatest()?;
-        if let (Side::Reader { reader, point: None, newest }, true) = (&self.side, point > greatest) {
-            greatest = reader.learn(self.known.newest());
+        if let (Side::Reader { reader, point: None }, true) = (&self.side, point > greatest) {
+            greatest = reader.learn(&self.shared.known());
             if point > greatest {
                 greatest = reader.newest()?;
             }
-            newest.fetch_max(greatest, Ordering::Relaxed);
         }
         if point > greatest {
             Err(Failure::above(point, greatest))
@@ -142,7 +136,7 @@ impl Handle {
     /// Tells the other handles of this process what a writer has made durable.
     fn tell(&self) {
         if let Side::Writer { volume, .. } = &self.side {
-            self.known.raise(volume.durable());
+            self.shared.learn(&volume.known());
         }
     }
 

@@ -3,29 +3,29 @@
 use std::collections::BTreeMap;
 use std::path::{Path, PathBuf};
 use std::sync::{Arc, Mutex, MutexGuard, PoisonError};
+use yieldcleat_volume::Known;
 
-/// The newest durable commit point that a handle has found, with its epoch.
+/// What is known of the volume of one place.
 #[derive(Default)]
-pub struct Known(Mutex<(u16, u64)>);
+pub struct Shared(Mutex<Known>);
 
-static VOLUMES: Mutex<BTreeMap<PathBuf, Arc<Known>>> = Mutex::new(BTreeMap::new());
+static PLACES: Mutex<BTreeMap<PathBuf, Arc<Shared>>> = Mutex::new(BTreeMap::new());
 
 fn lock<T>(mutex: &Mutex<T>) -> MutexGuard<'_, T> {
     mutex.lock().unwrap_or_else(PoisonError::into_inner)
 }
 
-impl Known {
+impl Shared {
     /// What is known of the volume of a place.
-    pub fn of(place: &Path) -> Arc<Known> {
-        lock(&VOLUMES).entry(place.into()).or_default().clone()
+    pub fn of(place: &Path) -> Arc<Shared> {
+        lock(&PLACES).entry(place.into()).or_default().clone()
     }
 
-    pub fn raise(&self, found: (u16, u64)) {
-        let mut newest = lock(&self.0);
-        *newest = found.max(*newest);
+    pub fn learn(&self, found: &Known) {
+        lock(&self.0).learn(found);
     }
 
-    pub fn newest(&self) -> (u16, u64) {
-        *lock(&self.0)
+    pub fn known(&self) -> Known {
+        lock(&self.0).clone()
     }
 }
