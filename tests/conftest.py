@@ -8,9 +8,7 @@ from pathlib import Path
 
 import pytest
 
-from harness import shims, stores
-
-ROOT = Path(__file__).resolve().parents[1]
+from harness import ROOT, shims, sqlite_cluster, sqlite_worlds, stores
 
 
 def pytest_addoption(parser):
@@ -147,6 +145,27 @@ def store_program(archive, tmp_path_factory):
 def disk(tmp_path_factory):
     """Delays and reports flushes, and refuses writes."""
     return stores.disk(tmp_path_factory.mktemp("disk"))
+
+
+# SQLite
+
+
+@pytest.fixture(scope="session")
+def double(tmp_path_factory):
+    """The VFS over the double of a volume."""
+    return sqlite_worlds.build(tmp_path_factory.mktemp("double"))
+
+
+@pytest.fixture(scope="session")
+def extension(volume_archive, tmp_path_factory):
+    """The VFS over the driver and the machine."""
+    return sqlite_cluster.build_extension(volume_archive, tmp_path_factory.mktemp("extension"), ROOT)
+
+
+@pytest.fixture(scope="session")
+def parts(extension, store_program, disk):
+    """What databases over servers need."""
+    return extension, store_program, disk
 
 
 @pytest.fixture

@@ -36,11 +36,6 @@ needs_shell = pytest.mark.skipif(not shutil.which("sqlite3"), reason="no sqlite3
 
 
 @pytest.fixture(scope="module")
-def double(tmp_path_factory):
-    return build(tmp_path_factory.mktemp("double"))
-
-
-@pytest.fixture(scope="module")
 def sanitized(tmp_path_factory):
     return build(tmp_path_factory.mktemp("sanitized"), "sanitized")
 

@@ -9,6 +9,7 @@ import test_sqlite
 
 from harness import ROOT
 from harness.sqlite_cluster import build_extension
+from harness.sqlite_network import SKIPPED
 from harness.sqlite_schedules import SCHEDULES
 
 pytestmark = [pytest.mark.xdist_group("sqlite_nodes"), *test_sqlite.pytestmark[1:]]
@@ -47,18 +48,22 @@ def run(module, extension, store, disk, folder, *words):
     return subprocess.run(command, cwd=ROOT / "tests", stdout=subprocess.PIPE, stderr=subprocess.STDOUT, text=True, timeout=SECONDS, check=False)
 
 
-@pytest.fixture(scope="module")
-def extension(volume_archive, tmp_path_factory):
-    return build_extension(volume_archive, tmp_path_factory.mktemp("extension"), ROOT)
-
-
-@pytest.fixture(scope="module")
-def parts(extension, store_program, disk):
-    return extension, store_program, disk
-
-
 def test_crash_rounds(parts, tmp_path, seed, seconds):
     done = run("sqlite_rounds", *parts, tmp_path / "s", seed, 2 * seconds)
+    assert done.returncode == 0, done.stdout[-3000:]
+    print(done.stdout)
+
+
+def test_crash_rounds_leave_a_sound_log(parts, fleet, tmp_path, seed, seconds):
+    done = run("sqlite_rounds", *parts, tmp_path / "s", seed, seconds, fleet)
+    assert done.returncode == 0, done.stdout[-3000:]
+
+
+def test_crash_rounds_over_a_network(parts, fleet, tmp_path, seed, seconds):
+    """With delays, losses and partitions."""
+    done = run("sqlite_network", *parts, tmp_path / "s", seed, 2 * seconds, fleet)
+    if done.returncode == SKIPPED:
+        pytest.skip(f"no network namespaces: {done.stdout.strip()}")
     assert done.returncode == 0, done.stdout[-3000:]
     print(done.stdout)
 

@@ -3,12 +3,12 @@
 import contextlib
 import multiprocessing
 import os
-import shutil
 import signal
 import socket
 import subprocess
 import threading
 import time
+from pathlib import Path
 
 from harness import environment
 from harness.shims import kit
@@ -32,18 +32,29 @@ def build_extension(archive, folder, root):
 class Cluster:
     """Servers in a folder, with the files that name them: `volume`, and `proxied` behind proxies."""
 
-    def __init__(self, program, folder, disk, gossip_every=50):
-        """Servers that gossip every so many milliseconds."""
+    def __init__(self, program, folder, disk, gossip_every=50, words=()):
+        """Servers that gossip every so many milliseconds, with more words of their command line."""
         self.folder = folder
         folder.mkdir()
-        places = [f"unix:{folder}/n{number}/socket" for number in range(NODES)]
+        places = [self.place(number) for number in range(NODES)]
         self.stores = []
         for number in range(NODES):
             peers = [word for place in places if place != places[number] for word in ("--peer", place)]
-            self.stores.append(Store(program, folder / f"n{number}", "--gossip-every", gossip_every, *peers, shim=disk))
+            more = (*words, *self.words(number))
+            self.stores.append(Store(self.program(program, number), folder / f"n{number}", "--gossip-every", gossip_every, *peers, *more, shim=disk))
         (folder / "volume").write_text("".join(f"{place}\n" for place in places))
         (folder / "proxied").write_text("".join(f"unix:{folder}/p{number}\n" for number in range(NODES)))
-        self.stopped = set()
+        self.stopped, self.lost, self.tool = set(), [], Path(program).with_name("yieldcleat-soundness")
+
+    def place(self, number):
+        """Where engines and peers reach a server."""
+        return f"unix:{self.folder}/n{number}/socket"
+
+    def program(self, program, _number):
+        return program
+
+    def words(self, _number):
+        return ()
 
     def start(self, *numbers, delay=0):
         """Starts those of the servers that do not run; each flush takes so many microseconds."""
@@ -59,9 +70,12 @@ class Cluster:
             self.stores[number].close()
 
     def wipe(self, *numbers):
+        """Their files are gone; for whoever asks what engines have sent they are kept elsewhere."""
         for number in numbers:
             self.kill(number)
-            shutil.rmtree(self.stores[number].data, ignore_errors=True)
+            if (data := self.stores[number].data).exists():
+                self.lost.append(self.folder / f"lost{len(self.lost)}")
+                data.rename(self.lost[-1])
 
     def pause(self, number):
         self.stores[number].process.send_signal(signal.SIGSTOP)
@@ -96,6 +110,13 @@ class Cluster:
 
     def fronts(self):
         return [status[3:5] if (status := self.status(number)) else None for number in range(NODES)]
+
+    def unsound(self, fleet):
+        """What the proved checker finds wrong with all facts that the servers were sent, or nothing. They are stopped, and have made no snapshot."""
+        folders = [*(store.data for store in self.stores), *self.lost]
+        done = subprocess.run([self.tool, "--fleet", fleet, *folders], capture_output=True, text=True, check=False)
+        is_sound = done.returncode == 0 and done.stdout.startswith("sound ")
+        return "" if is_sound else f"status {done.returncode}: {done.stdout[-300:]}{done.stderr[-300:]}"
 
     def settled(self):
         """Whether all have the same front after a while."""

@@ -1,6 +1,7 @@
 """What is left of a database over six servers whose engine was killed, while servers are killed, stopped, wiped, slow or full.
 
-By hand, for many rounds: python3 -m harness.sqlite_rounds EXTENSION STORE DISK FOLDER SEED SECONDS
+By hand, for many rounds: python3 -m harness.sqlite_rounds EXTENSION STORE DISK FOLDER SEED SECONDS [FLEET]. With the program `fleet` the
+servers make no snapshots, and in the end the facts that engines have sent must be a sound log.
 """
 
 import ctypes
@@ -22,6 +23,7 @@ from harness.sqlite_worlds import content, is_whole, one
 MOST_LOST = 2  # servers at a time that have lost their files and are not admitted
 PATIENCE = 20000  # milliseconds of an engine that is to succeed
 ROUNDS = 150  # of one cluster
+OFTEN, NEVER = 200_000, 1 << 40  # bytes of a log after which servers make snapshots
 
 
 LOG = []  # what SQLite has logged in this process: why a database is not opened, above all
@@ -111,14 +113,23 @@ def watch(pipe, place):
 class Rounds:
     """Rounds over one cluster, each fixed by the seed and its number, as far as time allows."""
 
-    def __init__(self, store, folder, disk, seed):
-        self.cluster, self.seed, self.folder = Cluster(store, folder, disk), seed, folder
+    lasting = ("late",)  # what may go on while the next engine looks
+
+    def __init__(self, store, folder, disk, seed, snapshot_after):
+        self.seed, self.folder = seed, folder
+        self.cluster = self.servers(store, folder, disk, ("--snapshot-after", snapshot_after))
         self.cluster.start()
         self.proxies = Proxies(folder)
         self.plain = sqlite3.connect(":memory:", isolation_level=None)
         self.plain.executescript(TABLES)
-        assert Child(make, folder / "volume").said() == ["made"]
+        assert self.child(make, folder / "volume").said() == ["made"]
         self.last, self.reached, self.watcher, self.counts = 0, 0, None, {"rounds": 0, "returned": 0, "in doubt": 0, "lost by off": 0, "deaths": 0}
+
+    def servers(self, store, folder, disk, words):
+        return Cluster(store, folder, disk, words=words)
+
+    def child(self, function, *words):
+        return Child(function, *words)
 
     def disturb(self, choose):
         """Something that happens to at most two servers, while all others run."""
@@ -146,7 +157,7 @@ class Rounds:
         place = self.folder / ("volume" if how == "time" else "proxied")
         if how == "opening":
             self.proxies.bound([choose.randrange(14) for _ in range(NODES)])
-        child = Child(work, place, self.seed, mode)
+        child = self.child(work, place, self.seed, mode)
         said = []
         if how == "bytes":
             while child.pipe.poll(30) and (not said or said[-1] != "writing") and not child.pipe.closed:
@@ -178,17 +189,17 @@ class Rounds:
             self.counts["deaths"] += 1
             if numbers and len(deaths) == 1 and choose.random() < 0.5:
                 break
-        if kind != "late" or choose.random() < 0.5 or len(self.cluster.members()) < QUORUM:  # a fresh one counts in no quorum
+        if kind not in self.lasting or choose.random() < 0.5 or len(self.cluster.members()) < QUORUM:  # a fresh one counts in no quorum
             self.cluster.heal()
         where, least = f"round {round_}: {mode}, {kind} {victims}, {deaths}: {well} returned", self.last if mode == "off" else well
         for writes in [True] if choose.random() < 0.6 else [False, True]:
-            [(is_good, now, found)] = Child(look, self.folder / "volume", writes).said()
+            [(is_good, now, found)] = self.child(look, self.folder / "volume", writes).said()
             wrong = str(is_good) if is_good is not True else self.judge(least, now, well + 1, found)
             if wrong:
                 return f"{where}; {'a writer' if writes else 'a reader'}: {wrong}"
             least = now
         self.cluster.heal()
-        self.watcher = self.watcher or Child(watch, self.folder / "volume")
+        self.watcher = self.watcher or self.child(watch, self.folder / "volume")
         seen = self.watcher.ask()
         if seen != found:
             return f"{where}; a reader sees {seen if isinstance(seen, str) else 'another content'}"
@@ -215,20 +226,21 @@ class Rounds:
         self.cluster.close()
 
 
-def run(extension, store, disk, folder, seed, seconds, rounds=10**9):
+def run(extension, store, disk, folder, seed, seconds, fleet=None, kind=Rounds):
     """Rounds until the time is up, over a new cluster now and then. Returns the counts, and what is wrong."""
     load(extension)
     end, place, total = time.monotonic() + seconds, 0, {}
-    while place == 0 or (time.monotonic() < end and place < rounds):
-        here, wrong = Rounds(store, Path(folder) / f"c{place}", disk, f"{seed} {place}"), ""
+    while place == 0 or time.monotonic() < end:
+        here, wrong = kind(Path(store), Path(folder) / f"c{place}", disk, f"{seed} {place}", NEVER if fleet else OFTEN), ""
         try:
             first = place
-            while not wrong and (place == first or (time.monotonic() < end and place < min(rounds, first + ROUNDS))):
+            while not wrong and (place == first or (time.monotonic() < end and place < first + ROUNDS)):
                 wrong = here.play(place)
                 place += 1
         finally:
             here.close()
             total = {name: total.get(name, 0) + count for name, count in here.counts.items()}
+        wrong = wrong or (here.cluster.unsound(fleet) if fleet else "")
         if wrong:
             return total, wrong
         shutil.rmtree(here.folder)
@@ -236,6 +248,6 @@ def run(extension, store, disk, folder, seed, seconds, rounds=10**9):
 
 
 if __name__ == "__main__":
-    counts, wrong = run(*sys.argv[1:5], int(sys.argv[5]), float(sys.argv[6]))
+    counts, wrong = run(*sys.argv[1:5], int(sys.argv[5]), float(sys.argv[6]), *sys.argv[7:])
     print(f"seed {sys.argv[5]}: {counts}", wrong)
     sys.exit(bool(wrong))
