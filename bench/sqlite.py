@@ -3,10 +3,12 @@
 
     bench/sqlite.py --extension sqlite/build/volume/yieldcleat.so --store store/target/release/yieldcleat-store
 
-Plain databases are in the same folder, with synchronous = full. Ratios are what counts: all run on one machine, over one disk.
+Plain databases are in the same folder, with synchronous = full. Ratios are what counts: all run on one machine, over one disk, one after
+another. Each number is the least and the greatest of the runs.
 """
 
 import argparse
+import os
 import shutil
 import sqlite3
 import statistics
@@ -14,111 +16,220 @@ import sys
 import tempfile
 import time
 from pathlib import Path
+from typing import NamedTuple
 
 ROOT = Path(__file__).resolve().parents[1]
 sys.path.insert(0, str(ROOT / "tests"))
-from harness.sqlite_cluster import NODES, Cluster  # noqa: E402
+from harness.sqlite_cluster import NODES, Cluster, kill_process  # noqa: E402
+from harness.sqlite_crashes import Child  # noqa: E402
 from harness.sqlite_rounds import connect, load  # noqa: E402
 
 TABLE = "create table t(a integer primary key, b)"
+MANY = "with recursive c(n) as (select 1 union all select n + 1 from c where n < {}) insert into t(b) select hex(randomblob({})) from c"
+ONE_ROW = "insert into t(b) values(hex(randomblob(20)))"
 LOADS = {
-    "one row a commit": (1, "insert into t(b) values(hex(randomblob(20)))"),
-    "one update a commit": (1, "update t set b = hex(randomblob(20)) where a = 1 + abs(random()) % 1000"),
-    "100 rows a commit": (100, "with recursive c(n) as (select 1 union all select n + 1 from c where n < 100) insert into t(b) select hex(randomblob(20)) from c"),
+    "one row a commit": ONE_ROW,
+    "one update a commit": "update t set b = hex(randomblob(20)) where a = 1 + abs(random()) % 1000",
+    "100 rows a commit": MANY.format(100, 20),
 }
+NO_SNAPSHOTS = ("--snapshot-after", 1 << 40)  # so that a log has all that a server was sent
+LEAST = 20  # commits of a measurement
+STARTING = 30  # seconds until a server counts as not started
 
 
-def fill(connection):
-    connection.execute(TABLE)
-    connection.execute("with recursive c(n) as (select 1 union all select n + 1 from c where n < 1000) insert into t(b) select hex(randomblob(20)) from c")
+class Measured(NamedTuple):
+    """Commits a second, the median and the 99th percentile of their milliseconds, and bytes that a commit writes."""
+
+    rate: float
+    half: float
+    most: float
+    written: float = 0
 
 
-def run(connection, sql, seconds):
-    """Commits a second, and the median and the 99th percentile of their milliseconds."""
-    times, end = [], time.monotonic() + seconds
-    while time.monotonic() < end or len(times) < 10:
+def measure(connection, sql, seconds, written):
+    """Commits for so long; `written` says how many bytes were written so far."""
+    times, end, before = [], time.monotonic() + seconds, written()
+    while time.monotonic() < end or len(times) < LEAST:
         begun = time.monotonic()
         connection.execute(sql)
         times.append(time.monotonic() - begun)
     cuts = statistics.quantiles(times, n=100)
-    return len(times) / sum(times), 1000 * cuts[49], 1000 * cuts[98]
+    return Measured(len(times) / sum(times), 1000 * cuts[49], 1000 * cuts[98], (written() - before) / len(times))
 
 
-def log_bytes(cluster):
-    return cluster.stores[0].metrics()["yieldcleat_log_bytes"]
+def span(values, form="{:,.0f}"):
+    """The least and the greatest."""
+    least, most = form.format(min(values)), form.format(max(values))
+    return least if least == most else f"{least} to {most}"
 
 
-def commits(cluster, folder, seconds):
-    print("| Load | journal | WAL | six servers | ratio to journal | to WAL | redo a commit |\n|---|---|---|---|---|---|---|")
-    for place, (name, (_, sql)) in enumerate(LOADS.items()):
-        found = []
-        for mode in ("delete", "wal"):
-            plain = sqlite3.connect(folder / f"{mode}{place}", isolation_level=None)
-            plain.execute(f"pragma journal_mode = {mode}")
-            plain.execute("pragma synchronous = full")
-            fill(plain)
-            found.append(run(plain, sql, seconds))
-            plain.close()
-        ours = connect(cluster.folder / "volume")
-        ours.execute("drop table if exists t")
-        fill(ours)
-        before, count = log_bytes(cluster), 0
-        rate = run(ours, sql, seconds)
-        count = rate[0] * seconds
-        redo = (log_bytes(cluster) - before) / count
-        ours.close()
-        show = ["{:,.0f}/s, {:.2f}, {:.1f} ms".format(*it) for it in (*found, rate)]
-        print(f"| {name} | {' | '.join(show)} | {rate[0] / found[0][0]:.2f} | {rate[0] / found[1][0]:.2f} | {redo:,.0f} bytes |", flush=True)
+def shown(runs):
+    return f"{span([it.rate for it in runs])}; {span([it.half for it in runs], '{:.2f}')}; {span([it.most for it in runs], '{:.1f}')}"
 
 
-def killed(cluster, seconds):
-    print("\n| Servers killed | commits, p50, p99 |\n|---|---|")
-    ours = connect(cluster.folder / "volume")
-    for count in range(3):
-        if count:
-            cluster.kill(count - 1)
-        print("| {} | {:,.0f}/s, {:.2f}, {:.1f} ms |".format(count, *run(ours, LOADS["one row a commit"][1], seconds)), flush=True)
-    ours.close()
-    cluster.start()
+# Databases
 
 
-def recovery(cluster):
-    print("\n| What | Time |\n|---|---|")
-    times = []
-    for _ in range(5):
-        begun = time.monotonic()
-        ours = connect(cluster.folder / "volume", timeout=10000 + len(times))  # another time asks for another writer
-        ours.execute("begin immediate").execute("commit")
-        times.append(time.monotonic() - begun)
-        ours.close()
-    print(f"| open the database for writing, with recovery | {1000 * statistics.median(times):.0f} ms |")
-    ours = connect(cluster.folder / "volume")
-    ours.execute("insert into t(b) values(zeroblob(1))")
+def fill(connection):
+    connection.execute("drop table if exists t")
+    connection.execute(TABLE)
+    connection.execute(MANY.format(1000, 20))
+
+
+def bytes_of_process():
+    """What this process has written, by whatever call."""
+    return int(next(line for line in Path("/proc/self/io").read_text().splitlines() if line.startswith("wchar")).split()[1])
+
+
+def bytes_of_logs(cluster):
+    """The mean length of the logs of the servers that run."""
+    return statistics.mean(it.metrics()["yieldcleat_log_bytes"] for it in cluster.stores if it.process.poll() is None)
+
+
+def plain(folder, mode, sql, seconds):
+    """A database in a file: its pages and its journal, or its WAL."""
+    place = Path(tempfile.mkdtemp(dir=folder)) / "database"
+    connection = sqlite3.connect(place, isolation_level=None)
+    connection.execute(f"pragma journal_mode = {mode}")
+    connection.execute("pragma synchronous = full")
+    fill(connection)
+    found = measure(connection, sql, seconds, bytes_of_process)
+    connection.close()
+    return found
+
+
+def engine(pipe, cluster, sql, seconds):
+    """In a process of its own: fills the database, and measures as often as it is asked."""
+    connection = connect(cluster.folder / "volume")
+    fill(connection)
+    while pipe.recv():
+        pipe.send(measure(connection, sql, seconds, lambda: bytes_of_logs(cluster)))
+    connection.close()
+
+
+def over_servers(cluster, sql, seconds):
+    child = Child(engine, cluster, sql, seconds)
+    found = child.ask()
+    child.close()
+    return found
+
+
+# Tables
+
+
+def commits(cluster, folder, seconds, runs):
+    print("Commits a second; the median and the 99th percentile of their milliseconds.\n")
+    print("| Load | rollback journal | WAL | six servers | ratio to the journal | to the WAL |\n|---|---|---|---|---|---|")
+    sizes = []
+    for name, sql in LOADS.items():
+        journal, wal, ours = [], [], []
+        for _ in range(runs):
+            journal.append(plain(folder, "delete", sql, seconds))
+            wal.append(plain(folder, "wal", sql, seconds))
+            ours.append(over_servers(cluster, sql, seconds))
+        ratios = [span([one.rate / other.rate for one, other in zip(ours, others)], "{:.2f}") for others in (journal, wal)]
+        print(f"| {name} | {shown(journal)} | {shown(wal)} | {shown(ours)} | {ratios[0]} | {ratios[1]} |", flush=True)
+        sizes.append((name, ours, journal, wal))
+    print("\nBytes that a commit writes: to the log of each server, beside pages and journal, and beside pages and WAL.\n")
+    print("| Load | log of a server | pages and journal | pages and WAL | ratio to the journal | to the WAL |\n|---|---|---|---|---|---|")
+    for name, *kinds in sizes:
+        ratios = [span([one.written / other.written for one, other in zip(kinds[0], others)], "{:.3f}") for others in kinds[1:]]
+        print(f"| {name} | {' | '.join(span([it.written for it in kind]) for kind in kinds)} | {ratios[0]} | {ratios[1]} |")
+
+
+def killed(cluster, seconds, runs):
+    """What two servers less cost."""
+    all_of_them, without = [], []
+    for turn in range(runs):
+        child = Child(engine, cluster, ONE_ROW, seconds)
+        all_of_them.append(child.ask())
+        cluster.kill(turn % NODES, (turn + 3) % NODES)
+        without.append(child.ask())
+        child.close()
+        cluster.start()
+        assert cluster.settled(), cluster.fronts()
+    print("\n| Servers | commits a second; p50; p99 | ratio |\n|---|---|---|")
+    print(f"| six | {shown(all_of_them)} | |")
+    ratio = span([one.rate / other.rate for one, other in zip(without, all_of_them)], "{:.2f}")
+    print(f"| four, two killed | {shown(without)} | {ratio} |", flush=True)
+
+
+def write(pipe, place):
+    """Commits until it is killed."""
+    connection = connect(place)
+    connection.execute(ONE_ROW)
+    pipe.send("writing")
+    while True:
+        connection.execute(ONE_ROW)
+
+
+def open_to_write(pipe, place):
+    """Sends after how many milliseconds a database may be written."""
+    begun = time.monotonic()
+    connection = connect(place)
+    connection.execute("begin immediate")
+    pipe.send(1000 * (time.monotonic() - begun))
+    connection.execute("commit")
+
+
+def recovered(cluster):
+    """How long an engine takes that opens the database after another one was killed."""
+    child = Child(write, cluster.folder / "volume")
+    child.pipe.recv()
+    time.sleep(0.5)
+    kill_process(child.process)
+    [found] = Child(open_to_write, cluster.folder / "volume").said()
+    return found
+
+
+def whole(cluster):
+    """How long a server takes that has lost its files, from its start until it has what the others have."""
     wanted = cluster.status(0)[4]
     cluster.wipe(NODES - 1)
     begun = time.monotonic()
     cluster.start(NODES - 1)
     while (status := cluster.status(NODES - 1)) is None or status[4] < wanted:
-        time.sleep(0.01)
-    bytes_ = cluster.stores[0].metrics()["yieldcleat_log_bytes"]
-    print(f"| until a server that lost its files has all {bytes_ / 1e6:.1f} MB | {1000 * (time.monotonic() - begun):.0f} ms |")
-    ours.close()
+        assert time.monotonic() - begun < STARTING, "it does not get what it lacks"
+        time.sleep(0.005)
+    return 1000 * (time.monotonic() - begun)
+
+
+def grow(_, cluster, megabytes):
+    connection = connect(cluster.folder / "volume", keep=10)
+    connection.execute("drop table if exists t")
+    connection.execute(TABLE)
+    while connection.execute("pragma page_count").fetchone()[0] * 4096 < megabytes * 1e6:
+        connection.execute(MANY.format(1000, 500))
+    connection.close()
+
+
+def recovery(cluster, megabytes, runs):
+    assert Child(grow, cluster, megabytes).said() == []
+    times = [recovered(cluster) for _ in range(2 * runs)]
+    print(f"\n| Of a database of {megabytes:.0f} MB | ms |\n|---|---|")
+    print(f"| open for writing after the engine was killed | {span(times)} |")
+    print(f"| a server that lost its files has all again | {span([whole(cluster) for _ in range(runs)])} |", flush=True)
 
 
 def main():
     parser = argparse.ArgumentParser(description=__doc__, formatter_class=argparse.RawDescriptionHelpFormatter)
     parser.add_argument("--extension", type=Path, required=True)
     parser.add_argument("--store", type=Path, required=True)
-    parser.add_argument("--seconds", type=float, default=3)
+    parser.add_argument("--seconds", type=float, default=3, help="of each measurement")
+    parser.add_argument("--runs", type=int, default=3)
+    parser.add_argument("--megabytes", type=float, default=20, help="of the database that is recovered")
+    parser.add_argument("--folder", type=Path, default=None, help="on the disk that is measured")
     args = parser.parse_args()
-    folder = Path(tempfile.mkdtemp(prefix="yieldcleat-bench-"))
+    folder = Path(tempfile.mkdtemp(prefix="yieldcleat-bench-", dir=args.folder))
     load(args.extension)
-    cluster = Cluster(args.store, folder / "nodes", None)
+    cluster = Cluster(args.store, folder / "nodes", None, words=NO_SNAPSHOTS)
     try:
         cluster.start()
-        commits(cluster, folder, args.seconds)
-        killed(cluster, args.seconds)
-        recovery(cluster)
+        print(f"{os.cpu_count()} processors, load {os.getloadavg()[0]:.1f} at the beginning.\n")
+        commits(cluster, folder, args.seconds, args.runs)
+        killed(cluster, args.seconds, args.runs)
+        recovery(cluster, args.megabytes, args.runs)
+        print(f"\nLoad {os.getloadavg()[0]:.1f} at the end.")
     finally:
         cluster.close()
         shutil.rmtree(folder)

@@ -53,11 +53,11 @@ def test_database_sanitized(sanitized, tmp_path, seed, seconds, name):
 # The shell
 
 
-def shell(library, script, folder, over=(), settings=None):
-    """What the shell prints of a script, run on a volume in a folder, or on a file where there is no library."""
+def shell(library, script, folder, over=(), settings=None, place=None):
+    """What the shell prints of a script, run on a volume in a folder or at a place, or on a file where there is no library."""
     folder.mkdir()
-    place = f"file:{folder}/database" + ("?vfs=yieldcleat" if library else "")
-    text = (f".load {library.with_suffix('')}\n" if library else "") + f".open {place}\n{script}"
+    uri = f"file:{place or folder / 'database'}" + ("?vfs=yieldcleat" if library else "")
+    text = (f".load {library.with_suffix('')}\n" if library else "") + f".open {uri}\n{script}"
     done = subprocess.run([*over, "sqlite3", "-batch"], input=text, capture_output=True, text=True, timeout=300, env=environment(**(settings or {})), check=False)
     assert done.returncode in (0, 1), f"{done.returncode}\n{done.stdout[-500:]}{done.stderr[-3000:]}"
     return done.stdout, re.sub(r"near line \d+", "", done.stderr)

@@ -196,7 +196,7 @@ mod tests {
         let node = yieldcleat_client::Address::Unix("nobody".into());
         let reader = Reader::open(Options::new(vec![node])).unwrap();
         assert_eq!(reader.read(1, 1, 0, 1), Err(VolumeError::Above { newest: 0 }));
-        assert_eq!(reader.learn((2, 7)), 7);
+        reader.lock().learn(&Known::of((2, 7), [1]));
         assert_eq!(reader.page_zero(8), Err(VolumeError::Above { newest: 7 }));
     }
 

@@ -299,6 +299,30 @@ fn a_wiped_node_is_admitted_by_the_next_opening() {
 }
 
 #[test]
+fn a_place_that_has_another_volume() {
+    let Some(world) = World::new(3, 2) else {
+        return;
+    };
+    let former = world.create();
+    (1..=9).for_each(|place| assert_eq!(former.volume.commit(write(place), Vec::new()), Ok(2 * place)));
+    let reader = Reader::open(world.options()).unwrap();
+    assert_eq!((reader.newest(), former.volume.newest()), (Ok(18), Ok(18)));
+    world.nodes.iter().for_each(Node::begin_life);
+    assert_eq!(former.volume.newest(), Err(VolumeError::Empty));
+    assert_eq!(reader.newest(), Err(VolumeError::Empty));
+
+    let other = world.create();
+    let point = other.volume.commit(write(1), Vec::new()).unwrap();
+    let generation = other.volume.standing().unwrap().generation;
+    assert_eq!(former.volume.newest(), Err(VolumeError::Fenced { generation }));
+    assert_eq!(reader.newest(), Ok(point));
+    assert_eq!(reader.learn(&former.volume.known()), point);
+    assert_eq!(reader.page_zero(point).unwrap().commit_point, point);
+    let point = other.volume.commit(write(2), Vec::new()).unwrap();
+    assert_eq!(reader.learn(&other.volume.known()), point);
+}
+
+#[test]
 fn a_node_that_was_away_at_the_opening_counts_when_it_is_back() {
     let Some(world) = World::new(3, 2) else {
         return;

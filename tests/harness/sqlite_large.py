@@ -1,0 +1,153 @@
+"""A database of some megabytes over six servers, which put snapshots in place of their logs all the time and are killed meanwhile.
+
+By hand: python3 -m harness.sqlite_large EXTENSION STORE DISK FOLDER SEED MEGABYTES
+"""
+
+import random
+import sqlite3
+import sys
+import time
+from pathlib import Path
+
+from harness.sqlite_cluster import NODES, Cluster, kill_process
+from harness.sqlite_crashes import Child
+from harness.sqlite_rounds import connect, load, told
+from harness.sqlite_worlds import is_whole, one
+from harness.stores import until
+
+KEPT = 20  # commits that stay readable, so that servers fold and discard
+ROWS = 100  # of a commit
+SNAPSHOTS = 2  # of each server, at least
+TABLES = """
+create table t(a integer primary key, b blob);
+create table total(rows integer, bytes integer, last integer);
+insert into total values(0, 0, 0);
+"""
+
+
+def body(seed, number):
+    return random.Random(f"{seed} {number}").randbytes(200 + number * 7919 % 1800)
+
+
+# What runs in processes of their own
+
+
+def fill(pipe, place, seed, size):
+    """Inserts rows until the database has its size, and deletes some; sends the size after each commit."""
+    ours = connect(place, keep=KEPT)
+    ours.executescript(f"begin; {TABLES} commit")
+    last = 0
+    while (has := one(ours, "pragma page_count") * 4096) < size:
+        ours.execute("begin immediate")
+        ours.executemany("insert into t values(?, ?)", ((number, body(seed, number)) for number in range(last + 1, last + ROWS + 1)))
+        last += ROWS
+        ours.execute("delete from t where a % 37 = ? and a > ?", (last // ROWS % 37, last - 20 * ROWS))
+        ours.execute("update total set rows = (select count(*) from t), bytes = (select sum(length(b)) from t), last = ?", (last,))
+        ours.execute("commit")
+        pipe.send(has)
+
+
+def watch(pipe, place):
+    """Looks again and again, and sends how often all was of one commit, or what was not."""
+    ours, looks = connect(place, mode="ro"), 0
+    while not pipe.poll():
+        ours.execute("begin")
+        there, noted = ours.execute("select count(*), sum(length(b)) from t").fetchone(), ours.execute("select rows, bytes from total").fetchone()
+        ours.execute("commit")
+        if there != noted and noted != (0, 0):
+            return pipe.send(f"{there} is there, and {noted} is noted")
+        looks += 1
+        time.sleep(0.2)
+    return pipe.send(looks)
+
+
+def check(pipe, place, seed):
+    """Sends how many rows there are where all of them are as they were made, or what is wrong."""
+    try:
+        ours = connect(place, timeout=20000)
+        ours.execute("begin immediate")
+        wrong = [a for a, b in ours.execute("select a, b from t") if b != body(seed, a)]
+        there, noted = ours.execute("select count(*), sum(length(b)) from t").fetchone(), ours.execute("select rows, bytes from total").fetchone()
+        pipe.send(there[0] if is_whole(ours) and not wrong and there == noted else f"{there} is there, {noted} is noted, {wrong[:5]} differ")
+        ours.execute("commit")
+    except sqlite3.Error as error:
+        pipe.send(told(error))
+
+
+# The run
+
+
+def generations(cluster):
+    """How many snapshots each server has made."""
+    return [max([int(it.suffix[1:]) for it in store.data.glob("snapshot.*") if it.suffix != ".draft"], default=0) for store in cluster.stores]
+
+
+def fill_and_kill(cluster, seed, size):
+    """Fills the database while servers are killed one after another; the result is how often a reader has looked."""
+    choose, place = random.Random(seed), cluster.folder / "volume"
+    writer, watcher, is_killed = Child(fill, place, seed, size), None, False
+    try:
+        while writer.process.is_alive() or writer.pipe.poll():
+            if not writer.pipe.poll(0.5):
+                continue
+            try:
+                writer.pipe.recv()
+            except EOFError:
+                break
+            watcher = watcher or Child(watch, place)
+            if is_killed and choose.random() < 0.2:
+                cluster.start()
+                is_killed = False
+            elif not is_killed and choose.random() < 0.1:
+                cluster.kill(*choose.sample(range(NODES), choose.choice([1, 2])))
+                is_killed = True
+        writer.process.join()
+        assert writer.process.exitcode == 0
+        cluster.start()
+        watcher.pipe.send("end")
+        [looks] = watcher.said()
+        assert isinstance(looks, int), looks
+        return looks
+    finally:
+        for it in (writer, watcher):
+            if it:
+                kill_process(it.process)
+
+
+def found(cluster, seed):
+    """How many rows there are, all of which are right."""
+    [rows] = Child(check, cluster.folder / "volume", seed).said()
+    assert isinstance(rows, int), rows
+    return rows
+
+
+def main(extension, store, disk, folder, seed, megabytes):
+    load(extension)
+    size = int(float(megabytes) * 1e6)
+    cluster = Cluster(store, Path(folder) / "c", disk, words=("--snapshot-after", max(200_000, size // 30)))
+    try:
+        begun = time.monotonic()
+        cluster.start()
+        looks = fill_and_kill(cluster, seed, size)
+        filled, made = time.monotonic() - begun, generations(cluster)
+        assert min(made) >= SNAPSHOTS, f"snapshots: {made}"
+        rows = found(cluster, seed)
+        cluster.kill(*range(NODES))
+        cluster.start()
+        assert found(cluster, seed) == rows
+        wiped = random.Random(seed).randrange(NODES)
+        cluster.wipe(wiped)
+        cluster.start(wiped)
+        begun = time.monotonic()
+        assert found(cluster, seed) == rows  # which admits the server
+        assert until(lambda: wiped in cluster.members()) and cluster.settled(), cluster.fronts()
+        whole = time.monotonic() - begun
+        cluster.kill(*random.Random(seed).sample([it for it in range(NODES) if it != wiped], 2))
+        assert found(cluster, seed) == rows
+        print(f"{rows} rows in {filled:.0f} s, {looks} looks, snapshots {made}, a wiped server whole in {whole:.1f} s")
+    finally:
+        cluster.close()
+
+
+if __name__ == "__main__":
+    main(*sys.argv[1:])
