@@ -1,6 +1,8 @@
 """SQLite over real servers as others test it: scripts of the shell, Python's own tests of `sqlite3`, a large database, and Valgrind."""
 
 import json
+import re
+import shlex
 import shutil
 import subprocess
 import sys
@@ -10,7 +12,7 @@ import test_sqlite
 from test_sqlite import SCRIPTS, needs_shell, shell
 from test_sqlite_nodes import SECONDS, run
 
-from harness import ROOT
+from harness import ROOT, environment
 from harness.sqlite_cluster import Cluster
 from harness.sqlite_python import NOT_FOR_VOLUMES, folder_of_tests
 from harness.store_checks import advance, take, takes, told
@@ -34,6 +36,23 @@ def cluster(store_program, disk, tmp_path):
 def test_shell_over_servers(cluster, extension, tmp_path, name):
     ours = shell(extension, SCRIPTS[name], tmp_path / "ours", place=cluster.folder / "volume")
     assert ours == shell(None, SCRIPTS[name], tmp_path / "plain")
+
+
+@needs_shell
+def test_demo(parts, tmp_path):
+    """The conversation of the README."""
+    extension, store, _ = parts
+    settings = environment(YIELDCLEAT_EXTENSION=extension, YIELDCLEAT_STORE=store, YIELDCLEAT_DEMO=tmp_path)
+    section = (ROOT / "README.md").read_text().split("## SQLite without a file")[1].split("\n## ")[0]
+    conversation = re.findall(r"^    \$ (.*)\n((?:    (?!\$).*\n)*)", section, re.MULTILINE)
+    assert len(conversation) == 3
+    try:
+        for command, said in conversation:
+            done = subprocess.run(shlex.split(command), cwd=ROOT, env=settings, capture_output=True, text=True, timeout=SECONDS, check=False)
+            expected = re.sub("^    ", "", said, flags=re.MULTILINE).replace("/tmp/yieldcleat-demo", str(tmp_path))
+            assert (done.returncode, done.stdout, done.stderr) == (0, expected, "")
+    finally:
+        subprocess.run(["sqlite/demo", "stop"], cwd=ROOT, env=settings, timeout=SECONDS, check=True, stdout=subprocess.DEVNULL)
 
 
 # Python's own tests
