@@ -333,7 +333,7 @@ class World:
             self.send(i, (kind, engine.number, engine.generation, birth, *rest))
 
     def start(self, generation, margin):
-        """An engine opens the volume. `margin` tells how far hi is above lo: "lo", "seen" or "more"."""
+        """An engine opens the volume. `margin` tells how far hi is above lo: "lo", "complete", "seen" or "more"."""
         engine = Engine(len(self.engines), generation, margin)
         self.engines.append(engine)
         for i in range(self.n):
@@ -452,8 +452,8 @@ class World:
 
     def propose(self, engine):
         seen = view(engine.union)
-        above = {"lo": engine.lo, "seen": max(engine.lo, seen.greatest), "more": max(engine.lo, seen.greatest) + 1}
-        engine.cut = engine.pending or ("cut", seen.k + 1, engine.lo, above[engine.margin])
+        numbers = {"lo": 0, "complete": seen.complete, "seen": seen.greatest, "more": seen.greatest + 1}
+        engine.cut = engine.pending or ("cut", seen.k + 1, engine.lo, max(engine.lo, numbers[engine.margin]))
         engine.accepts, engine.reports, engine.phase, engine.sent = set(), set(), "propose", []
         self.send_fenced(engine, "propose", engine.cut)
         if self.broken("writes_before_the_truncation_is_chosen") and not engine.pending:
@@ -606,9 +606,10 @@ class World:
             if rest[0] < len(self.engines) and self.engines[rest[0]].phase == "open":
                 getattr(self, kind)(*rest)
         elif kind == "wipe":
+            had_members = any(node.is_member for node in self.nodes)
             self.nodes[rest[0]] = Node(self.births)
             self.births += 1
-            self.gone = self.gone or not any(node.is_member for node in self.nodes)
+            self.gone = self.gone or (had_members and not any(node.is_member for node in self.nodes))
         elif kind == "open_plainly":
             node = self.nodes[rest[0]]
             if not node.is_member or self.broken("replaces_the_segment_of_a_member"):

@@ -269,9 +269,9 @@ class Rules:
         return f"epoch {epoch} is not open"
 
 
-def trace(moves, **options):
+def trace(moves, kind=Traced, **options):
     """The run that a schedule makes, up to a violation or to where no node is a member."""
-    run = Traced(**options)
+    run = kind(**options)
     try:
         for move in moves:
             run.do(move)

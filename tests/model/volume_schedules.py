@@ -9,8 +9,10 @@ from .volume import Violation, World, replay
 class Schedule:
     """A world, and the moves that brought it where it is. After a violation it makes no further move."""
 
+    kind = World
+
     def __init__(self, **world):
-        self.options, self.world, self.moves, self.violation = world, World(**world), [], None
+        self.options, self.world, self.moves, self.violation = world, self.kind(**world), [], None
 
     def do(self, *move):
         if self.violation is None and not self.world.gone:
@@ -91,6 +93,46 @@ class Schedule:
 
 def cut_of(epoch):
     return lambda request: request[4][:2] == ("cut", epoch)
+
+
+def both(i):
+    """The two nodes that stand for one in a doubled schedule."""
+    return 2 * i, 2 * i + 1
+
+
+class Doubled(Schedule):
+    """A schedule of three nodes over six: each of its nodes is two, and its quorums of two are quorums of four."""
+
+    def __init__(self, **world):
+        created = [j for i in world.pop("created", range(3)) for j in both(i)]
+        super().__init__(**{**world, "nodes": 6, "quorum": 4, "created": created})
+
+    def committed(self, nodes=(0, 1)):
+        return super().committed(list(nodes))
+
+    def give(self, engine, nodes, kind, fate="heard", having=lambda request: True):
+        """A list names nodes of the three, a tuple is a quorum of the six."""
+        named = nodes if isinstance(nodes, tuple) else [j for i in nodes for j in both(i)]
+        super().give(engine, named, kind, fate, having)
+
+    def hear_late(self, engine, i):
+        for j in both(i):
+            super().hear_late(engine, j)
+
+    def do(self, *move):
+        kind, *rest = move
+        if kind in ("wipe", "open_plainly", "read", "fact", "discard"):
+            moves = [(kind, j, *rest[1:]) for j in both(rest[0])]
+        elif kind in ("plain_front", "fail"):
+            moves = [(kind, rest[0], j) for j in both(rest[1])]
+        elif kind == "copy":
+            moves = [(kind, *nodes) for nodes in zip(both(rest[0]), both(rest[1]))]
+        elif kind == "deliver" and rest[1][1] < 0:
+            moves = [(kind, j, (*rest[1][:3], j, *rest[1][4:]), rest[2]) for j in both(rest[0])]
+        else:
+            moves = [move]
+        for each in moves:
+            super().do(*each)
 
 
 # ---- directed schedules
@@ -424,6 +466,8 @@ OPTIONS = {"creates_with_one_status_round": {"created": (0, 1)}}
 class Random(Schedule):
     """Blows of a random schedule: an engine's next requests to a node or a quorum, old messages, lost nodes, gossip, reads."""
 
+    scripts = {3: Schedule, 6: Doubled}  # what runs a directed schedule over so many nodes
+
     def __init__(self, rng, **world):
         super().__init__(**world)
         self.rng, self.quorums = rng, {}
@@ -442,9 +486,9 @@ class Random(Schedule):
     def begin(self):
         """Often a directed schedule with moves left out and put in, so that the rest of the run starts from a tense state."""
         fitting = [schedule for name, schedule in SCHEDULES.items() if name not in OPTIONS]
-        if self.world.n != 3 or self.rng.random() < 0.4:
+        if self.world.n not in self.scripts or self.rng.random() < 0.4:
             return
-        script = Schedule(**self.options)
+        script = self.scripts[self.world.n](**self.options)
         self.rng.choice(fitting)(script)
         for move in script.moves[: self.rng.choice((999, self.rng.randint(5, 40)))]:
             if self.rng.random() >= self.odds["skip"]:
@@ -460,7 +504,7 @@ class Random(Schedule):
         generations = [engine.generation for engine in self.world.engines] or [1]
         newest = max(generations + [node.generation for node in self.world.nodes]) + 1
         generation = self.rng.choices((newest, self.rng.choice(generations), self.rng.randint(2, newest)), (0.7, 0.2, 0.1))[0]
-        self.do("start", generation, self.rng.choice(("lo", "lo", "seen", "more")))
+        self.do("start", generation, self.rng.choice(("lo", "complete", "seen", "more")))
 
     def blow(self):
         rng, world = self.rng, self.world

@@ -1,0 +1,158 @@
+"""Schedules over the machine's model: those of the volume model, some that the machine's choices need, and random ones."""
+
+from .volume_machine import Machines
+from .volume_schedules import OPTIONS, SCHEDULES, Doubled, Random, Schedule
+
+
+class MachineSchedule(Schedule):
+    kind = Machines
+
+
+class DoubledMachineSchedule(Doubled):
+    kind = Machines
+
+
+class RandomMachines(Random):
+    """Random schedules with broken connections, and nodes that discard."""
+
+    kind = Machines
+    scripts = {3: MachineSchedule, 6: DoubledMachineSchedule}
+
+    def blow(self):
+        rng, world = self.rng, self.world
+        if world.engines and rng.random() < 0.03:
+            self.do("fail", rng.randrange(len(world.engines)), rng.randrange(world.n))
+        elif rng.random() < 0.03:
+            self.do("discard", rng.randrange(world.n))
+        else:
+            super().blow()
+
+
+# ---- directed schedules
+
+
+def creation(s):
+    """A volume is created over fresh nodes, of which one answers twice and one is asked again, and an engine opens it."""
+    s.do("create")
+    for _ in range(2):
+        s.give(0, [0, 0, 1], "status")
+        s.do("fail", 0, 2)
+        s.give(0, [2], "status")
+    s.give(0, [0, 1, 2], "admit")
+    s.give(0, [0], "admit")
+    a = s.opened()
+    s.transaction(a, [0, 1])
+
+
+def creation_of_a_wiped_node(s):
+    """A node loses its files between the two rounds of a creation."""
+    s.do("create")
+    s.give(0, [0, 1, 2], "status")
+    s.do("wipe", 2)
+    s.give(0, [0, 1, 2], "status")
+
+
+def two_truncations_of_one_epoch(s):
+    """A's transaction is at node 2 alone. Node 0 accepted B's truncation, which annuls it, nodes 1 and 2 then C's, which keeps it."""
+    a = s.opened()
+    s.give(a, [2], "fence")
+    s.give(a, [2], "take")
+    s.transaction(a, [2])
+    b = s.start(3)
+    s.known(b, [0, 1])
+    s.give(b, [0], "propose", "lost")
+    c = s.start(4)
+    s.known(c, [1, 2])
+    s.give(c, [1, 2], "propose")
+    d = s.start(5)
+    s.open(d, [0, 1])
+
+
+def overlapping_numbers(s):
+    """Node 2 has records of A's epoch under the numbers that B's own records have."""
+    a = s.committed()
+    s.give(a, [2], "fence")
+    s.gossip_all([2])
+    s.transaction(a, [2])
+    b = s.start(3)
+    s.open(b, [0, 1])
+    s.give(b, [2], "fence")
+    s.transaction(b, [0])
+    s.give(b, [2], "front")
+    s.give(b, [1], "take")
+    c = s.start(4)
+    s.open(c, [1, 2])
+
+
+def read_points(s):
+    """Nodes discard what readers are past; engines recover from the pages that are left."""
+    a = s.committed()
+    s.do("advance", a, False)
+    s.give(a, [0, 1], "take")
+    s.do("discard", 0)
+    s.transaction(a, [0, 1])
+    s.do("discard", 1)
+    b = s.start(3)
+    s.open(b, [0, 1])
+    s.give(b, [2], "fence")
+    s.give(b, [2], "take")
+    s.do("copy", 2, 0)
+    s.do("discard", 2)
+    s.do("wipe", 1)
+    c = s.start(4)
+    s.give(c, [1], "fence")
+    s.known(c, [0, 2])
+    s.readmit(c, 1)
+    s.choose(c, [0, 1, 2])
+    s.transaction(c, [1, 2])
+
+
+def broken_connections(s):
+    """Connections break in each phase, and what was asked comes again; an engine that finds no quorum stops, and one that is fenced."""
+    a = s.start(2)
+    s.do("fail", a, 2)
+    s.give(a, [0, 1], "fence")
+    for kind in ("pull", "push", "propose", "take"):
+        for i in 0, 1, 2:
+            s.do("fail", a, i)
+        s.give(a, [0, 1], kind)
+    s.do("write", a, 1, 0)
+    s.do("write", a, 1, 0)
+    s.do("fail", a, 0)
+    s.give(a, [2], "fence")
+    s.give(a, [0, 1, 2], "take")
+    s.do("fail", a, 2)
+    b = s.start(3)
+    s.known(b, [1, 2])
+    s.do("fail", b, 0)
+    s.give(a, [1], "take")
+    s.do("fail", a, 1)
+    s.do("write", a, 1, 0)
+    c = s.start(4)
+    for i in 0, 1:
+        s.do("fail", c, i)
+
+
+DIRECTED = {
+    **SCHEDULES,
+    "creation": creation,
+    "creation_of_a_wiped_node": creation_of_a_wiped_node,
+    "two_truncations_of_one_epoch": two_truncations_of_one_epoch,
+    "overlapping_numbers": overlapping_numbers,
+    "read_points": read_points,
+    "broken_connections": broken_connections,
+}
+WORLDS = {**OPTIONS, "creation": {"created": ()}, "creation_of_a_wiped_node": {"created": ()}}
+
+# The schedules in which a machine with this fault would differ, where that is not the model's own one.
+SHOWN_BY = {
+    "adopts_a_pending_truncation_by_epoch": "two_truncations_of_one_epoch",
+    "counts_a_front_of_an_older_epoch": "overlapping_numbers",
+}
+
+
+def directed(name, nodes, mutants=()):
+    """A directed schedule over three nodes or six."""
+    schedule = RandomMachines.scripts[nodes](mutants=mutants, **WORLDS.get(name, {}))
+    DIRECTED[name](schedule)
+    return schedule
