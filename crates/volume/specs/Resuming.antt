@@ -23,6 +23,7 @@ use Rattle.volume.specs.declared.turns.Turn.{Turn}
 use Rattle.volume.specs.declared.turns.Turn.TheVariants as turn
 use Rattle.redo_writer.specs.Layout.{number_of}
 use Rattle.volume.specs.Layout.{IsHeaderOf}
+use Rattle.volume.specs.Planning.{RefusesRead}
 use Rattle.volume.specs.Turning.{StopsWith}
 
 -- the number that the page has at its end at a point, or 0 where nothing of it is stored
@@ -76,7 +77,11 @@ IsOpened union cut (Opened epoch commit_point header ∷ []) =
     (epoch ≡ cut.epoch) × (commit_point ≡ cut.lo) × IsHeader union cut.lo header.items
 IsOpened union cut actions = ⊥
 
--- the volume is open, or the union is no log of a volume
+-- a read of page 0, or of a page of which something is stored, is refused at the point
+abbrev pub RefusesPage : State → ℕ → Type 0
+RefusesPage union point = (page : ℕ) × ((page ≡ 0) ⊎ IsStoredPage union page) × RefusesRead union page point
+
+-- the volume is open, or the union does not show one of its pages at the commit point that the truncation keeps
 abbrev pub OpensVolume : Session → State → CutData → Turn → Type 0
 OpensVolume session union cut (turn.Enter (phase.Open w) actions) = BeginsWriting session union cut w × IsOpened union cut actions.items
-OpensVolume session union cut told = StopsWith told Damaged
+OpensVolume session union cut told = StopsWith told Damaged × RefusesPage union cut.lo

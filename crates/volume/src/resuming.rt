@@ -1,8 +1,9 @@
-ghost use Rattle.std.specs.Prelude.{◌≡◌, ◌∷◌, [], ℕ, IfOk, IfSome, OnOk, slice_index};
+ghost use Rattle.std.specs.Prelude.{◌≡◌, ◌∷◌, [], ℕ, IfOk, IfSome, IfNone, OnOk, slice_index};
 ghost use Rattle.segment_theorems.specs.Shows.{Shows};
 ghost use Rattle.segment_theorems.specs.HasMeaning.{HasAnchor};
 ghost use Rattle.redo_writer.specs.Tracks.{PutsTop};
-ghost use Rattle.volume.specs.Resuming.{OpensVolume, IsOpened, IsPageTop, IsResumed, AreAliveAbove, IsEntryOfKey};
+ghost use Rattle.volume.specs.Planning.{RefusesRead};
+ghost use Rattle.volume.specs.Resuming.{OpensVolume, RefusesPage, IsOpened, IsPageTop, IsResumed, AreAliveAbove, IsEntryOfKey};
 
 use crate::actions::{Action, Fault};
 use crate::backlog::Backlog;
@@ -49,7 +50,8 @@ pub(crate) fn open_volume(
 
 /// A page at a point, or None where the union does not show it there.
 fn page_at(union: &Segment, page: u16, point: u64) -> Result<Option<Page>, AllocError>
-    ensures { IfOk result (λ o. IfSome o (Shows union.now page point)) }
+    ensures shows { IfOk result (λ o. IfSome o (Shows union.now page point)) }
+    ensures refuses { IfOk result (λ o. IfNone o (RefusesRead union.now page point)) }
 {
     match union.read(page, point) {
         Ok(image) => Ok(Some(image)),
@@ -60,7 +62,8 @@ fn page_at(union: &Segment, page: u16, point: u64) -> Result<Option<Page>, Alloc
 
 /// The number of each page's last record up to a point, or None where the union does not show a page there.
 fn tops(alloc: Global, union: &Segment, point: u64) -> Result<Option<Vec<u64>>, AllocError>
-    ensures { IfOk result (λ o. IfSome o (λ v. (page : ℕ) → IsPageTop union.now point page (slice_index v.items page))) }
+    ensures each { IfOk result (λ o. IfSome o (λ v. (page : ℕ) → IsPageTop union.now point page (slice_index v.items page))) }
+    ensures refuses { IfOk result (λ o. IfNone o (RefusesPage union.now point)) }
 {
     let mut tops = Vec::new(alloc);
     let mut next = stored_page_after(union, None);

@@ -265,13 +265,13 @@ module _ (run : VolumeRun) (h : History) (stop : ℕ) (content : ReplicaData →
   opens : (u : State) (cut : CutData) (new : Opening) (t : Turn) → HasAsked run e T → OpensVolume old.session u cut t → Left new t
   opens u cut new (turn.Enter (phase.Open w) actions) asked says =
       record { knows = asked; right = opened_right run e (λ s. Unit {0}) T u cut actions.items says.1; wider = λ s own. tt }
-  opens u cut new (turn.Enter phase.Idle actions) asked says = absurd says
-  opens u cut new (turn.Enter (phase.Creating c) actions) asked says = absurd says
-  opens u cut new (turn.Enter (phase.Fencing f) actions) asked says = absurd says
-  opens u cut new (turn.Enter (phase.Opening o) actions) asked says = absurd says
-  opens u cut new (turn.Stay actions) asked says = absurd says
+  opens u cut new (turn.Enter phase.Idle actions) asked says = absurd says.0
+  opens u cut new (turn.Enter (phase.Creating c) actions) asked says = absurd says.0
+  opens u cut new (turn.Enter (phase.Fencing f) actions) asked says = absurd says.0
+  opens u cut new (turn.Enter (phase.Opening o) actions) asked says = absurd says.0
+  opens u cut new (turn.Stay actions) asked says = absurd says.0
   opens u cut new (turn.End actions) asked says =
-      when_stops run h guards e life n (phase.Opening old) (phase.Opening new) (turn.End actions) Damaged says
+      when_stops run h guards e life n (phase.Opening old) (phase.Opening new) (turn.End actions) Damaged says.0
 
   module _ (node generation birth : ℕ) (own : IsOwn old.session node generation birth) (within : node < run.roster) where
     knows_more : (plan : Plan) (known : List Bool) (front : Front) (new : Opening) (t : Turn)

@@ -15,6 +15,6 @@ loop-next-preserved c =
     let s = c.args.union.now in let point = c.args.point in let page = c.in-Some.page in let image = c.in-Some-2.image in
     let before : TopsTo (IsStoredPage s) (HasNumberAt s point) (Some page) c.loop-next.tops.items =
     subst (λ (n : Option ℕ). TopsTo (IsStoredPage s) (HasNumberAt s point) n c.loop-next.tops.items) c.in-Some.is c.loop-next.invariant in
-    let shown : IfSome (Some image) (Shows s page point) = subst (λ o. IfSome o (Shows s page point)) c.in-Some-2.is c.in_ok-image.ensures in
+    let shown : IfSome (Some image) (Shows s page point) = subst (λ o. IfSome o (Shows s page point)) c.in-Some-2.is c.in_ok-image.ensures.shows in
     tops_more (IsStoredPage s) (HasNumberAt s point) page c.number_of.result c.stored_page_after-next-in-Some.result c.loop-next.tops.items
     c.put_top.new.tops.items c.stored_page_after-next-in-Some.ensures (image, shown, c.number_of.ensures) before c.in_ok-put_top.ensures
