@@ -135,10 +135,14 @@ RaisesPoint old reader point actions new =
 abbrev pub IsReachedCommit : ℕ → RecordData → List ℕ → Type 0
 IsReachedCommit quorum r reached = (r.page ≡ 0) × (quorum ≤ count_at_least r.number reached)
 
--- the number of such a record that is not durable yet
-abbrev pub LicensesDurable : ℕ → List RecordData → List ℕ → ℕ → Type 0
-LicensesDurable quorum backlog reached point =
-    (r : RecordData) × Contains backlog r × IsReachedCommit quorum r reached × (r.number ≡ point)
+-- each such record is at or below the point
+pub record HasNoneReachedAbove (quorum : ℕ) (backlog : List RecordData) (reached : List ℕ) (point : ℕ) : Type 0 where
+  pub upto : (r : RecordData) → Contains backlog r → IsReachedCommit quorum r reached → r.number ≤ point
+
+-- the greatest number of such a record that is not durable yet
+abbrev pub IsLastReached : ℕ → List RecordData → List ℕ → ℕ → Type 0
+IsLastReached quorum backlog reached point =
+    (r : RecordData) × Contains backlog r × IsReachedCommit quorum r reached × (r.number ≡ point) × HasNoneReachedAbove quorum backlog reached point
 
 -- no quorum has come up to such a record
 pub record HasNoneReached (quorum : ℕ) (backlog : List RecordData) (reached : List ℕ) : Type 0 where
@@ -155,12 +159,12 @@ records_above point records = filter (λ r. nat_lt point r.number) records
 abbrev pub SameWriter : Writing → Writing → Type 0
 SameWriter old new = (new.session ≡ old.session) × (new.cut ≡ old.cut) × (new.writer ≡ old.writer)
 
--- The front is of the epoch: the node has reached its point. Where a quorum has then reached a commit point, one is durable.
+-- The front is of the epoch: the node has reached its point. Where a quorum has then reached a commit point, the greatest one is durable.
 abbrev pub HearsPoint : ℕ → Writing → ℕ → ℕ → Writing → Turn → Type 0
 HearsPoint quorum old node point new turn =
     (HasNoneReached quorum old.backlog new.reached × SameWriter old new × (new.reached ≡ with_reached old.reached node point)
     × (new.durable ≡ old.durable) × (new.backlog ≡ old.backlog) × Stays turn [])
-    ⊎ ((commit_point : ℕ) × LicensesDurable quorum old.backlog new.reached commit_point × SameWriter old new
+    ⊎ ((commit_point : ℕ) × IsLastReached quorum old.backlog new.reached commit_point × SameWriter old new
     × (new.reached ≡ with_reached old.reached node point) × (new.durable ≡ commit_point)
     × (new.backlog ≡ records_above commit_point old.backlog) × Stays turn (Durable commit_point ∷ []))
 

@@ -1,6 +1,6 @@
-ghost use Rattle.std.specs.Prelude.{◌≡◌, ◌↔◌, ◌++◌, ◌∷◌, List, [], IsTrue, IfSome, IfNone, OnOk, OnErr};
+ghost use Rattle.std.specs.Prelude.{◌≡◌, ◌↔◌, ◌≤◌, ◌⊎◌, ◌++◌, ◌∷◌, List, [], Some, IsTrue, IfSome, IfNone, OnOk, OnErr};
 ghost use Rattle.redo_core.specs.Data.{RecordData};
-ghost use Rattle.volume.specs.Writing.{IsReachedCommit, LicensesDurable, HasNoneReached, records_above};
+ghost use Rattle.volume.specs.Writing.{IsReachedCommit, IsLastReached, HasNoneReached, records_above};
 
 use crate::sets::count_up_to;
 use redo_core::Record;
@@ -55,15 +55,15 @@ impl Backlog {
         &self.records
     }
 
-    /// The number of the last record of page 0 that so many nodes have come up to.
+    /// The greatest number of a record of page 0 that so many nodes have come up to.
     pub(crate) fn last_reached(&self, reached: &[u64; 15], quorum: u8) -> Option<u64>
-        ensures some { IfSome result (LicensesDurable quorum self.now reached.now) }
+        ensures some { IfSome result (IsLastReached quorum self.now reached.now) }
         ensures none { IfNone result (HasNoneReached quorum self.now reached.now) }
     {
         let mut last = None;
         for redo in &self.records {
             if is_reached(redo, reached, quorum) {
-                last = Some(redo.number());
+                last = Some(greater(last, redo.number()));
             }
         }
         last
@@ -82,4 +82,16 @@ fn is_reached(redo: &Record, reached: &[u64; 15], quorum: u8) -> bool
     ensures { IsTrue result ↔ IsReachedCommit quorum redo.now reached.now }
 {
     redo.page() == 0 && count_up_to(reached, redo.number()) >= quorum
+}
+
+/// The greater of a number and the one before, if there is one.
+fn greater(before: Option<u64>, number: u64) -> u64
+    ensures either { (result ≡ number) ⊎ (before ≡ Some result) }
+    ensures number { number ≤ result }
+    ensures before { IfSome before (λ other. other ≤ result) }
+{
+    match before {
+        Some(other) if other > number => other,
+        _ => number,
+    }
 }

@@ -247,7 +247,7 @@ fn hear_front(
     hear_point(alloc, quorum, writing, node, front.complete)
 }
 
-/// Hears that a node has reached a point in the epoch. A commit point that a quorum has reached is durable.
+/// Hears that a node has reached a point in the epoch. The greatest commit point that a quorum has reached is durable.
 fn hear_point(
     alloc: Global,
     quorum: u8,
