@@ -48,7 +48,6 @@ use Rattle.volume_logs.proofs.Moments.{until_earlier}
 use Rattle.volume_logs.proofs.Epochs.{in_epoch, at_later}
 use Rattle.volume_logs.proofs.Sound.{log_is_sound}
 use Rattle.volume_engines.specs.Lives.{Life, Guards, WasGiven}
-use Rattle.volume_engines.specs.Engines.{Plans as Named}
 use Rattle.volume_engines.specs.Proposals.{IsLifeIn}
 use Rattle.volume_engines.proofs.Tables.{at_or_not, put_elsewhere, count_zero, none_marked, marked_more}
 use Rattle.volume_engines.proofs.Sending.{IsOwnProposal, RightAction, AllRight, all_append, to_one, query_one}
@@ -58,6 +57,7 @@ use Rattle.volume_engines.proofs.Knowing.{KnowsSession, HasGiven, KnowsUnion, Is
 use Rattle.volume_engines.proofs.Turning.{when_stays, when_stops}
 use Rattle.volume_engines.proofs.Later.{means_later, given_later}
 use Rattle.volume_engines.proofs.Heard.{IsHeard, heard, own_part, own_content, own_shown, own_known}
+use Rattle.volume_engines.proofs.Named.{NamesPlan}
 use Rattle.volume_engines.proofs.Proposing.{many_marked, plan_proposed}
 
 -- a truncation that was sent is in the log
@@ -231,7 +231,7 @@ module _ (run : VolumeRun) (h : History) (stop : ℕ) (content : ReplicaData →
 
   -- the step proposes a plan
   abbrev Names : Opening → Turn → Type 0
-  Names new t = (plan : Plan) (accepted : List Bool) (asked : List Action) → Stays t asked → new.stage ≡ stage.Proposing plan accepted → Named plan (run.engines e)
+  Names new t = (plan : Plan) (accepted : List Bool) (asked : List Action) → Stays t asked → new.stage ≡ stage.Proposing plan accepted → NamesPlan plan (run.engines e)
 
   proposes : (plan : Plan) (known : List Bool) (new : Opening) (t : Turn) → Names new t → IsQuorum quorum known
       → KnowsStage run h e T old.union old.pair (stage.Spreading plan known) → ProposesPlan old plan new t → Left new t
@@ -239,7 +239,7 @@ module _ (run : VolumeRun) (h : History) (stop : ℕ) (content : ReplicaData →
       (λ damaged. ends new t Damaged damaged.1)
       (λ sends.
       let next : Opening = opened_with old old.session old.union no_births (stage.Proposing plan no_nodes) in
-      let named : Named plan (run.engines e) = names plan no_nodes _ sends.3 (ap (λ (o : Opening). o.stage) sends.2) in
+      let named : NamesPlan plan (run.engines e) = names plan no_nodes _ sends.3 (ap (λ (o : Opening). o.stage) sends.2) in
       let own : IsOwnProposal run e T plan.cut =
       plan_proposed run h stop content guards e T old plan known is.follows is.emitted is.guarded upto k.best at.0
       (subst (λ (m : ℕ). m ≤ count_marked known) q_is enough) at.2 named k.session.gathered at.1 in

@@ -1,4 +1,7 @@
 pub mod Tables
+pub mod Ordering
+pub mod OrderedSteps
+pub mod Named
 pub mod Sending
 pub mod Replies
 pub mod Knowing

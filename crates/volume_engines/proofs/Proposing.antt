@@ -33,9 +33,10 @@ use Rattle.volume_logs.proofs.Sound.{log_is_sound}
 use Rattle.volume_logs.proofs.Joining.{parts_unite}
 use Rattle.volume_engines.specs.Lives.{Guards}
 use Rattle.volume_engines.specs.World.{HasGuards}
-use Rattle.volume_engines.specs.Engines.{Plans}
 use Rattle.volume_engines.proofs.Tables.{marked_below}
 use Rattle.volume_engines.proofs.Sending.{IsOwnProposal}
+use Rattle.volume_engines.proofs.Ordering.{pending_next}
+use Rattle.volume_engines.proofs.Named.{NamesPlan}
 use Rattle.volume_engines.proofs.Unions.{IsLast, own_last}
 use Rattle.volume_engines.proofs.Pending.{pending_known}
 use Rattle.volume_engines.proofs.Contents.{content_exists}
@@ -75,7 +76,7 @@ pending_vote (Some pair) epoch cut d same is = is.0 ∙ sym same
 module _ (run : VolumeRun) (h : History) (stop : ℕ) (content : ReplicaData → Content) (guards : Guards) (e t : ℕ) (o : Opening) (plan : Plan) (known : List Bool)
     (follows : FollowsUntil run stop) (emitted : IsEmitted run h stop) (guarded : HasGuards run h stop content guards) (upto : t ≤ stop)
     (best : IsBest run e (vote_of o.pair)) (union : KnowsUnion run h e t o.union [])
-    (enough : run.quorum ≤ count_marked known) (are : AreKnown run h e t plan known) (names : Plans plan (run.engines e)) where
+    (enough : run.quorum ≤ count_marked known) (are : AreKnown run h e t plan known) (names : NamesPlan plan (run.engines e)) where
   sound : IsSound h.readers (log_at h t)
   sound = log_is_sound run h stop t follows emitted upto
 
@@ -188,12 +189,8 @@ module _ (run : VolumeRun) (h : History) (stop : ℕ) (content : ReplicaData →
           pending = pending_vote o.pair o.union.book.complete plan.cut ((run.engines e).cuts plan.cut.epoch) names.cut is;
         }))
 
-    epoch_pending : (pair : Option AcceptedCut) (epoch : ℕ) (cut : CutData) → IsPending pair epoch cut → cut.epoch ≡ epoch + 1
-    epoch_pending None epoch cut is = absurd is
-    epoch_pending (Some pair) epoch cut is = is.1
-
     pub plan_proposed : IsPlan o.union o.pair plan → IsOwnProposal run e t plan.cut
     plan_proposed is = ⊎_elim
-        (λ pending. pending_proposed pending.0 pending.1 (epoch_pending o.pair o.union.book.complete plan.cut pending.1))
+        (λ pending. pending_proposed pending.0 pending.1 (pending_next o.pair o.union.book.complete plan.cut pending.1))
         (λ own. own_proposed own.0 own.1 own.2)
         is

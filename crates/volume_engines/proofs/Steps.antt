@@ -20,6 +20,7 @@ use Rattle.volume.specs.declared.events.Event.TheVariants as event
 use Rattle.volume.specs.declared.phases.Opening.{Opening}
 use Rattle.volume.specs.declared.phases.Phase.{Phase}
 use Rattle.volume.specs.declared.phases.Phase.TheVariants as phase
+use Rattle.volume.specs.declared.phases.Stage.{Stage}
 use Rattle.volume.specs.declared.phases.Stage.TheVariants as stage
 use Rattle.volume.specs.declared.phases.Writing.{Writing}
 use Rattle.volume.specs.declared.plans.Plan.{Plan}
@@ -38,10 +39,13 @@ use Rattle.volume_theorems.specs.Opening.{HasAsked}
 use Rattle.volume_theorems.proofs.Guards.{asked_later}
 use Rattle.volume_logs.specs.Histories.{History}
 use Rattle.volume_engines.specs.Lives.{Life, Guards, WasGiven, MayHappen}
-use Rattle.volume_engines.specs.Engines.{fenced_in, fenced_at, fenced_by, Gathers, Plans}
+use Rattle.volume_engines.specs.Engines.{fenced_in, fenced_at, fenced_by, Gathers}
+use Rattle.volume_engines.specs.Proposed.{IsPlanOf, IsPlanIn}
 use Rattle.volume_engines.specs.Proposals.{IsLifeIn, ProposalsKeepRules}
 use Rattle.volume_engines.proofs.Sending.{IsOwnProposal, RightAction, AllRight, all_wider, queries_each}
 use Rattle.volume_engines.proofs.Knowing.{pair_at, KnowsFencing, KnowsOpening, KnowsPhase, Allowed, Leaves, LeavesTurn}
+use Rattle.volume_engines.proofs.OrderedSteps.{plans_in_order}
+use Rattle.volume_engines.proofs.Named.{NamesPlan, names_plan}
 use Rattle.volume_engines.proofs.Turning.{when_stays}
 use Rattle.volume_engines.proofs.Fencing.{table_stays_below}
 use Rattle.volume_engines.proofs.HearingFencing.{EntersOpening, hears_fencing, retries_fencing}
@@ -219,10 +223,12 @@ module _ (run : VolumeRun) (h : History) (stop : ℕ) (content : ReplicaData →
           (knows_of (phase.Fencing f) from) names says.0 in
           turned (phase.Fencing f) left t from (subst (λ (q : Phase). LeavesTurn run h guards e life (suc n) (phase.Fencing f) q t) (sym says.1) leaves) turns
       hears (phase.Opening o) (phase.Opening p) t node told from inside at given says turns =
-          let names : (plan : Plan) (accepted : List Bool) (asked : List Action) → Stays t asked → p.stage ≡ stage.Proposing plan accepted → Plans plan (run.engines e) =
+          let names : (plan : Plan) (accepted : List Bool) (asked : List Action) → Stays t asked → p.stage ≡ stage.Proposing plan accepted → NamesPlan plan (run.engines e) =
           λ plan accepted asked stays proposing.
-          is.names.plans (suc n) p plan accepted step
-          (phase_after (phase.Opening p) (stays_phase old new (phase.Opening p) t (life.actions (suc n)) asked stays turns)) proposing in
+          names_plan life count (run.engines e) is.names (plans_in_order run guards e life count is.lives) (suc n) plan step
+          (subst (λ (ph : Phase). IsPlanIn ph plan)
+          (sym (phase_after (phase.Opening p) (stays_phase old new (phase.Opening p) t (life.actions (suc n)) asked stays turns)))
+          (subst (λ (st : Stage). IsPlanOf st plan) (sym proposing) refl)) in
           turned (phase.Opening o) (phase.Opening p) t from
           (hears_opening run h stop content guards e life count is (suc n) step old.settings.quorum quorum_is o
           (opening_later o (knows_of (phase.Opening o) from)) (sent_of (phase.Opening o) from)

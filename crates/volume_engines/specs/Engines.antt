@@ -1,5 +1,5 @@
 -- Which engine of a run a life is.
-use Rattle.std.specs.Prelude.{◌≡◌, ℕ, zero, suc, ◌<◌, List, Bool, true, false, ◌==◌, if◌then◌else◌}
+use Rattle.std.specs.Prelude.{◌≡◌, ℕ, zero, suc, ◌<◌, Bool, true, false, ◌==◌, if◌then◌else◌}
 use Rattle.guard.specs.declared.replies.Reply.{Reply}
 use Rattle.guard.specs.declared.replies.Reply.TheVariants as reply
 use Rattle.volume.specs.declared.events.Event.{Event}
@@ -7,11 +7,11 @@ use Rattle.volume.specs.declared.events.Event.TheVariants as event
 use Rattle.volume.specs.declared.fencing.Fencing.{Fencing}
 use Rattle.volume.specs.declared.phases.Opening.{Opening}
 use Rattle.volume.specs.declared.phases.Phase.TheVariants as phase
-use Rattle.volume.specs.declared.phases.Stage.TheVariants as stage
 use Rattle.volume.specs.declared.plans.Plan.{Plan}
 use Rattle.volume.specs.Sets.{is_marked}
 use Rattle.volume_theorems.specs.Runs.{Engine}
 use Rattle.volume_engines.specs.Lives.{Life}
+use Rattle.volume_engines.specs.Proposed.{ProposesAt}
 
 -- `at`, if the reply says that the node is fenced to the generation; else what was there before
 abbrev pub fenced_in : Reply → ℕ → Bool → ℕ → ℕ → ℕ
@@ -33,16 +33,22 @@ pub record Gathers (life : Life) (n : ℕ) (o : Opening) (e : Engine) : Type 0 w
   pub quorum : (i : ℕ) → e.quorum i ≡ is_marked o.session.quorum i
   pub fenced : (i : ℕ) → e.fenced i ≡ fenced_by life (suc n) i
 
--- the truncation of the plan; the engine's own one is the last
-pub record Plans (plan : Plan) (e : Engine) : Type 0 where
-  pub cut : e.cuts plan.cut.epoch ≡ plan.cut
-  pub pending : plan.is_pending ≡ true → plan.cut.epoch < e.opens
-  pub own : plan.is_pending ≡ false → e.opens ≡ plan.cut.epoch
+-- step n is the first one after which the machine proposes such a plan
+pub record IsFirstPlan (life : Life) (IsSuch : Plan → Type 0) (n : ℕ) (plan : Plan) : Type 0 where
+  pub proposed : ProposesAt life n plan
+  pub such : IsSuch plan
+  pub first : (m : ℕ) (other : Plan) → m < n → ProposesAt life m other → ¬ (IsSuch other)
 
--- The engine of the run has the name of what the first steps of the life show: its generation, its quorum, and what it proposes.
+-- only pending truncations are proposed in the first steps
+abbrev pub AreAllPending : Life → ℕ → Type 0
+AreAllPending life count = (n : ℕ) (plan : Plan) → n < count → ProposesAt life n plan → plan.is_pending ≡ true
+
+-- The engine of the run has the name of what the first steps of the life show: its generation, its quorum, the truncation that is first proposed
+-- for each epoch, and the epoch of the first one that the engine makes itself; while there is none, an epoch above those of all pending ones.
 pub record IsEngineOf (life : Life) (count : ℕ) (e : Engine) : Type 0 where
   pub generation : e.generation ≡ life.generation
   pub gathers : (n : ℕ) (f : Fencing) (o : Opening) → n < count → (life.states n).phase ≡ phase.Fencing f
       → (life.states (suc n)).phase ≡ phase.Opening o → Gathers life n o e
-  pub plans : (n : ℕ) (o : Opening) (plan : Plan) (accepted : List Bool) → n < count → (life.states (suc n)).phase ≡ phase.Opening o
-      → o.stage ≡ stage.Proposing plan accepted → Plans plan e
+  pub cuts : (n : ℕ) (plan : Plan) → n < count → IsFirstPlan life (λ p. p.cut.epoch ≡ plan.cut.epoch) n plan → e.cuts plan.cut.epoch ≡ plan.cut
+  pub opens : (n : ℕ) (plan : Plan) → n < count → IsFirstPlan life (λ p. p.is_pending ≡ false) n plan → e.opens ≡ plan.cut.epoch
+  pub above : AreAllPending life count → (n : ℕ) (plan : Plan) → n < count → ProposesAt life n plan → plan.cut.epoch < e.opens

@@ -1,4 +1,5 @@
 pub mod Lives
 pub mod World
+pub mod Proposed
 pub mod Engines
 pub mod Proposals
