@@ -258,7 +258,7 @@ class World:
         """Node i executes a request; its answer, or None."""
         node, kind = self.nodes[i], request[0]
         if kind == "status":
-            return "status", node.birth, node.is_member, request[2]
+            return "status", node.birth, node.is_member, node.front() == (0, 0), request[2]
         if kind == "gossip":
             self.gain(i, request[2])
             return None
@@ -354,10 +354,10 @@ class World:
         if handler and engine.phase != "dead":
             handler(engine, i, *answer[1:])
 
-    def hear_status(self, engine, i, birth, is_member, asked):
+    def hear_status(self, engine, i, birth, is_member, is_empty, asked):
         if engine.phase != "create" or asked != engine.round:
             return
-        if is_member or (asked == 2 and engine.fresh[i] != birth):
+        if is_member or (asked == 1 and not is_empty) or (asked == 2 and engine.fresh[i] != birth):
             engine.phase = "dead"
             return
         engine.fresh[i] = birth

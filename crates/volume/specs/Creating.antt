@@ -1,5 +1,6 @@
 -- The creation of a volume: all nodes are fresh at one time.
 use Rattle.std.specs.Prelude.{◌≡◌, ◌≢◌, ℕ, ◌≤◌, ◌⊎◌, List, [], ◌∷◌, Bool, false, true, Option, Some, None, slice_set}
+use Rattle.segment_core.specs.declared.answers.Front.{Front}
 use Rattle.guard.specs.declared.replies.Reply.{Reply}
 use Rattle.guard.specs.declared.replies.Reply.TheVariants as reply
 use Rattle.volume.specs.declared.actions.Action.{Action}
@@ -66,9 +67,18 @@ HearsAdmitted s old node birth turn =
     ((birth_at old.births node ≢ Some birth) × Stays turn [])
     ⊎ ((birth_at old.births node ≡ Some birth) × HearsFounded s old node turn)
 
+-- the complete point of an empty segment
+abbrev pub IsEmptyFront : Front → Type 0
+IsEmptyFront front = (front.epoch ≡ 0) × (front.complete ≡ 0)
+
+-- a fresh node counts if it has nothing: what it has may be of another volume
+abbrev pub HearsFresh : SettingsData → Creating → ℕ → ℕ → Front → Turn → Type 0
+HearsFresh s old node birth front turn =
+    (¬ (IsEmptyFront front) × StopsWith turn NotFresh) ⊎ (IsEmptyFront front × HearsFirst s old node birth turn)
+
 -- a reply in each round
 abbrev pub HearsInRound : SettingsData → Creating → Round → ℕ → Reply → Turn → Type 0
-HearsInRound s old round.First node (reply.Status generation birth false front accepted) turn = HearsFirst s old node birth turn
+HearsInRound s old round.First node (reply.Status generation birth false front accepted) turn = HearsFresh s old node birth front turn
 HearsInRound s old round.First node (reply.Status generation birth true front accepted) turn = StopsWith turn NotFresh
 HearsInRound s old round.Second node (reply.Fresh birth) turn = HearsSecond s old node birth turn
 HearsInRound s old round.Second node (reply.Stale generation) turn = StopsWith turn NotFresh

@@ -11,6 +11,7 @@ use crate::sets::{count, entry_of, has, mark, put_entry};
 use crate::settings::Settings;
 use crate::turns::{Turn, end, nothing};
 use guard::Reply;
+use segment_core::Front;
 use std::alloc::{AllocError, Global};
 
 /// The creation of a volume.
@@ -68,6 +69,11 @@ pub(crate) fn hear_creating(
             Reply::Status {
                 birth,
                 is_member: false,
+                front: Front {
+                    epoch: 0,
+                    complete: 0,
+                    ..
+                },
                 ..
             },
         ) => hear_first(alloc, settings, creating, node, *birth),
