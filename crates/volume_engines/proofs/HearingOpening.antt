@@ -50,10 +50,10 @@ use Rattle.volume_logs.proofs.Sound.{log_is_sound}
 use Rattle.volume_engines.specs.Lives.{Life, Guards, WasGiven}
 use Rattle.volume_engines.specs.Proposals.{IsLifeIn}
 use Rattle.volume_engines.proofs.Tables.{at_or_not, put_elsewhere, count_zero, none_marked, marked_more}
-use Rattle.volume_engines.proofs.Sending.{IsOwnProposal, RightAction, AllRight, all_append, to_one, query_one}
+use Rattle.volume_engines.proofs.Sending.{IsOwnProposal, HasOpenedAt, RightAction, AllRight, all_append, to_one, query_one}
 use Rattle.volume_engines.proofs.Sending.{to_each as each_node}
 use Rattle.volume_engines.proofs.Shown.{delta_says}
-use Rattle.volume_engines.proofs.Knowing.{KnowsSession, HasGiven, KnowsUnion, IsKnown, AreKnown, HaveAccepted, KnowsStage, KnowsOpening, Allowed, LeavesTurn}
+use Rattle.volume_engines.proofs.Knowing.{KnowsSession, HasGiven, KnowsUnion, IsKnown, AreKnown, HaveAccepted, HasVotes, KnowsStage, KnowsOpening, Allowed, LeavesTurn}
 use Rattle.volume_engines.proofs.Turning.{when_stays, when_stops}
 use Rattle.volume_engines.proofs.Later.{means_later, given_later}
 use Rattle.volume_engines.proofs.Heard.{IsHeard, heard, own_part, own_content, own_shown, own_known}
@@ -76,10 +76,23 @@ if_right : (run : VolumeRun) (e : ℕ) (Q : SummaryData → Type 0) (t : ℕ) (b
 if_right run e Q t true actions is = is
 if_right run e Q t false actions is = tt
 
-opened_right : (run : VolumeRun) (e : ℕ) (Q : SummaryData → Type 0) (t : ℕ) (union : State) (cut : CutData) (actions : List Action)
-    → IsOpened union cut actions → AllRight run e Q t actions
-opened_right run e Q t union cut (Opened epoch point header ∷ []) is = (tt, tt)
-opened_right run e Q t union cut actions is = absurd is
+-- the votes of a quorum send the plan's truncation
+sent_plan : (run : VolumeRun) (e t : ℕ) (plan : Plan) → NamesPlan plan (run.engines e) → HasVotes run e t plan.cut.epoch → IsCutSent run t plan.cut
+sent_plan run e t plan names votes = (e, names.cut, votes)
+
+-- and open the epoch of the engine's own one
+opened_plan : (run : VolumeRun) (e t epoch point : ℕ) (plan : Plan) → NamesPlan plan (run.engines e) → plan.is_pending ≡ false
+    → HasVotes run e t plan.cut.epoch → epoch ≡ plan.cut.epoch → point ≡ plan.cut.lo → HasOpenedAt run e t epoch point
+opened_plan run e t epoch point plan names own votes epoch_is point_is = (
+  record { own = names.own own ∙ sym epoch_is; accepted = subst (λ (k : ℕ). HasVotes run e t k) (sym epoch_is) votes },
+  point_is ∙ (ap (λ (c : CutData). c.lo) (sym names.cut) ∙ ap (λ (k : ℕ). ((run.engines e).cuts k).lo) (sym epoch_is)),
+)
+
+opened_right : (run : VolumeRun) (e : ℕ) (Q : SummaryData → Type 0) (t : ℕ) (union : State) (plan : Plan) (actions : List Action)
+    → NamesPlan plan (run.engines e) → plan.is_pending ≡ false → HasVotes run e t plan.cut.epoch → IsOpened union plan.cut actions
+    → AllRight run e Q t actions
+opened_right run e Q t union plan (Opened epoch point header ∷ []) names own votes is = (opened_plan run e t epoch point plan names own votes is.0 is.1, tt)
+opened_right run e Q t union plan actions names own votes is = absurd is
 
 module _ (run : VolumeRun) (h : History) (stop : ℕ) (content : ReplicaData → Content) (guards : Guards) (e : ℕ) (life : Life) (count : ℕ)
     (is : IsLifeIn run h stop content guards e life count) (n : ℕ) (step : n < count) (quorum : ℕ) (q_is : quorum ≡ run.quorum) (old : Opening)
@@ -244,7 +257,7 @@ module _ (run : VolumeRun) (h : History) (stop : ℕ) (content : ReplicaData →
       plan_proposed run h stop content guards e T old plan known is.follows is.emitted is.guarded upto k.best at.0
       (subst (λ (m : ℕ). m ≤ count_marked known) q_is enough) at.2 named k.session.gathered at.1 in
       let none : HaveAccepted run e T plan.cut.epoch no_nodes = λ i marked. absurd (none_marked i marked) in
-      goes_to new next t _ sends.2 refl (knows_at old.union no_births (stage.Proposing plan no_nodes) (at.0, own, none))
+      goes_to new next t _ sends.2 refl (knows_at old.union no_births (stage.Proposing plan no_nodes) (at.0, own, none, named))
       (all_append (RightAction run e Q T) sends.0 (to_each old (errand.Propose plan.cut)) (joins_right next sends.0 sends.1)
       (each_node run e Q T 0 old.session.generation old.session.births (errand.Propose plan.cut) own))
       sends.3)
@@ -262,15 +275,19 @@ module _ (run : VolumeRun) (h : History) (stop : ℕ) (content : ReplicaData →
       says
 
   -- ---- the volume is open
-  opens : (u : State) (cut : CutData) (new : Opening) (t : Turn) → HasAsked run e T → OpensVolume old.session u cut t → Left new t
-  opens u cut new (turn.Enter (phase.Open w) actions) asked says =
-      record { knows = asked; right = opened_right run e (λ s. Unit {0}) T u cut actions.items says.1; wider = λ s own. tt }
-  opens u cut new (turn.Enter phase.Idle actions) asked says = absurd says.0
-  opens u cut new (turn.Enter (phase.Creating c) actions) asked says = absurd says.0
-  opens u cut new (turn.Enter (phase.Fencing f) actions) asked says = absurd says.0
-  opens u cut new (turn.Enter (phase.Opening o) actions) asked says = absurd says.0
-  opens u cut new (turn.Stay actions) asked says = absurd says.0
-  opens u cut new (turn.End actions) asked says =
+  opens : (u : State) (plan : Plan) (new : Opening) (t : Turn) → HasAsked run e T → NamesPlan plan (run.engines e) → plan.is_pending ≡ false
+      → HasVotes run e T plan.cut.epoch → OpensVolume old.session u plan.cut t → Left new t
+  opens u plan new (turn.Enter (phase.Open w) actions) asked names own votes says = record {
+    knows = (asked, subst (λ (c : CutData). IsCutSent run T c) (sym says.0.cut_is) (sent_plan run e T plan names votes));
+    right = opened_right run e (λ s. Unit {0}) T u plan actions.items names own votes says.1;
+    wider = λ s own. tt;
+  }
+  opens u plan new (turn.Enter phase.Idle actions) asked names own votes says = absurd says.0
+  opens u plan new (turn.Enter (phase.Creating c) actions) asked names own votes says = absurd says.0
+  opens u plan new (turn.Enter (phase.Fencing f) actions) asked names own votes says = absurd says.0
+  opens u plan new (turn.Enter (phase.Opening o) actions) asked names own votes says = absurd says.0
+  opens u plan new (turn.Stay actions) asked names own votes says = absurd says.0
+  opens u plan new (turn.End actions) asked names own votes says =
       when_stops run h guards e life n (phase.Opening old) (phase.Opening new) (turn.End actions) Damaged says.0
 
   module _ (node generation birth : ℕ) (own : IsOwn old.session node generation birth) (within : node < run.roster) where
@@ -299,7 +316,7 @@ module _ (run : VolumeRun) (h : History) (stop : ℕ) (content : ReplicaData →
         (λ taken.
         let sound : IsSound h.readers (log_at h T) = log_is_sound run h stop T is.follows is.emitted upto in
         let inside : Contains (log_at h T) (Cut plan.cut) =
-        sent_in_log run h stop T at.1.1.union.epoch plan.cut is.follows is.emitted upto at.1.1.next at.2 in
+        sent_in_log run h stop T at.1.1.union.epoch plan.cut is.follows is.emitted upto at.1.1.next (sent_plan run e T plan at.3 at.2) in
         let union : KnowsUnion run h e T taken.0 [] = record {
           facts = at.0.facts ++ Cut plan.cut ∷ [];
           means = taken.1.means h.readers (log_at h T) at.0.facts sound inside at.0.means;
@@ -309,7 +326,7 @@ module _ (run : VolumeRun) (h : History) (stop : ℕ) (content : ReplicaData →
         } in
         ⊎_elim
         (λ pending. plans taken.0 new t union pending.1)
-        (λ own. opens taken.0 plan.cut new t (asked_all taken.0 union) own.1)
+        (λ own. opens taken.0 plan new t (asked_all taken.0 union) at.3 own.0 at.2 own.1)
         taken.2)
         says
 
@@ -359,17 +376,15 @@ module _ (run : VolumeRun) (h : History) (stop : ℕ) (content : ReplicaData →
       (marked_more accepted node i marked) in
       ⊎_elim
       (λ few. goes_to new (at_stage old (stage.Proposing plan after)) t [] few.1 refl
-      (knows_at old.union old.fresh (stage.Proposing plan after) (at.0, at.1, all)) tt few.2)
+      (knows_at old.union old.fresh (stage.Proposing plan after) (at.0, at.1, all, at.3)) tt few.2)
       (λ enough.
-      let sent_now : IsCutSent run T plan.cut = (
-        e,
-        at.1.0,
-        many_marked run after (λ i. (s : ℕ) × (s < T) × MakesMove run s i (AcceptsCut e plan.cut.epoch))
-            (subst (λ (m : ℕ). m ≤ count_marked after) q_is enough.0) all,
-      ) in
+      let votes : HasVotes run e T plan.cut.epoch =
+      many_marked run after (λ i. (s : ℕ) × (s < T) × MakesMove run s i (AcceptsCut e plan.cut.epoch))
+      (subst (λ (m : ℕ). m ≤ count_marked after) q_is enough.0) all in
       goes_to new (at_stage old (stage.Taking plan no_nodes)) t _ enough.1 refl
-      (knows_at old.union old.fresh (stage.Taking plan no_nodes) (at.0, at.1, sent_now))
-      (each_node run e Q T 0 old.session.generation old.session.births (errand.Begin plan.cut) (asked_all old.union at.0)) enough.2)
+      (knows_at old.union old.fresh (stage.Taking plan no_nodes) (at.0, at.1, votes, at.3))
+      (each_node run e Q T 0 old.session.generation old.session.births (errand.Begin plan.cut)
+      (asked_all old.union at.0, sent_plan run e T plan at.3 votes)) enough.2)
       yes.1)
       says
   hears_accepted (stage.Pulling left) node generation birth epoch new t within given at says = idle new t says
@@ -382,7 +397,8 @@ module _ (run : VolumeRun) (h : History) (stop : ℕ) (content : ReplicaData →
   stage_asks u (stage.Pulling left) generation node b at = tt
   stage_asks u (stage.Spreading plan known) generation node b at = to_one run e Q T node generation b errand.Ask tt
   stage_asks u (stage.Proposing plan accepted) generation node b at = to_one run e Q T node generation b (errand.Propose plan.cut) at.1
-  stage_asks u (stage.Taking plan reported) generation node b at = to_one run e Q T node generation b (errand.Begin plan.cut) (asked_all u at.0)
+  stage_asks u (stage.Taking plan reported) generation node b at =
+      to_one run e Q T node generation b (errand.Begin plan.cut) (asked_all u at.0, sent_plan run e T plan at.3 at.2)
 
   late_session : (node birth : ℕ) → birth_at old.session.births node ≡ None → KnowsSession run guards e life T (with_birth old.session node birth)
   late_session node birth none = record {

@@ -1,7 +1,7 @@
 -- A step of an open volume.
-use Rattle.std.proofs.Common.{◌≡◌, ℕ, ⊎_elim, List, [], ◌∷◌, ◌++◌, Bool, true, false, Option, Some, None, sym, subst}
+use Rattle.std.proofs.Common.{◌≡◌, ℕ, ⊎_elim, List, [], ◌∷◌, ◌++◌, Bool, true, false, Option, Some, None, refl, sym, subst, ap}
 use Rattle.std.specs.Prelude.{◌==◌, if◌then◌else◌}
-use Rattle.redo_core.specs.Data.{RecordData}
+use Rattle.redo_core.specs.Data.{RecordData, CutData}
 use Rattle.messages.specs.Summaries.{SummaryData}
 use Rattle.replica.specs.declared.replies.Reply.{Reply as SegmentReply}
 use Rattle.replica.specs.declared.replies.Reply.TheVariants as told
@@ -10,6 +10,7 @@ use Rattle.guard.specs.declared.replies.Reply.TheVariants as reply
 use Rattle.redo_core.specs.declared.patches.Patch.{Patch}
 use Rattle.volume.specs.declared.actions.Action.{Action}
 use Rattle.volume.specs.declared.actions.Action.TheVariants.{Committed, Durable, Refused}
+use Rattle.volume.specs.declared.actions.Fault.{Fault}
 use Rattle.volume.specs.declared.actions.Fault.TheVariants.{Fenced}
 use Rattle.volume.specs.declared.errands.Errand.TheVariants as errand
 use Rattle.volume.specs.declared.errands.Query.TheVariants.{Fence}
@@ -19,9 +20,9 @@ use Rattle.volume.specs.declared.phases.Writing.{Writing}
 use Rattle.volume.specs.declared.turns.Turn.{Turn}
 use Rattle.volume.specs.Asking.{asks_of}
 use Rattle.volume.specs.Turning.{Stays}
-use Rattle.volume.specs.Writing.{errand_of, sends_record, AddsRecord, WritesPage, EndsTransaction, RaisesPoint, brings, stores_of, HearsSegment, HearsWriting}
+use Rattle.volume.specs.Writing.{errand_of, sends_record, RefusesCall, AddsRecord, WritesPage, EndsTransaction, RaisesPoint, brings, stores_of, HearsSegment, HearsWriting}
 use Rattle.volume_theorems.specs.Runs.{VolumeRun}
-use Rattle.volume_theorems.specs.Opening.{HasAsked}
+use Rattle.volume_theorems.specs.Opening.{HasAsked, IsCutSent}
 use Rattle.volume_logs.specs.Histories.{History}
 use Rattle.volume_engines.specs.Lives.{Life, Guards}
 use Rattle.volume_engines.proofs.Sending.{RightAction, AllRight, RightErrand, all_append, to_node, to_each, query_one}
@@ -58,81 +59,92 @@ module _ (run : VolumeRun) (h : History) (guards : Guards) (e : ℕ) (life : Lif
       all_append (RightAction run e Any T) (asks_of node generation birth (errand.Store r)) (stores_of node generation birth rs)
       (to_node run e Any T node generation birth (errand.Store r) tt) (stores_right node generation birth rs)
 
-  brings_right : (w : Writing) (node : ℕ) (b : Option ℕ) → Good (brings w node b)
-  brings_right w node None = query_one run e Any T node (Fence w.session.generation)
-  brings_right w node (Some birth) =
+  brings_right : (w : Writing) (node : ℕ) (b : Option ℕ) → IsCutSent run T w.cut → Good (brings w node b)
+  brings_right w node None sent = query_one run e Any T node (Fence w.session.generation)
+  brings_right w node (Some birth) sent =
       all_append (RightAction run e Any T)
       (asks_of node w.session.generation birth (errand.Begin w.cut) ++ stores_of node w.session.generation birth w.backlog)
       (asks_of node w.session.generation birth errand.Report)
       (all_append (RightAction run e Any T) (asks_of node w.session.generation birth (errand.Begin w.cut)) (stores_of node w.session.generation birth w.backlog)
-      (to_node run e Any T node w.session.generation birth (errand.Begin w.cut) asked) (stores_right node w.session.generation birth w.backlog))
+      (to_node run e Any T node w.session.generation birth (errand.Begin w.cut) (asked, sent)) (stores_right node w.session.generation birth w.backlog))
       (to_node run e Any T node w.session.generation birth errand.Report asked)
 
   as_listed : (actions listed : List Action) → actions ≡ listed → Good listed → Good actions
   as_listed actions listed same is = subst (λ (xs : List Action). Good xs) (sym same) is
 
   -- ---- calls
-  adds_right : (old new : Writing) (r : RecordData) (actions : List Action) → AddsRecord old r actions new → Good actions
+  -- the truncation of the epoch stays, and what is asked is right
+  abbrev pub Keeps : Writing → Writing → List Action → Type 0
+  Keeps old new actions = (new.cut ≡ old.cut) × Good actions
+
+  refuses : (old new : Writing) (f : Fault) (actions : List Action) → RefusesCall old f actions new → Keeps old new actions
+  refuses old new f actions says = (ap (λ (w : Writing). w.cut) says.1, as_listed actions (Refused f ∷ []) says.0 (tt, tt))
+
+  adds_right : (old new : Writing) (r : RecordData) (actions : List Action) → AddsRecord old r actions new → Keeps old new actions
   adds_right old new r actions says = ⊎_elim
-      (λ writes. as_listed actions (sends_record old.session r) writes.asks (record_right old.session r))
-      (λ no. as_listed actions (Refused no.0 ∷ []) no.2.0 (tt, tt))
+      (λ writes. (writes.same.cut, as_listed actions (sends_record old.session r) writes.asks (record_right old.session r)))
+      (λ no. refuses old new no.0 actions no.2)
       says
 
-  pub page_right : (old new : Writing) (page : ℕ) (init : Bool) (patches : List Patch) (actions : List Action) → WritesPage old page init patches actions new → Good actions
+  pub page_right : (old new : Writing) (page : ℕ) (init : Bool) (patches : List Patch) (actions : List Action) → WritesPage old page init patches actions new → Keeps old new actions
   page_right old new page init patches actions says = ⊎_elim
-      (λ no. as_listed actions _ no.1.0 (tt, tt))
+      (λ no. refuses old new _ actions no.1)
       (λ adds. adds_right old new _ actions adds.1)
       says
 
-  pub end_right : (old new : Writing) (header : List ℕ) (actions : List Action) → EndsTransaction old header actions new → Good actions
+  pub end_right : (old new : Writing) (header : List ℕ) (actions : List Action) → EndsTransaction old header actions new → Keeps old new actions
   end_right old new header actions says = ⊎_elim
-      (λ no. as_listed actions _ no.1.0 (tt, tt))
+      (λ no. refuses old new _ actions no.1)
       (λ adds. adds_right old new _ actions adds.1)
       says
 
-  pub raise_right : (old new : Writing) (reader point : ℕ) (actions : List Action) → RaisesPoint old reader point actions new → Good actions
+  pub raise_right : (old new : Writing) (reader point : ℕ) (actions : List Action) → RaisesPoint old reader point actions new → Keeps old new actions
   raise_right old new reader point actions says = ⊎_elim
-      (λ raises. as_listed actions _ raises.asks (to_each run e Any T 0 old.session.generation old.session.births (errand.Raise _) tt))
-      (λ no. as_listed actions _ no.2.0 (tt, tt))
+      (λ raises. (raises.same.cut, as_listed actions _ raises.asks (to_each run e Any T 0 old.session.generation old.session.births (errand.Raise _) tt)))
+      (λ no. refuses old new no.0 actions no.2)
       says
 
   -- ---- replies
-  module _ (old : Writing) where
+  module _ (old : Writing) (sent : IsCutSent run T old.cut) where
     abbrev Left : Writing → Turn → Type 0
     Left new t = LeavesTurn run h guards e life n (phase.Open old) (phase.Open new) t
 
-    goes_to : (new : Writing) (t : Turn) (actions : List Action) → Good actions → Stays t actions → Left new t
-    goes_to new t actions right stays =
-        when_stays run h guards e life n (phase.Open old) (phase.Open new) t actions stays (record { knows = asked; right = right; wider = λ s own. tt })
+    goes_to : (new : Writing) (t : Turn) (actions : List Action) → new.cut ≡ old.cut → Good actions → Stays t actions → Left new t
+    goes_to new t actions same right stays =
+        when_stays run h guards e life n (phase.Open old) (phase.Open new) t actions stays
+        (record { knows = (asked, subst (λ (c : CutData). IsCutSent run T c) (sym same) sent); right = right; wider = λ s own. tt })
+
+    idle : (new : Writing) (t : Turn) → Stays t [] → new ≡ old → Left new t
+    idle new t stays same = goes_to new t [] (ap (λ (w : Writing). w.cut) same) tt stays
 
     hears_segment : (quorum node : ℕ) (shown : SegmentReply) (new : Writing) (t : Turn) → HearsSegment quorum old node shown new t → Left new t
     hears_segment quorum node (told.Front front) new t says = ⊎_elim
-        (λ other. goes_to new t [] tt other.1)
+        (λ other. idle new t other.1 other.2)
         (λ own. ⊎_elim
-        (λ only. goes_to new t [] tt only.5)
-        (λ durable. goes_to new t (Durable durable.0 ∷ []) (tt, tt) durable.6)
+        (λ only. goes_to new t [] only.1.1 tt only.5)
+        (λ durable. goes_to new t (Durable durable.0 ∷ []) durable.2.1 (tt, tt) durable.6)
         own.1)
         says
-    hears_segment quorum node other new t says = goes_to new t [] tt says.0
+    hears_segment quorum node other new t says = idle new t says.0 says.1
 
     hears_late : (node generation birth : ℕ) (new : Writing) (t : Turn) → HearsWriting 0 old node (reply.Admitted generation birth) new t → Left new t
     hears_late node generation birth new t says = ⊎_elim
-        (λ no. goes_to new t [] tt no.1)
-        (λ late. goes_to new t (brings old node (Some birth)) (brings_right old node (Some birth)) late.2)
+        (λ no. idle new t no.1 no.2)
+        (λ late. goes_to new t (brings old node (Some birth)) (ap (λ (w : Writing). w.cut) late.1) (brings_right old node (Some birth) sent) late.2)
         says
 
     pub hears_writing : (quorum node : ℕ) (shown : Reply) (new : Writing) (t : Turn) → HearsWriting quorum old node shown new t → Left new t
     hears_writing quorum node (reply.Headed generation birth shown) new t says = ⊎_elim
         (λ own. hears_segment quorum node shown new t own.1)
-        (λ no. goes_to new t [] tt no.1)
+        (λ no. idle new t no.1 no.2)
         says
     hears_writing quorum node (reply.Fenced generation birth accepted) new t says = hears_late node generation birth new t says
     hears_writing quorum node (reply.Admitted generation birth) new t says = hears_late node generation birth new t says
     hears_writing quorum node (reply.Stale generation) new t says = ⊎_elim
         (λ up. when_stops run h guards e life n (phase.Open old) (phase.Open new) t (Fenced generation) up.1)
-        (λ no. goes_to new t [] tt no.1)
+        (λ no. idle new t no.1 no.2)
         says
-    hears_writing quorum node other new t says = goes_to new t [] tt says.0
+    hears_writing quorum node other new t says = idle new t says.0 says.1
 
     pub retries_writing : (node : ℕ) (b : Option ℕ) (t : Turn) → Stays t (brings old node b) → Left old t
-    retries_writing node b t says = goes_to old t (brings old node b) (brings_right old node b) says
+    retries_writing node b t says = goes_to old t (brings old node b) refl (brings_right old node b sent) says

@@ -14,12 +14,13 @@ use Rattle.volume.specs.declared.phases.Phase.TheVariants as phase
 use Rattle.volume.specs.declared.phases.Session.{Session}
 use Rattle.volume.specs.declared.phases.Stage.{Stage}
 use Rattle.volume.specs.declared.phases.Stage.TheVariants as stage
+use Rattle.volume.specs.declared.phases.Writing.{Writing}
 use Rattle.volume.specs.declared.plans.Plan.{Plan}
 use Rattle.volume.specs.declared.turns.Turn.{Turn}
 use Rattle.volume.specs.declared.turns.Turn.TheVariants as turn
 use Rattle.volume.specs.Planning.{IsPlan}
 use Rattle.volume.specs.Sets.{birth_at, is_marked}
-use Rattle.volume_theorems.specs.Runs.{VolumeRun, MakesMove}
+use Rattle.volume_theorems.specs.Runs.{VolumeRun, MakesMove, Many}
 use Rattle.volume_theorems.specs.Runs.Move.{IsFenced, Accepts}
 use Rattle.volume_theorems.specs.Opening.{IsInQuorum, HasGathered, HasShown, HasAsked, AnswersUnder, IsCutSent, IsBest}
 use Rattle.volume_guards.specs.Guards.{vote_of}
@@ -29,6 +30,7 @@ use Rattle.volume_logs.specs.Joining.{IsFrontAbove}
 use Rattle.volume_engines.specs.Lives.{Life, Guards}
 use Rattle.volume_engines.specs.Engines.{fenced_by}
 use Rattle.volume_engines.proofs.Sending.{IsOwnProposal, AllRight}
+use Rattle.volume_engines.proofs.Named.{NamesPlan}
 
 -- ---- before a quorum is fenced
 abbrev pub pair_at : List (Option AcceptedCut) → ℕ → Option AcceptedCut
@@ -92,18 +94,26 @@ abbrev pub HaveAccepted : VolumeRun → ℕ → ℕ → ℕ → List Bool → Ty
 HaveAccepted run e t k accepted =
     (i : ℕ) → is_marked accepted i ≡ true → (i < run.roster) × ((s : ℕ) × (s < t) × MakesMove run s i (Accepts e k))
 
+-- a quorum has
+abbrev pub HasVotes : VolumeRun → ℕ → ℕ → ℕ → Type 0
+HasVotes run e t k = Many run (λ i. (s : ℕ) × (s < t) × MakesMove run s i (Accepts e k))
+
 abbrev pub KnowsStage : VolumeRun → History → ℕ → ℕ → State → Option AcceptedCut → Stage → Type 0
 KnowsStage run h e t u pair (stage.Pulling left) = KnowsUnion run h e t u left
 KnowsStage run h e t u pair (stage.Spreading plan known) = KnowsUnion run h e t u [] × IsPlan u pair plan × AreKnown run h e t plan known
 KnowsStage run h e t u pair (stage.Proposing plan accepted) =
-    KnowsUnion run h e t u [] × IsOwnProposal run e t plan.cut × HaveAccepted run e t plan.cut.epoch accepted
+    KnowsUnion run h e t u [] × IsOwnProposal run e t plan.cut × HaveAccepted run e t plan.cut.epoch accepted × NamesPlan plan (run.engines e)
 KnowsStage run h e t u pair (stage.Taking plan reported) =
-    KnowsUnion run h e t u [] × IsOwnProposal run e t plan.cut × IsCutSent run t plan.cut
+    KnowsUnion run h e t u [] × IsOwnProposal run e t plan.cut × HasVotes run e t plan.cut.epoch × NamesPlan plan (run.engines e)
 
 pub record KnowsOpening (run : VolumeRun) (h : History) (guards : Guards) (e : ℕ) (life : Life) (t : ℕ) (o : Opening) : Type 0 where
   pub session : KnowsSession run guards e life t o.session
   pub best : IsBest run e (vote_of o.pair)
   pub at : KnowsStage run h e t o.union o.pair o.stage
+
+-- ---- after the volume is open
+abbrev pub KnowsOpen : VolumeRun → ℕ → ℕ → Writing → Type 0
+KnowsOpen run e t w = HasAsked run e t × IsCutSent run t w.cut
 
 -- ---- all phases
 abbrev pub KnowsPhase : VolumeRun → History → Guards → ℕ → Life → ℕ → Phase → Type 0
@@ -111,7 +121,7 @@ KnowsPhase run h guards e life n phase.Idle = Unit {0}
 KnowsPhase run h guards e life n (phase.Creating c) = ⊥
 KnowsPhase run h guards e life n (phase.Fencing f) = KnowsFencing run guards e life n f
 KnowsPhase run h guards e life n (phase.Opening o) = KnowsOpening run h guards e life (life.moments n) o
-KnowsPhase run h guards e life n (phase.Open w) = HasAsked run e (life.moments n)
+KnowsPhase run h guards e life n (phase.Open w) = KnowsOpen run e (life.moments n) w
 
 -- the summaries that nodes may have been asked with by then: before a quorum is fenced, none
 abbrev pub Allowed : Phase → SummaryData → Type 0

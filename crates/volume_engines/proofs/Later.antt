@@ -10,15 +10,17 @@ use Rattle.guard.specs.declared.requests.AcceptedCut.{AcceptedCut}
 use Rattle.volume.specs.declared.phases.Session.{Session}
 use Rattle.volume.specs.declared.phases.Stage.{Stage}
 use Rattle.volume.specs.declared.phases.Stage.TheVariants as stage
+use Rattle.volume.specs.declared.phases.Writing.{Writing}
 use Rattle.volume_theorems.specs.Runs.{VolumeRun}
 use Rattle.volume_theorems.specs.Proposing.{MayPropose}
 use Rattle.volume_logs.specs.Histories.{History, log_at}
 use Rattle.volume_logs.specs.Emitting.{IsEmitted}
+use Rattle.volume_theorems.proofs.Guards.{asked_later}
 use Rattle.volume_theorems.proofs.Proposing.{sent_later}
 use Rattle.volume_logs.proofs.Epochs.{at_later}
 use Rattle.volume_engines.specs.Lives.{Life, Guards}
-use Rattle.volume_engines.proofs.Sending.{IsOwnProposal}
-use Rattle.volume_engines.proofs.Knowing.{KnowsSession, HasGiven, KnowsUnion, KnowsStage}
+use Rattle.volume_engines.proofs.Sending.{IsOwnProposal, HasOpenedAt}
+use Rattle.volume_engines.proofs.Knowing.{KnowsSession, HasGiven, KnowsUnion, HasVotes, KnowsOpen, KnowsStage}
 
 pub means_later : (readers : ℕ) (log larger facts : List Fact) (s : State) → IsPart log larger → Means readers log facts s → Means readers larger facts s
 means_later readers log larger facts s inner m = (
@@ -57,6 +59,15 @@ may_later run e k s t order p = record {
 
 pub proposal_later : (run : VolumeRun) (e s t : ℕ) (cut : CutData) → s ≤ t → IsOwnProposal run e s cut → IsOwnProposal run e t cut
 proposal_later run e s t cut order is = (is.0, may_later run e cut.epoch s t order is.1)
+
+votes_later : (run : VolumeRun) (e s t k : ℕ) → s ≤ t → HasVotes run e s k → HasVotes run e t k
+votes_later run e s t k order votes = (votes.0, votes.1, λ i among. let x = votes.2 i among in let before : x.0 < s = x.1 in (x.0, omega arith, x.2))
+
+pub open_later : (run : VolumeRun) (e s t : ℕ) (w : Writing) → s ≤ t → KnowsOpen run e s w → KnowsOpen run e t w
+open_later run e s t w order k = (asked_later run e s t order k.0, sent_later run s t w.cut order k.1)
+
+pub opened_later : (run : VolumeRun) (e s t epoch point : ℕ) → s ≤ t → HasOpenedAt run e s epoch point → HasOpenedAt run e t epoch point
+opened_later run e s t epoch point order is = (record { own = is.0.own; accepted = votes_later run e s t epoch order is.0.accepted }, is.1)
 
 pub session_later : (run : VolumeRun) (guards : Guards) (e : ℕ) (life : Life) (s t : ℕ) (x : Session) → s ≤ t → KnowsSession run guards e life s x
     → KnowsSession run guards e life t x
@@ -99,6 +110,7 @@ module _ (run : VolumeRun) (h : History) (stop e s t : ℕ) (emitted : IsEmitted
         let x = k.2 i marked in
         let before : x.1.0 < s = x.1.1 in
         (x.0, (x.1.0, omega arith, x.1.2)),
+    k.3,
   )
   stage_later u pair (stage.Taking plan reported) k =
-      (union_later u [] k.0, proposal_later run e s t plan.cut order k.1, sent_later run s t plan.cut order k.2)
+      (union_later u [] k.0, proposal_later run e s t plan.cut order k.1, votes_later run e s t plan.cut.epoch order k.2, k.3)

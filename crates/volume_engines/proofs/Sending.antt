@@ -2,32 +2,40 @@
 use Rattle.std.proofs.Common.{◌≡◌, ℕ, zero, suc, ◌+◌, ◌≤◌, List, [], ◌∷◌, ◌++◌, map, Option, Some, None}
 use Rattle.std.specs.List.{AllByRecursion}
 use Rattle.redo_core.specs.Data.{CutData}
+use Rattle.redo_core.specs.declared.facts.Fact.{Fact}
+use Rattle.redo_core.specs.declared.facts.Fact.TheVariants.{Cut}
 use Rattle.messages.specs.Summaries.{SummaryData}
 use Rattle.replica.specs.declared.requests.Request.{Request as SegmentRequest}
 use Rattle.replica.specs.declared.requests.Request.TheVariants as segment
 use Rattle.guard.specs.declared.requests.Request.{Request}
 use Rattle.guard.specs.declared.requests.Request.TheVariants as request
 use Rattle.volume.specs.declared.actions.Action.{Action}
-use Rattle.volume.specs.declared.actions.Action.TheVariants.{Ask}
+use Rattle.volume.specs.declared.actions.Action.TheVariants.{Ask, Opened}
 use Rattle.volume.specs.declared.errands.Errand.{Errand}
 use Rattle.volume.specs.declared.errands.Errand.TheVariants as errand
 use Rattle.volume.specs.declared.errands.Query.{Query}
 use Rattle.volume.specs.declared.errands.Query.TheVariants as query
 use Rattle.volume.specs.Asking.{requests_of, asks_of, asks_from, asks_at, request_of_query, queries_from, query_to}
 use Rattle.volume_theorems.specs.Runs.{VolumeRun}
-use Rattle.volume_theorems.specs.Opening.{HasAsked}
+use Rattle.volume_theorems.specs.Opening.{HasAsked, IsCutSent}
+use Rattle.volume_theorems.specs.ByMoment.{HasOpenedBy}
 use Rattle.volume_theorems.specs.Proposing.{MayPropose}
 
 -- ---- what holds of each request that engine e sends at the moment t
 abbrev pub IsOwnProposal : VolumeRun → ℕ → ℕ → CutData → Type 0
 IsOwnProposal run e t cut = ((run.engines e).cuts cut.epoch ≡ cut) × MayPropose run e cut.epoch t
 
+-- a truncation that nodes are to take has been accepted by a quorum
+abbrev pub IsFactRight : VolumeRun → ℕ → Fact → Type 0
+IsFactRight run t (Cut cut) = IsCutSent run t cut
+IsFactRight run t fact = Unit {0}
+
 -- what a node has beyond a summary is asked with one of these summaries, once a quorum is gathered; a front, once all
 -- of it have answered that; and nothing else is asked but to take facts
 abbrev pub RightUnder : VolumeRun → ℕ → (SummaryData → Type 0) → ℕ → SegmentRequest → Type 0
 RightUnder run e Q t (segment.Answer summary) = Q summary × ((run.engines e).gathered ≤ t)
 RightUnder run e Q t segment.Front = HasAsked run e t
-RightUnder run e Q t (segment.Take fact) = Unit {0}
+RightUnder run e Q t (segment.Take fact) = IsFactRight run t fact
 RightUnder run e Q t segment.Ask = Unit {0}
 RightUnder run e Q t (segment.Absorb summary delta) = Unit {0}
 RightUnder run e Q t asked = ⊥
@@ -37,8 +45,13 @@ Right run e Q t (request.As generation birth asked) = RightUnder run e Q t asked
 Right run e Q t (request.Propose generation birth cut) = IsOwnProposal run e t cut
 Right run e Q t asked = Unit {0}
 
+-- the engine has opened the epoch of its own truncation, at the point that this keeps
+abbrev pub HasOpenedAt : VolumeRun → ℕ → ℕ → ℕ → ℕ → Type 0
+HasOpenedAt run e t epoch point = HasOpenedBy run t e epoch × (point ≡ ((run.engines e).cuts epoch).lo)
+
 abbrev pub RightAction : VolumeRun → ℕ → (SummaryData → Type 0) → ℕ → Action → Type 0
 RightAction run e Q t (Ask node asked) = Right run e Q t asked
+RightAction run e Q t (Opened epoch point header) = HasOpenedAt run e t epoch point
 RightAction run e Q t other = Unit {0}
 
 abbrev pub AllRight : VolumeRun → ℕ → (SummaryData → Type 0) → ℕ → List Action → Type 0
@@ -48,7 +61,7 @@ abbrev pub RightErrand : VolumeRun → ℕ → (SummaryData → Type 0) → ℕ 
 RightErrand run e Q t (errand.Pull summary) = Q summary × ((run.engines e).gathered ≤ t)
 RightErrand run e Q t (errand.Push summary delta) = HasAsked run e t
 RightErrand run e Q t (errand.Propose cut) = IsOwnProposal run e t cut
-RightErrand run e Q t (errand.Begin cut) = HasAsked run e t
+RightErrand run e Q t (errand.Begin cut) = HasAsked run e t × IsCutSent run t cut
 RightErrand run e Q t (errand.Close redo) = HasAsked run e t
 RightErrand run e Q t errand.Report = HasAsked run e t
 RightErrand run e Q t other = Unit {0}
@@ -72,6 +85,7 @@ right_wider run e Q R t wider asked is = tt
 action_wider : (run : VolumeRun) (e : ℕ) (Q R : SummaryData → Type 0) (t : ℕ) → ((s : SummaryData) → Q s → R s) → (a : Action)
     → RightAction run e Q t a → RightAction run e R t a
 action_wider run e Q R t wider (Ask node asked) is = right_wider run e Q R t wider asked is
+action_wider run e Q R t wider (Opened epoch point header) is = is
 action_wider run e Q R t wider other is = tt
 
 pub all_wider : (run : VolumeRun) (e : ℕ) (Q R : SummaryData → Type 0) (t : ℕ) → ((s : SummaryData) → Q s → R s) → (actions : List Action)
@@ -90,7 +104,7 @@ requests_right run e Q t generation birth (errand.Pull summary) is = (is, tt)
 requests_right run e Q t generation birth errand.Ask is = (tt, tt)
 requests_right run e Q t generation birth (errand.Push summary delta) is = (tt, (is, tt))
 requests_right run e Q t generation birth (errand.Propose cut) is = (is, tt)
-requests_right run e Q t generation birth (errand.Begin cut) is = (tt, (is, tt))
+requests_right run e Q t generation birth (errand.Begin cut) is = (is.1, (is.0, tt))
 requests_right run e Q t generation birth (errand.Store redo) is = (tt, tt)
 requests_right run e Q t generation birth (errand.Close redo) is = (tt, (is, tt))
 requests_right run e Q t generation birth (errand.Raise advance) is = (tt, tt)

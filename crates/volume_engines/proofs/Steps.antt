@@ -1,17 +1,19 @@
 -- One step after another.
-use Rattle.std.proofs.Common.{◌≡◌, ℕ, zero, suc, ◌<◌, ◌≤◌, ◌⊎◌, ⊎_elim, List, [], ◌∷◌, Bool, false, Some, None, refl, sym, ◌∙◌, subst, ap, arith}
+use Rattle.std.proofs.Common.{◌≡◌, ℕ, zero, suc, ◌<◌, ◌≤◌, ◌⊎◌, ⊎_elim, inl, List, [], ◌∷◌, Bool, false, Some, None, refl, sym, ◌∙◌, subst, ap, arith}
 use Rattle.std.specs.Prelude.{replicate}
 use Rattle.std.specs.List.{Contains}
 use Rattle.std.proofs.lemmas.Bool.{ne_eqb}
 use Rattle.redo_core.specs.Data.{CutData}
+use Rattle.redo_core.specs.declared.facts.Fact.TheVariants.{Cut}
 use Rattle.redo_core.proofs.Members.{each}
 use Rattle.messages.specs.Summaries.{SummaryData}
 use Rattle.replica.specs.Parts.{ReplicaData}
+use Rattle.replica.specs.declared.requests.Request.TheVariants as segment
 use Rattle.guard.specs.declared.requests.Request.TheVariants as request
 use Rattle.guard.specs.declared.replies.Reply.{Reply}
 use Rattle.guard.specs.declared.replies.Reply.TheVariants as reply
 use Rattle.volume.specs.declared.actions.Action.{Action}
-use Rattle.volume.specs.declared.actions.Action.TheVariants.{Ask, Refused}
+use Rattle.volume.specs.declared.actions.Action.TheVariants.{Ask, Opened, Refused}
 use Rattle.volume.specs.declared.actions.Fault.{Fault}
 use Rattle.volume.specs.declared.actions.Fault.TheVariants.{Fenced, NotFresh}
 use Rattle.volume.specs.declared.errands.Query.TheVariants.{Fence}
@@ -35,21 +37,23 @@ use Rattle.volume.specs.Turning.{Stays}
 use Rattle.volume.specs.Writing.{WritesPage, EndsTransaction, RaisesPoint}
 use Rattle.volume_theorems.specs.Nodes.{Content}
 use Rattle.volume_theorems.specs.Runs.{VolumeRun}
-use Rattle.volume_theorems.specs.Opening.{HasAsked}
-use Rattle.volume_theorems.proofs.Guards.{asked_later}
+use Rattle.volume_theorems.specs.Opening.{HasAsked, IsCutSent}
+use Rattle.volume_theorems.specs.ByMoment.{IsDurableBy}
+use Rattle.volume_theorems.proofs.Proposing.{sent_later}
 use Rattle.volume_logs.specs.Histories.{History}
 use Rattle.volume_engines.specs.Lives.{Life, Guards, WasGiven, MayHappen}
 use Rattle.volume_engines.specs.Engines.{fenced_in, fenced_at, fenced_by, Gathers}
 use Rattle.volume_engines.specs.Proposed.{IsPlanOf, IsPlanIn}
 use Rattle.volume_engines.specs.Proposals.{IsLifeIn, ProposalsKeepRules}
-use Rattle.volume_engines.proofs.Sending.{IsOwnProposal, RightAction, AllRight, all_wider, queries_each}
-use Rattle.volume_engines.proofs.Knowing.{pair_at, KnowsFencing, KnowsOpening, KnowsPhase, Allowed, Leaves, LeavesTurn}
+use Rattle.volume_engines.specs.Openings.{IsOpening, TakesKeepRules, OpeningsAreDurable}
+use Rattle.volume_engines.proofs.Sending.{IsOwnProposal, HasOpenedAt, RightAction, AllRight, all_wider, queries_each}
+use Rattle.volume_engines.proofs.Knowing.{pair_at, KnowsFencing, KnowsOpening, KnowsOpen, KnowsPhase, Allowed, Leaves, LeavesTurn}
 use Rattle.volume_engines.proofs.OrderedSteps.{plans_in_order}
 use Rattle.volume_engines.proofs.Named.{NamesPlan, names_plan}
 use Rattle.volume_engines.proofs.Turning.{when_stays}
 use Rattle.volume_engines.proofs.Fencing.{table_stays_below}
 use Rattle.volume_engines.proofs.HearingFencing.{EntersOpening, hears_fencing, retries_fencing}
-use Rattle.volume_engines.proofs.Later.{proposal_later, session_later, stage_later}
+use Rattle.volume_engines.proofs.Later.{proposal_later, open_later, opened_later, session_later, stage_later}
 use Rattle.volume_engines.proofs.HearingOpening.{hears_opening, retries_in_opening}
 use Rattle.volume_engines.proofs.HearingWriting.{page_right, end_right, raise_right, hears_writing, retries_writing}
 
@@ -142,7 +146,7 @@ module _ (run : VolumeRun) (h : History) (stop : ℕ) (content : ReplicaData →
       best = knows.best;
       at = stage_later run h stop e (life.moments n) (life.moments (suc n)) is.emitted in_time (is.upto (suc n) step) o.union o.pair o.stage knows.at;
     }
-    phase_later (phase.Open w) same knows = asked_later run e (life.moments n) (life.moments (suc n)) in_time knows
+    phase_later (phase.Open w) same knows = open_later run e (life.moments n) (life.moments (suc n)) w in_time knows
 
     unchanged : (actions : List Action) → SameBelow → life.actions (suc n) ≡ actions → AllRight run e (Allowed old.phase) (life.moments (suc n)) actions
         → new ≡ old → Knows (suc n) new
@@ -150,6 +154,10 @@ module _ (run : VolumeRun) (h : History) (stop : ℕ) (content : ReplicaData →
         leads old.phase old.phase refl stays
         (leaves_as old.phase old.phase actions asks
         (record { knows = phase_later old.phase same k.knows; right = right; wider = λ s own. own }))
+
+    open_known : (w : Writing) → old.phase ≡ phase.Open w → KnowsOpen run e (life.moments (suc n)) w
+    open_known w from =
+        open_later run e (life.moments n) (life.moments (suc n)) w in_time (subst (λ (x : Phase). KnowsPhase run h guards e life n x) from k.knows)
 
     only_refuses : (f : Fault) → SameBelow → OnlyRefuses old f (life.actions (suc n)) new → Knows (suc n) new
     only_refuses f same says = unchanged (Refused f ∷ []) same says.0 (tt, tt) says.1
@@ -160,13 +168,18 @@ module _ (run : VolumeRun) (h : History) (stop : ℕ) (content : ReplicaData →
 
     -- ---- calls
     calls_open : (does : Writing → List Action → Writing → Type 0) (p : Phase) → old.phase ≡ p → SameBelow
-        → ((w after : Writing) → HasAsked run e (life.moments (suc n)) → does w (life.actions (suc n)) after → AllRight run e (λ s. Unit {0}) (life.moments (suc n)) (life.actions (suc n)))
+        → ((w after : Writing) → HasAsked run e (life.moments (suc n)) → does w (life.actions (suc n)) after
+        → (after.cut ≡ w.cut) × AllRight run e (λ s. Unit {0}) (life.moments (suc n)) (life.actions (suc n)))
         → CallsOpen does old p (life.actions (suc n)) new → Knows (suc n) new
     calls_open does (phase.Open w) from same right says =
-        let asked : HasAsked run e (life.moments (suc n)) =
-        asked_later run e (life.moments n) (life.moments (suc n)) in_time (subst (λ (x : Phase). KnowsPhase run h guards e life n x) from k.knows) in
+        let known : KnowsOpen run e (life.moments (suc n)) w = open_known w from in
+        let keeps = right w says.0 known.0 says.1 in
         leads (phase.Open w) (phase.Open says.0) from says.2
-        (record { knows = asked; right = right w says.0 asked says.1; wider = λ s own. tt })
+        (record {
+          knows = (known.0, subst (λ (c : CutData). IsCutSent run (life.moments (suc n)) c) (sym keeps.0) known.1);
+          right = keeps.1;
+          wider = λ s own. tt;
+        })
     calls_open does phase.Idle from same right says = only_refuses _ same says
     calls_open does (phase.Creating c) from same right says = only_refuses _ same says
     calls_open does (phase.Fencing f) from same right says = only_refuses _ same says
@@ -238,9 +251,9 @@ module _ (run : VolumeRun) (h : History) (stop : ℕ) (content : ReplicaData →
       hears (phase.Opening o) (phase.Fencing f) t node told from inside at given says turns = absurd says
       hears (phase.Opening o) (phase.Open w) t node told from inside at given says turns = absurd says
       hears (phase.Open w) (phase.Open x) t node told from inside at given says turns =
-          let asked : HasAsked run e (life.moments (suc n)) =
-          asked_later run e (life.moments n) (life.moments (suc n)) in_time (knows_of (phase.Open w) from) in
-          turned (phase.Open w) (phase.Open x) t from (hears_writing run h guards e life (suc n) asked w old.settings.quorum node told x t says) turns
+          let known : KnowsOpen run e (life.moments (suc n)) w = open_known w from in
+          turned (phase.Open w) (phase.Open x) t from
+          (hears_writing run h guards e life (suc n) known.0 w known.1 old.settings.quorum node told x t says) turns
       hears (phase.Open w) phase.Idle t node told from inside at given says turns = absurd says
       hears (phase.Open w) (phase.Creating c) t node told from inside at given says turns = absurd says
       hears (phase.Open w) (phase.Fencing f) t node told from inside at given says turns = absurd says
@@ -262,9 +275,9 @@ module _ (run : VolumeRun) (h : History) (stop : ℕ) (content : ReplicaData →
           (retries_in_opening run h stop content guards e life count is (suc n) step old.settings.quorum quorum_is o
           (opening_later o (knows_of (phase.Opening o) from)) (sent_of (phase.Opening o) from) node t says) turns
       retries (phase.Open w) t node from at says turns =
-          let asked : HasAsked run e (life.moments (suc n)) =
-          asked_later run e (life.moments n) (life.moments (suc n)) in_time (knows_of (phase.Open w) from) in
-          turned (phase.Open w) (phase.Open w) t from (retries_writing run h guards e life (suc n) asked w node (birth_at w.session.births node) t says) turns
+          let known : KnowsOpen run e (life.moments (suc n)) w = open_known w from in
+          turned (phase.Open w) (phase.Open w) t from
+          (retries_writing run h guards e life (suc n) known.0 w known.1 node (birth_at w.session.births node) t says) turns
 
       -- ---- events
       below_out : (node : ℕ) (told : Reply) → old.settings.nodes ≤ node → life.events (suc n) ≡ event.Answered node told → SameBelow
@@ -352,14 +365,44 @@ module _ (run : VolumeRun) (h : History) (stop : ℕ) (content : ReplicaData →
       by_event n step (life.states (suc n)) (life.states (suc (suc n))) (known n (omega arith)) refl refl (life.events (suc n)) refl
       (is.lives.heard n step) (is.lives.steps (suc n) step)
 
+  -- what holds of an action of a step
+  right_action : (n : ℕ) (a : Action) → n < count → Contains (life.actions n) a → RightAction run e (Allowed (life.states (suc n)).phase) (life.moments n) a
+  right_action n a within inside =
+      let k : Knows n (life.states (suc n)) = known n within in
+      let Q : SummaryData → Type 0 = Allowed (life.states (suc n)).phase in
+      each (RightAction run e Q (life.moments n)) (life.actions n) a (k.sent n (omega arith)) inside
+
   pub proposed : (n node generation birth t : ℕ) (cut : CutData) → n < count → Contains (life.actions n) (Ask node (request.Propose generation birth cut))
       → life.moments n ≤ t → IsOwnProposal run e t cut
   proposed n node generation birth t cut within inside order =
-      let k : Knows n (life.states (suc n)) = known n within in
+      proposal_later run e (life.moments n) t cut order (right_action n (Ask node (request.Propose generation birth cut)) within inside)
+
+  pub taken : (n node generation birth t : ℕ) (cut : CutData) → n < count
+      → Contains (life.actions n) (Ask node (request.As generation birth (segment.Take (Cut cut)))) → life.moments n ≤ t → IsCutSent run t cut
+  taken n node generation birth t cut within inside order =
+      sent_later run (life.moments n) t cut order (right_action n (Ask node (request.As generation birth (segment.Take (Cut cut)))) within inside)
+
+  opening_right : (Q : SummaryData → Type 0) (t : ℕ) (a : Action) (epoch point : ℕ) → RightAction run e Q t a → IsOpening a epoch point
+      → HasOpenedAt run e t epoch point
+  opening_right Q t (Opened k p header) epoch point right is =
+      subst (λ (x : ℕ). HasOpenedAt run e t epoch x) is.1 (subst (λ (x : ℕ). HasOpenedAt run e t x p) is.0 right)
+  opening_right Q t other epoch point right is = absurd is
+
+  pub opened : (n epoch point t : ℕ) (a : Action) → n < count → Contains (life.actions n) a → IsOpening a epoch point → life.moments n ≤ t
+      → IsDurableBy run t e epoch point
+  opened n epoch point t a within inside is_opening order =
       let Q : SummaryData → Type 0 = Allowed (life.states (suc n)).phase in
-      let right : IsOwnProposal run e (life.moments n) cut =
-      each (RightAction run e Q (life.moments n)) (life.actions n) (Ask node (request.Propose generation birth cut)) (k.sent n (omega arith)) inside in
-      proposal_later run e (life.moments n) t cut order right
+      let at : HasOpenedAt run e t epoch point =
+      opened_later run e (life.moments n) t epoch point order (opening_right Q (life.moments n) a epoch point (right_action n a within inside) is_opening) in
+      (at.0, inl at.1)
+
+pub takes_keep_rules : TakesKeepRules
+takes_keep_rules run h stop content guards e life count is n node generation birth t cut within inside order =
+    taken run h stop content guards e life count is n node generation birth t cut within inside order
+
+pub openings_are_durable : OpeningsAreDurable
+openings_are_durable run h stop content guards e life count is n epoch point t a within inside opening order =
+    opened run h stop content guards e life count is n epoch point t a within inside opening order
 
 pub proposals_keep_rules : ProposalsKeepRules
 proposals_keep_rules run h stop content guards e life count is n node generation birth t cut within inside order =

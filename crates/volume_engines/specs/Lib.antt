@@ -3,3 +3,4 @@ pub mod World
 pub mod Proposed
 pub mod Engines
 pub mod Proposals
+pub mod Openings

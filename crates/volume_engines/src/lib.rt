@@ -2,6 +2,7 @@
 #![tactic(auto)]
 
 ghost use Rattle.volume_engines.specs.Proposed.{PlansInOrder};
+ghost use Rattle.volume_engines.specs.Openings.{OpeningsAreDurable, TakesKeepRules};
 ghost use Rattle.volume_engines.specs.Proposals.{ProposalsKeepRules};
 
 /// Of one epoch a life proposes one truncation, pending ones before the engine's own.
@@ -12,4 +13,14 @@ pub fn plans_in_order()
 /// What a machine that only steps proposes, the rules of the protocol let its engine propose.
 pub fn proposals_keep_rules()
     ensures { ProposalsKeepRules }
+{}
+
+/// Which truncations such a machine has nodes take: those that a quorum has accepted.
+pub fn takes_keep_rules()
+    ensures { TakesKeepRules }
+{}
+
+/// What such a machine reports as open is durable.
+pub fn openings_are_durable()
+    ensures { OpeningsAreDurable }
 {}
