@@ -7,7 +7,7 @@ use Rattle.volume.specs.Sets.{birth_at}
 use Rattle.volume_theorems.specs.Runs.{VolumeRun}
 use Rattle.volume_engines.specs.Lives.{Life, Guards}
 use Rattle.volume_engines.specs.Engines.{fenced_by}
-use Rattle.volume_engines.proofs.Tables.{at_or_not, put_there, put_elsewhere}
+use Rattle.volume_engines.proofs.Tables.{at_or_not, put_there, put_elsewhere, some_same}
 use Rattle.volume_engines.proofs.Knowing.{pair_at, IsFencedAs, KnowsTable}
 
 -- ---- which answers count
@@ -33,9 +33,6 @@ fenced_otherwise generation own i node at before apart =
     ∙ same_either (node == i) before
 
 -- ---- the table
-pub some_same : {X : Type 0} (a b : X) → Some a ≡ Some b → a ≡ b
-some_same a b same = cc
-
 module _ (run : VolumeRun) (guards : Guards) (e : ℕ) (life : Life) (n : ℕ) (in_time : life.moments n ≤ life.moments (suc n)) where
   fenced_later : (p i b : ℕ) (a : Option AcceptedCut) → IsFencedAs run guards e (life.moments n) p i b a → IsFencedAs run guards e (life.moments (suc n)) p i b a
   fenced_later p i b a is = record {

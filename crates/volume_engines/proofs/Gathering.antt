@@ -25,6 +25,7 @@ use Rattle.volume_engines.specs.Lives.{Life, Guards}
 use Rattle.volume_engines.specs.World.{HasGuards}
 use Rattle.volume_engines.specs.Engines.{Gathers}
 use Rattle.volume_engines.proofs.Tables.{marked_has, has_marked, marked_below}
+use Rattle.volume_engines.proofs.Admissions.{KnowsFresh}
 use Rattle.volume_engines.proofs.Knowing.{pair_at, IsFencedAs, KnowsTable, KnowsSession, KnowsUnion, KnowsStage, KnowsOpening}
 
 size_same : (n : ℕ) (f g : ℕ → Bool) → ((i : ℕ) → f i ≡ g i) → size_below n f ≡ size_below n g
@@ -56,7 +57,7 @@ upto_greatest pairs i (Some p) (Some q) at greatest = greatest.1 p (pair_in pair
 module _ (run : VolumeRun) (h : History) (stop : ℕ) (content : ReplicaData → Content) (guards : Guards) (e : ℕ) (life : Life) (n : ℕ) (s : SettingsData)
     (f : Fencing) (o : Opening) (overlap : run.roster < run.quorum + run.quorum) (guarded : HasGuards run h stop content guards) (upto : life.moments n ≤ stop)
     (quorum : s.quorum ≡ run.quorum) (readers : s.roster ≡ h.readers) (generation : f.generation ≡ life.generation)
-    (table : KnowsTable run guards e life n f.births f.pairs) (enough : IsFencedQuorum s f.births) (begins : BeginsOpening s f o)
+    (table : KnowsTable run guards e life n f.births f.pairs) (fresh : KnowsFresh run (life.moments n) f.fresh) (enough : IsFencedQuorum s f.births) (begins : BeginsOpening s f o)
     (names : Gathers life n o (run.engines e)) where
   in_quorum : (i : ℕ) → (run.engines e).quorum i ≡ is_marked (marks_of f.births) i
   in_quorum i = names.quorum i ∙ ap (λ (m : List Bool). is_marked m i) begins.quorum
@@ -152,5 +153,7 @@ module _ (run : VolumeRun) (h : History) (stop : ℕ) (content : ReplicaData →
   begins_knowing = record {
     session = session;
     best = best;
+    fresh = subst (λ (xs : List (Option ℕ)). KnowsFresh run (run.engines e).gathered xs) (sym begins.fresh)
+        (subst (λ (t : ℕ). KnowsFresh run t f.fresh) (sym names.gathered) fresh);
     at = subst (λ (st : Stage). KnowsStage run h e (life.moments n) o.union o.pair st) (sym begins.stage) union;
   }

@@ -1,5 +1,5 @@
 -- A step before a quorum is fenced.
-use Rattle.std.proofs.Common.{◌≡◌, ℕ, suc, ◌-◌, ◌<◌, ◌≤◌, ⊎_elim, List, [], Option, refl, sym, ◌∙◌, subst, ap, arith}
+use Rattle.std.proofs.Common.{◌≡◌, ℕ, suc, ◌-◌, ◌<◌, ◌≤◌, ⊎_elim, List, [], Option, IsTrue, refl, sym, ◌∙◌, subst, ap, arith}
 use Rattle.replica.specs.Parts.{ReplicaData}
 use Rattle.guard.specs.declared.requests.AcceptedCut.{AcceptedCut}
 use Rattle.guard.specs.declared.replies.Reply.{Reply}
@@ -20,14 +20,16 @@ use Rattle.volume.specs.Fencing.{IsFencedQuorum, PullsQuorum, HearsFenced, Hears
 use Rattle.volume.specs.Settings.{SettingsData}
 use Rattle.volume.specs.Sets.{count_marked}
 use Rattle.volume.specs.Turning.{Stays}
-use Rattle.volume_theorems.specs.Nodes.{Content}
+use Rattle.volume_theorems.specs.Nodes.{Content, VolumeNode}
 use Rattle.volume_theorems.specs.Runs.{VolumeRun}
+use Rattle.volume_guards.specs.Guards.{as_node}
 use Rattle.volume_logs.specs.Histories.{History}
 use Rattle.volume_engines.specs.Lives.{Life, Guards, WasGiven}
 use Rattle.volume_engines.specs.Engines.{fenced_at, fenced_by, Gathers}
 use Rattle.volume_engines.specs.Proposals.{IsLifeIn}
 use Rattle.volume_engines.proofs.Sending.{AllRight, to_each, query_one}
-use Rattle.volume_engines.proofs.Replies.{fenced_says}
+use Rattle.volume_engines.proofs.Admissions.{WasOut, fresh_later, fresh_without, fresh_with}
+use Rattle.volume_engines.proofs.Replies.{fenced_says, fresh_says}
 use Rattle.volume_engines.proofs.Knowing.{IsFencedAs, KnowsFencing, Allowed, LeavesTurn}
 use Rattle.volume_engines.proofs.Turning.{when_stays, when_enters, when_stops}
 use Rattle.volume_engines.proofs.Fencing.{fenced_here, fenced_elsewhere, fenced_otherwise, table_stays, table_without, table_with}
@@ -56,7 +58,25 @@ module _ (run : VolumeRun) (h : History) (stop : ℕ) (content : ReplicaData →
   heard_at ev at i = ap (λ (x : Event). fenced_at x life.generation i (life.given (suc n)) (fenced_by life (suc n) i)) at
 
   stays_known : (f : Fencing) → SameMoments → KnowsFencing run guards e life n f → KnowsFencing run guards e life (suc n) f
-  stays_known f same k = record { generation = k.generation; table = table_stays run guards e life n in_time f.births f.pairs same k.table }
+  stays_known f same k = record {
+    generation = k.generation;
+    table = table_stays run guards e life n in_time f.births f.pairs same k.table;
+    fresh = fresh_later run (life.moments n) (life.moments (suc n)) f.fresh in_time k.fresh;
+  }
+
+  -- a node that answers that it is fresh was no member
+  was_out : (node birth : ℕ) → WasGiven run guards e life (suc n) node (reply.Fresh birth) → WasOut run (life.moments (suc n)) node birth
+  was_out node birth given =
+      let p : ℕ = life.given (suc n) in
+      let early : p < life.moments (suc n) = given.before in
+      let late : life.moments (suc n) ≤ stop = is.upto (suc n) step in
+      let says = fresh_says (guards p node) given.asked birth (guards (suc p) node) given.replies in
+      let node_is : run.nodes p node ≡ as_node content (guards p node) = is.guarded.nodes p node (omega arith) in (
+        p,
+        early,
+        λ member. says.0 (subst (λ (x : VolumeNode). IsTrue x.is_member) node_is member),
+        ap (λ (x : VolumeNode). x.birth) node_is ∙ sym says.1,
+      )
 
   nothing_heard : (f : Fencing) (t : Turn) → SameMoments → KnowsFencing run guards e life n f → Stays t [] → Left f t
   nothing_heard f t same k stays =
@@ -64,7 +84,7 @@ module _ (run : VolumeRun) (h : History) (stop : ℕ) (content : ReplicaData →
       (record { knows = stays_known f same k; right = tt; wider = λ x no. no })
 
   goes_on : (f g : Fencing) (t : Turn) (asked : List Action) → KnowsFencing run guards e life (suc n) g
-      → AllRight run e (Allowed (phase.Fencing g)) (life.moments (suc n)) asked → GoesOn s g t asked → Left f t
+      → AllRight run h e (Allowed (phase.Fencing g)) (life.moments (suc n)) asked → GoesOn s g t asked → Left f t
   goes_on f g t asked k right says = ⊎_elim
       (λ on. when_enters run h guards e life (suc n) (phase.Fencing f) (phase.Fencing f) t (phase.Fencing g) asked on.1
       (record { knows = k; right = right; wider = λ x no. no }))
@@ -74,13 +94,13 @@ module _ (run : VolumeRun) (h : History) (stop : ℕ) (content : ReplicaData →
   pulls : (f new : Fencing) (t : Turn) → KnowsFencing run guards e life (suc n) new → IsFencedQuorum s new.births
       → ((o : Opening) → EntersOpening t o → Gathers life (suc n) o (run.engines e)) → PullsQuorum s new t → Left f t
   pulls f new (turn.Enter (phase.Opening o) actions) k enough names says =
-      let asks : AllRight run e (Allowed (phase.Opening o)) (life.moments (suc n)) actions.items =
-      subst (λ (xs : List Action). AllRight run e (Allowed (phase.Opening o)) (life.moments (suc n)) xs) (sym says.1)
-      (to_each run e (Allowed (phase.Opening o)) (life.moments (suc n)) 0 new.generation new.births (Pull o.summary)
+      let asks : AllRight run h e (Allowed (phase.Opening o)) (life.moments (suc n)) actions.items =
+      subst (λ (xs : List Action). AllRight run h e (Allowed (phase.Opening o)) (life.moments (suc n)) xs) (sym says.1)
+      (to_each run h e (Allowed (phase.Opening o)) (life.moments (suc n)) 0 new.generation new.births (Pull o.summary)
       (refl, let at : (run.engines e).gathered ≡ life.moments (suc n) = (names o refl).gathered in omega arith)) in
       record {
         knows = begins_knowing run h stop content guards e life (suc n) s new o is.follows.overlap is.guarded (is.upto (suc n) step) quorum readers
-            k.generation k.table enough says.0 (names o refl);
+            k.generation k.table k.fresh enough says.0 (names o refl);
         right = asks;
         wider = λ x no. absurd no;
       }
@@ -115,6 +135,8 @@ module _ (run : VolumeRun) (h : History) (stop : ℕ) (content : ReplicaData →
         generation = k.generation;
         table = table_with run guards e life n in_time f.births f.pairs node (omega arith) k.table birth accepted (omega arith) entry
             (λ i apart. heard i ∙ fenced_elsewhere generation life.generation i node p (fenced_by life (suc n) i) apart);
+        fresh = fresh_without run (life.moments (suc n)) node f.fresh (omega arith)
+            (fresh_later run (life.moments n) (life.moments (suc n)) f.fresh in_time k.fresh);
       } in
       ⊎_elim
       (λ few. when_enters run h guards e life (suc n) (phase.Fencing f) (phase.Fencing f) t (phase.Fencing (with_fenced f node birth accepted)) [] few.1
@@ -137,13 +159,15 @@ module _ (run : VolumeRun) (h : History) (stop : ℕ) (content : ReplicaData →
       (record {
         generation = k.generation;
         table = table_without run guards e life n in_time f.births f.pairs node (omega arith) k.table (heard_at (event.Answered node (reply.Fresh birth)) at);
+        fresh = fresh_with run (life.moments (suc n)) node f.fresh (omega arith)
+            (fresh_later run (life.moments n) (life.moments (suc n)) f.fresh in_time k.fresh) birth (was_out node birth given);
       }) tt says
   hears_fencing f node (reply.Stale generation) t inside at given k names says =
       let same : SameMoments = heard_at (event.Answered node (reply.Stale generation)) at in
       ⊎_elim
       (λ up. when_stops run h guards e life (suc n) (phase.Fencing f) (phase.Fencing f) t (Fenced generation) up.1)
       (λ rest. ⊎_elim
-      (λ lost. goes_on f (without_node f node) t [] (record { generation = k.generation; table = (stays_known f same k).table }) tt lost.2)
+      (λ lost. goes_on f (without_node f node) t [] (record { generation = k.generation; table = (stays_known f same k).table; fresh = (stays_known f same k).fresh }) tt lost.2)
       (λ idle. nothing_heard f t same k idle.1)
       rest)
       says
@@ -156,6 +180,6 @@ module _ (run : VolumeRun) (h : History) (stop : ℕ) (content : ReplicaData →
       ⊎_elim
       (λ idle. nothing_heard f t same k idle.1)
       (λ lost. goes_on f (without_node f node) t (query_to (Fence f.generation) node)
-      (record { generation = k.generation; table = (stays_known f same k).table })
-      (query_one run e (Allowed (phase.Fencing (without_node f node))) (life.moments (suc n)) node (Fence f.generation)) lost.1)
+      (record { generation = k.generation; table = (stays_known f same k).table; fresh = (stays_known f same k).fresh })
+      (query_one run h e (Allowed (phase.Fencing (without_node f node))) (life.moments (suc n)) node (Fence f.generation)) lost.1)
       says

@@ -50,8 +50,10 @@ use Rattle.volume_logs.proofs.Sound.{log_is_sound}
 use Rattle.volume_engines.specs.Lives.{Life, Guards, WasGiven}
 use Rattle.volume_engines.specs.Proposals.{IsLifeIn}
 use Rattle.volume_engines.proofs.Tables.{at_or_not, put_elsewhere, count_zero, none_marked, marked_more}
-use Rattle.volume_engines.proofs.Sending.{IsOwnProposal, HasOpenedAt, RightAction, AllRight, all_append, to_one, query_one}
+use Rattle.volume_engines.proofs.Sending.{IsOwnProposal, HasOpenedAt, RightAction, AllRight, all_append, joins_each, to_one, query_one}
 use Rattle.volume_engines.proofs.Sending.{to_each as each_node}
+use Rattle.volume_engines.proofs.Admissions.{IsAdmission, joining_as, none_fresh}
+use Rattle.volume_engines.proofs.Admitting.{admits}
 use Rattle.volume_engines.proofs.Shown.{delta_says}
 use Rattle.volume_engines.proofs.Knowing.{KnowsSession, HasGiven, KnowsUnion, IsKnown, AreKnown, HaveAccepted, HasVotes, KnowsStage, KnowsOpening, Allowed, LeavesTurn}
 use Rattle.volume_engines.proofs.Turning.{when_stays, when_stops}
@@ -71,10 +73,10 @@ sent_in_log run h stop t j cut follows emitted upto epoch sent =
     one_sent_by run t (h.cuts (suc j)) cut (until_earlier run t stop upto follows) other sent (at ∙ sym epoch) in
     in_epoch h t (h.newest t) j (Cut cut) (omega arith) (inl (ap (λ (c : CutData). Cut c) same))
 
-if_right : (run : VolumeRun) (e : ℕ) (Q : SummaryData → Type 0) (t : ℕ) (b : Bool) (actions : List Action) → AllRight run e Q t actions
-    → AllRight run e Q t (if b then actions else [])
-if_right run e Q t true actions is = is
-if_right run e Q t false actions is = tt
+if_right : (run : VolumeRun) (h : History) (e : ℕ) (Q : SummaryData → Type 0) (t : ℕ) (b : Bool) (actions : List Action) → AllRight run h e Q t actions
+    → AllRight run h e Q t (if b then actions else [])
+if_right run h e Q t true actions is = is
+if_right run h e Q t false actions is = tt
 
 -- the votes of a quorum send the plan's truncation
 sent_plan : (run : VolumeRun) (e t : ℕ) (plan : Plan) → NamesPlan plan (run.engines e) → HasVotes run e t plan.cut.epoch → IsCutSent run t plan.cut
@@ -88,16 +90,16 @@ opened_plan run e t epoch point plan names own votes epoch_is point_is = (
   point_is ∙ (ap (λ (c : CutData). c.lo) (sym names.cut) ∙ ap (λ (k : ℕ). ((run.engines e).cuts k).lo) (sym epoch_is)),
 )
 
-opened_right : (run : VolumeRun) (e : ℕ) (Q : SummaryData → Type 0) (t : ℕ) (union : State) (plan : Plan) (actions : List Action)
+opened_right : (run : VolumeRun) (h : History) (e : ℕ) (Q : SummaryData → Type 0) (t : ℕ) (union : State) (plan : Plan) (actions : List Action)
     → NamesPlan plan (run.engines e) → plan.is_pending ≡ false → HasVotes run e t plan.cut.epoch → IsOpened union plan.cut actions
-    → AllRight run e Q t actions
-opened_right run e Q t union plan (Opened epoch point header ∷ []) names own votes is = (opened_plan run e t epoch point plan names own votes is.0 is.1, tt)
-opened_right run e Q t union plan actions names own votes is = absurd is
+    → AllRight run h e Q t actions
+opened_right run h e Q t union plan (Opened epoch point header ∷ []) names own votes is = (opened_plan run e t epoch point plan names own votes is.0 is.1, tt)
+opened_right run h e Q t union plan actions names own votes is = absurd is
 
 module _ (run : VolumeRun) (h : History) (stop : ℕ) (content : ReplicaData → Content) (guards : Guards) (e : ℕ) (life : Life) (count : ℕ)
     (is : IsLifeIn run h stop content guards e life count) (n : ℕ) (step : n < count) (quorum : ℕ) (q_is : quorum ≡ run.quorum) (old : Opening)
     (k : KnowsOpening run h guards e life (life.moments n) old)
-    (sent : (m : ℕ) → m < n → AllRight run e (Allowed (phase.Opening old)) (life.moments m) (life.actions m)) where
+    (sent : (m : ℕ) → m < n → AllRight run h e (Allowed (phase.Opening old)) (life.moments m) (life.actions m)) where
   abbrev T : ℕ
   T = life.moments n
 
@@ -112,7 +114,7 @@ module _ (run : VolumeRun) (h : History) (stop : ℕ) (content : ReplicaData →
 
   -- ---- what a turn leaves
   goes_to : (new o : Opening) (t : Turn) (asked : List Action) → new ≡ o → o.summary ≡ old.summary → KnowsOpening run h guards e life T o
-      → AllRight run e (Allowed (phase.Opening o)) T asked → Stays t asked → Left new t
+      → AllRight run h e (Allowed (phase.Opening o)) T asked → Stays t asked → Left new t
   goes_to new o t asked same summary knows right stays =
       subst (λ (x : Opening). Left x t) (sym same)
       (when_stays run h guards e life n (phase.Opening old) (phase.Opening o) t asked stays
@@ -124,9 +126,8 @@ module _ (run : VolumeRun) (h : History) (stop : ℕ) (content : ReplicaData →
   ends : (new : Opening) (t : Turn) (f : Fault) → EndsAlone old new t f → Left new t
   ends new t f says = when_stops run h guards e life n (phase.Opening old) (phase.Opening new) t f says.0
 
-  knows_at : (u : State) (fresh : List (Option ℕ)) (st : Stage) → KnowsStage run h e T u old.pair st
-      → KnowsOpening run h guards e life T (opened_with old old.session u fresh st)
-  knows_at u fresh st at = record { session = k.session; best = k.best; at = at }
+  knows_on : (u : State) (st : Stage) → KnowsStage run h e T u old.pair st → KnowsOpening run h guards e life T (opened_with old old.session u old.fresh st)
+  knows_on u st at = record { session = k.session; best = k.best; fresh = k.fresh; at = at }
 
   unmarked : (i : ℕ) → is_marked [] i ≡ true → ⊥
   unmarked i marked = let no : false ≡ true = marked in absurd (cc)
@@ -143,14 +144,14 @@ module _ (run : VolumeRun) (h : History) (stop : ℕ) (content : ReplicaData →
       (λ plan.
       let knows : AreKnown run h e T plan.0 no_nodes = λ i marked. absurd (none_marked i marked) in
       goes_to new (with_union old u (stage.Spreading plan.0 no_nodes)) t (to_each old errand.Ask) plan.2 refl
-      (knows_at u old.fresh (stage.Spreading plan.0 no_nodes) (un, plan.1, knows))
-      (each_node run e Q T 0 old.session.generation old.session.births errand.Ask tt) plan.3)
+      (knows_on u (stage.Spreading plan.0 no_nodes) (un, plan.1, knows))
+      (each_node run h e Q T 0 old.session.generation old.session.births errand.Ask tt) plan.3)
       (λ fault. ends new t fault.0 fault.2)
       says
 
   goes_on_pulling : (u : State) (left : List Bool) (new : Opening) (t : Turn) → KnowsUnion run h e T u left → GoesOnPulling old u left new t → Left new t
   goes_on_pulling u left new t un says = ⊎_elim
-      (λ more. goes_to new (with_union old u (stage.Pulling left)) t [] more.1 refl (knows_at u old.fresh (stage.Pulling left) un) tt more.2)
+      (λ more. goes_to new (with_union old u (stage.Pulling left)) t [] more.1 refl (knows_on u (stage.Pulling left) un) tt more.2)
       (λ all.
       let whole : KnowsUnion run h e T u [] = record {
         facts = un.facts;
@@ -228,18 +229,24 @@ module _ (run : VolumeRun) (h : History) (stop : ℕ) (content : ReplicaData →
       (λ damaged. ends new t Damaged damaged.1)
       (λ fills.
       goes_to new old t _ fills.2 refl k
-      (to_one run e Q T node old.session.generation (birth_at old.session.births node) (errand.Push summary fills.0) (asked_all old.union at.0)) fills.3)
+      (to_one run h e Q T node old.session.generation (birth_at old.session.births node) (errand.Push summary fills.0) (asked_all old.union at.0)) fills.3)
       says
   hears_summary (stage.Pulling left) node summary new t at says = idle new t says
   hears_summary (stage.Proposing plan accepted) node summary new t at says = idle new t says
   hears_summary (stage.Taking plan reported) node summary new t at says = idle new t says
 
   -- ---- fronts, while the union is made known
-  joins_right : (o : Opening) (joins : List Action) → AdmitsFresh old joins → AllRight run e (Allowed (phase.Opening o)) T joins
-  joins_right o joins says = ⊎_elim
-      (λ none. subst (λ (xs : List Action). AllRight run e (Allowed (phase.Opening o)) T xs) (sym none.1) tt)
-      (λ some. subst (λ (xs : List Action). AllRight run e (Allowed (phase.Opening o)) T xs) (sym some.4)
-      (each_node run e (Allowed (phase.Opening o)) T 0 old.session.generation old.fresh (errand.Join old.summary some.0 (joining_of old some.1)) tt))
+  joins_right : (o : Opening) (joins : List Action) → KnowsUnion run h e T old.union [] → AdmitsFresh old joins
+      → AllRight run h e (Allowed (phase.Opening o)) T joins
+  joins_right o joins un says = ⊎_elim
+      (λ none. subst (λ (xs : List Action). AllRight run h e (Allowed (phase.Opening o)) T xs) (sym none.1) tt)
+      (λ some. subst (λ (xs : List Action). AllRight run h e (Allowed (phase.Opening o)) T xs) (sym some.4)
+      (joins_each run h e (Allowed (phase.Opening o)) T 0 old.session.generation old.fresh old.summary some.0 (joining_of old some.1)
+      (λ i at b here has.
+      let same : at ≡ i = omega (arith, here) in
+      subst (λ (j : ℕ). IsAdmission run h e T j (joining_as old.session.generation b (joining_of old some.1))) (sym same)
+      (admits run h stop e T old is.follows is.emitted upto k.session.gathered (is.names.generation ∙ sym k.session.generation) k.best k.fresh un some.1 some.3
+      i b has))))
       says
 
   -- the step proposes a plan
@@ -257,9 +264,9 @@ module _ (run : VolumeRun) (h : History) (stop : ℕ) (content : ReplicaData →
       plan_proposed run h stop content guards e T old plan known is.follows is.emitted is.guarded upto k.best at.0
       (subst (λ (m : ℕ). m ≤ count_marked known) q_is enough) at.2 named k.session.gathered at.1 in
       let none : HaveAccepted run e T plan.cut.epoch no_nodes = λ i marked. absurd (none_marked i marked) in
-      goes_to new next t _ sends.2 refl (knows_at old.union no_births (stage.Proposing plan no_nodes) (at.0, own, none, named))
-      (all_append (RightAction run e Q T) sends.0 (to_each old (errand.Propose plan.cut)) (joins_right next sends.0 sends.1)
-      (each_node run e Q T 0 old.session.generation old.session.births (errand.Propose plan.cut) own))
+      goes_to new next t _ sends.2 refl (record { session = k.session; best = k.best; fresh = none_fresh run (run.engines e).gathered; at = (at.0, own, none, named) })
+      (all_append (RightAction run h e Q T) sends.0 (to_each old (errand.Propose plan.cut)) (joins_right next sends.0 at.0 sends.1)
+      (each_node run h e Q T 0 old.session.generation old.session.births (errand.Propose plan.cut) own))
       sends.3)
       says
 
@@ -270,8 +277,8 @@ module _ (run : VolumeRun) (h : History) (stop : ℕ) (content : ReplicaData →
       let left : List Bool = slice_set no_nodes node true in
       let part : KnowsUnion run h e T old.union left =
       record { facts = un.facts; means = un.means; given = λ i among no. un.given i among (unmarked i) } in
-      goes_to new (at_stage old (stage.Pulling left)) t _ again.1 refl (knows_at old.union old.fresh (stage.Pulling left) part)
-      (to_one run e Q T node old.session.generation (birth_at old.session.births node) (errand.Pull old.summary) (refl, k.session.upto)) again.2)
+      goes_to new (at_stage old (stage.Pulling left)) t _ again.1 refl (knows_on old.union (stage.Pulling left) part)
+      (to_one run h e Q T node old.session.generation (birth_at old.session.births node) (errand.Pull old.summary) (refl, k.session.upto)) again.2)
       says
 
   -- ---- the volume is open
@@ -279,7 +286,7 @@ module _ (run : VolumeRun) (h : History) (stop : ℕ) (content : ReplicaData →
       → HasVotes run e T plan.cut.epoch → OpensVolume old.session u plan.cut t → Left new t
   opens u plan new (turn.Enter (phase.Open w) actions) asked names own votes says = record {
     knows = (asked, subst (λ (c : CutData). IsCutSent run T c) (sym says.0.cut_is) (sent_plan run e T plan names votes));
-    right = opened_right run e (λ s. Unit {0}) T u plan actions.items names own votes says.1;
+    right = opened_right run h e (λ s. Unit {0}) T u plan actions.items names own votes says.1;
     wider = λ s own. tt;
   }
   opens u plan new (turn.Enter phase.Idle actions) asked names own votes says = absurd says.0
@@ -304,7 +311,7 @@ module _ (run : VolumeRun) (h : History) (stop : ℕ) (content : ReplicaData →
         (marked_more known node i marked) in
         ⊎_elim
         (λ few. goes_to new (at_stage old (stage.Spreading plan (slice_set known node true))) t [] few.1 refl
-        (knows_at old.union old.fresh (stage.Spreading plan (slice_set known node true)) (at.0, at.1, all)) tt few.2)
+        (knows_on old.union (stage.Spreading plan (slice_set known node true)) (at.0, at.1, all)) tt few.2)
         (λ enough. proposes plan (slice_set known node true) new t names enough.0 (at.0, at.1, all) enough.1)
         says
 
@@ -343,7 +350,7 @@ module _ (run : VolumeRun) (h : History) (stop : ℕ) (content : ReplicaData →
         (λ no. idle new t no.1)
         (λ yes. ⊎_elim
         (λ few. goes_to new (at_stage old (stage.Taking plan (slice_set reported node true))) t [] few.1 refl
-        (knows_at old.union old.fresh (stage.Taking plan (slice_set reported node true)) at) tt few.2)
+        (knows_on old.union (stage.Taking plan (slice_set reported node true)) at) tt few.2)
         (λ enough. begins_epoch plan (slice_set reported node true) new t at enough.1)
         yes.1)
         says
@@ -376,14 +383,14 @@ module _ (run : VolumeRun) (h : History) (stop : ℕ) (content : ReplicaData →
       (marked_more accepted node i marked) in
       ⊎_elim
       (λ few. goes_to new (at_stage old (stage.Proposing plan after)) t [] few.1 refl
-      (knows_at old.union old.fresh (stage.Proposing plan after) (at.0, at.1, all, at.3)) tt few.2)
+      (knows_on old.union (stage.Proposing plan after) (at.0, at.1, all, at.3)) tt few.2)
       (λ enough.
       let votes : HasVotes run e T plan.cut.epoch =
       many_marked run after (λ i. (s : ℕ) × (s < T) × MakesMove run s i (AcceptsCut e plan.cut.epoch))
       (subst (λ (m : ℕ). m ≤ count_marked after) q_is enough.0) all in
       goes_to new (at_stage old (stage.Taking plan no_nodes)) t _ enough.1 refl
-      (knows_at old.union old.fresh (stage.Taking plan no_nodes) (at.0, at.1, votes, at.3))
-      (each_node run e Q T 0 old.session.generation old.session.births (errand.Begin plan.cut)
+      (knows_on old.union (stage.Taking plan no_nodes) (at.0, at.1, votes, at.3))
+      (each_node run h e Q T 0 old.session.generation old.session.births (errand.Begin plan.cut)
       (asked_all old.union at.0, sent_plan run e T plan at.3 votes)) enough.2)
       yes.1)
       says
@@ -393,12 +400,12 @@ module _ (run : VolumeRun) (h : History) (stop : ℕ) (content : ReplicaData →
 
   -- ---- nodes that come late
   stage_asks : (u : State) (st : Stage) (generation node : ℕ) (b : Option ℕ) → KnowsStage run h e T u old.pair st
-      → AllRight run e Q T (asks_in_stage generation st node b)
+      → AllRight run h e Q T (asks_in_stage generation st node b)
   stage_asks u (stage.Pulling left) generation node b at = tt
-  stage_asks u (stage.Spreading plan known) generation node b at = to_one run e Q T node generation b errand.Ask tt
-  stage_asks u (stage.Proposing plan accepted) generation node b at = to_one run e Q T node generation b (errand.Propose plan.cut) at.1
+  stage_asks u (stage.Spreading plan known) generation node b at = to_one run h e Q T node generation b errand.Ask tt
+  stage_asks u (stage.Proposing plan accepted) generation node b at = to_one run h e Q T node generation b (errand.Propose plan.cut) at.1
   stage_asks u (stage.Taking plan reported) generation node b at =
-      to_one run e Q T node generation b (errand.Begin plan.cut) (asked_all u at.0, sent_plan run e T plan at.3 at.2)
+      to_one run h e Q T node generation b (errand.Begin plan.cut) (asked_all u at.0, sent_plan run e T plan at.3 at.2)
 
   late_session : (node birth : ℕ) → birth_at old.session.births node ≡ None → KnowsSession run guards e life T (with_birth old.session node birth)
   late_session node birth none = record {
@@ -419,7 +426,7 @@ module _ (run : VolumeRun) (h : History) (stop : ℕ) (content : ReplicaData →
       (λ no. idle new t no.1)
       (λ late.
       goes_to new (opened_with old (with_birth old.session node birth) old.union old.fresh old.stage) t _ late.1 refl
-      (record { session = late_session node birth late.0.1; best = k.best; at = k.at })
+      (record { session = late_session node birth late.0.1; best = k.best; fresh = k.fresh; at = k.at })
       (stage_asks old.union old.stage generation node (birth_at (with_birth old.session node birth).births node) k.at) late.2)
       says
 
@@ -436,7 +443,7 @@ module _ (run : VolumeRun) (h : History) (stop : ℕ) (content : ReplicaData →
   pub hears_opening : (node : ℕ) (shown : Reply) (new : Opening) (t : Turn) → node < run.roster → WasGiven run guards e life n node shown → Names new t
       → HearsOpening quorum old node shown new t → Left new t
   hears_opening node (reply.Headed generation birth shown) new t within given names says = ⊎_elim
-      (λ own. hears_headed node generation birth own.0 within shown new t (heard run guards e life n Q node generation birth shown sent given) names own.1)
+      (λ own. hears_headed node generation birth own.0 within shown new t (heard run h guards e life n Q node generation birth shown sent given) names own.1)
       (λ no. idle new t no.1)
       says
   hears_opening node (reply.Accepted generation birth epoch) new t within given names says = ⊎_elim
@@ -453,13 +460,13 @@ module _ (run : VolumeRun) (h : History) (stop : ℕ) (content : ReplicaData →
   hears_opening node other new t within given names says = idle new t says
 
   -- ---- broken connections
-  asks_right : (st : Stage) (node : ℕ) (b : Option ℕ) → KnowsStage run h e T old.union old.pair st → AllRight run e Q T (asks_again old st node b)
-  asks_right (stage.Pulling left) node None at = query_one run e Q T node (Fence old.session.generation)
-  asks_right (stage.Spreading plan known) node None at = query_one run e Q T node (Fence old.session.generation)
-  asks_right (stage.Proposing plan accepted) node None at = query_one run e Q T node (Fence old.session.generation)
-  asks_right (stage.Taking plan reported) node None at = query_one run e Q T node (Fence old.session.generation)
+  asks_right : (st : Stage) (node : ℕ) (b : Option ℕ) → KnowsStage run h e T old.union old.pair st → AllRight run h e Q T (asks_again old st node b)
+  asks_right (stage.Pulling left) node None at = query_one run h e Q T node (Fence old.session.generation)
+  asks_right (stage.Spreading plan known) node None at = query_one run h e Q T node (Fence old.session.generation)
+  asks_right (stage.Proposing plan accepted) node None at = query_one run h e Q T node (Fence old.session.generation)
+  asks_right (stage.Taking plan reported) node None at = query_one run h e Q T node (Fence old.session.generation)
   asks_right (stage.Pulling left) node (Some birth) at =
-      if_right run e Q T (is_marked left node) _ (to_one run e Q T node old.session.generation (Some birth) (errand.Pull old.summary) (refl, k.session.upto))
+      if_right run h e Q T (is_marked left node) _ (to_one run h e Q T node old.session.generation (Some birth) (errand.Pull old.summary) (refl, k.session.upto))
   asks_right (stage.Spreading plan known) node (Some birth) at = stage_asks old.union (stage.Spreading plan known) old.session.generation node (Some birth) at
   asks_right (stage.Proposing plan accepted) node (Some birth) at = stage_asks old.union (stage.Proposing plan accepted) old.session.generation node (Some birth) at
   asks_right (stage.Taking plan reported) node (Some birth) at = stage_asks old.union (stage.Taking plan reported) old.session.generation node (Some birth) at

@@ -37,10 +37,10 @@ module _ (run : VolumeRun) (h : History) (guards : Guards) (e : ℕ) (life : Lif
   Any s = Unit {0}
 
   abbrev Good : List Action → Type 0
-  Good actions = AllRight run e Any T actions
+  Good actions = AllRight run h e Any T actions
 
   -- ---- what is sent
-  errand_right : (r : RecordData) (b : Bool) → RightErrand run e Any T (if b then errand.Close r else errand.Store r)
+  errand_right : (r : RecordData) (b : Bool) → RightErrand run h e Any T (if b then errand.Close r else errand.Store r)
   errand_right r true = asked
   errand_right r false = tt
 
@@ -50,24 +50,24 @@ module _ (run : VolumeRun) (h : History) (guards : Guards) (e : ℕ) (life : Lif
 
   record_right : (s : Session) (r : RecordData) → Good (sends_record s r)
   record_right s r =
-      all_append (RightAction run e Any T) _ (if r.page == 0 then Committed r.number ∷ [] else [])
-      (to_each run e Any T 0 s.generation s.births (errand_of r) (errand_right r (r.page == 0))) (committed_right r.number (r.page == 0))
+      all_append (RightAction run h e Any T) _ (if r.page == 0 then Committed r.number ∷ [] else [])
+      (to_each run h e Any T 0 s.generation s.births (errand_of r) (errand_right r (r.page == 0))) (committed_right r.number (r.page == 0))
 
   stores_right : (node generation birth : ℕ) (rs : List RecordData) → Good (stores_of node generation birth rs)
   stores_right node generation birth [] = tt
   stores_right node generation birth (r ∷ rs) =
-      all_append (RightAction run e Any T) (asks_of node generation birth (errand.Store r)) (stores_of node generation birth rs)
-      (to_node run e Any T node generation birth (errand.Store r) tt) (stores_right node generation birth rs)
+      all_append (RightAction run h e Any T) (asks_of node generation birth (errand.Store r)) (stores_of node generation birth rs)
+      (to_node run h e Any T node generation birth (errand.Store r) tt) (stores_right node generation birth rs)
 
   brings_right : (w : Writing) (node : ℕ) (b : Option ℕ) → IsCutSent run T w.cut → Good (brings w node b)
-  brings_right w node None sent = query_one run e Any T node (Fence w.session.generation)
+  brings_right w node None sent = query_one run h e Any T node (Fence w.session.generation)
   brings_right w node (Some birth) sent =
-      all_append (RightAction run e Any T)
+      all_append (RightAction run h e Any T)
       (asks_of node w.session.generation birth (errand.Begin w.cut) ++ stores_of node w.session.generation birth w.backlog)
       (asks_of node w.session.generation birth errand.Report)
-      (all_append (RightAction run e Any T) (asks_of node w.session.generation birth (errand.Begin w.cut)) (stores_of node w.session.generation birth w.backlog)
-      (to_node run e Any T node w.session.generation birth (errand.Begin w.cut) (asked, sent)) (stores_right node w.session.generation birth w.backlog))
-      (to_node run e Any T node w.session.generation birth errand.Report asked)
+      (all_append (RightAction run h e Any T) (asks_of node w.session.generation birth (errand.Begin w.cut)) (stores_of node w.session.generation birth w.backlog)
+      (to_node run h e Any T node w.session.generation birth (errand.Begin w.cut) (asked, sent)) (stores_right node w.session.generation birth w.backlog))
+      (to_node run h e Any T node w.session.generation birth errand.Report asked)
 
   as_listed : (actions listed : List Action) → actions ≡ listed → Good listed → Good actions
   as_listed actions listed same is = subst (λ (xs : List Action). Good xs) (sym same) is
@@ -100,7 +100,7 @@ module _ (run : VolumeRun) (h : History) (guards : Guards) (e : ℕ) (life : Lif
 
   pub raise_right : (old new : Writing) (reader point : ℕ) (actions : List Action) → RaisesPoint old reader point actions new → Keeps old new actions
   raise_right old new reader point actions says = ⊎_elim
-      (λ raises. (raises.same.cut, as_listed actions _ raises.asks (to_each run e Any T 0 old.session.generation old.session.births (errand.Raise _) tt)))
+      (λ raises. (raises.same.cut, as_listed actions _ raises.asks (to_each run h e Any T 0 old.session.generation old.session.births (errand.Raise _) tt)))
       (λ no. refuses old new no.0 actions no.2)
       says
 

@@ -29,6 +29,7 @@ use Rattle.volume_logs.specs.Emitting.{IsContentIn}
 use Rattle.volume_logs.specs.Joining.{IsFrontAbove}
 use Rattle.volume_engines.specs.Lives.{Life, Guards}
 use Rattle.volume_engines.specs.Engines.{fenced_by}
+use Rattle.volume_engines.proofs.Admissions.{KnowsFresh}
 use Rattle.volume_engines.proofs.Sending.{IsOwnProposal, AllRight}
 use Rattle.volume_engines.proofs.Named.{NamesPlan}
 
@@ -55,6 +56,7 @@ pub record KnowsTable (run : VolumeRun) (guards : Guards) (e : ℕ) (life : Life
 pub record KnowsFencing (run : VolumeRun) (guards : Guards) (e : ℕ) (life : Life) (n : ℕ) (f : Fencing) : Type 0 where
   pub generation : f.generation ≡ life.generation
   pub table : KnowsTable run guards e life n f.births f.pairs
+  pub fresh : KnowsFresh run (life.moments n) f.fresh
 
 -- ---- after a quorum is fenced
 -- the quorum is fenced, and the births of its nodes are those that were fenced
@@ -109,6 +111,7 @@ KnowsStage run h e t u pair (stage.Taking plan reported) =
 pub record KnowsOpening (run : VolumeRun) (h : History) (guards : Guards) (e : ℕ) (life : Life) (t : ℕ) (o : Opening) : Type 0 where
   pub session : KnowsSession run guards e life t o.session
   pub best : IsBest run e (vote_of o.pair)
+  pub fresh : KnowsFresh run (run.engines e).gathered o.fresh
   pub at : KnowsStage run h e t o.union o.pair o.stage
 
 -- ---- after the volume is open
@@ -135,7 +138,7 @@ Wider old new = (s : SummaryData) → Allowed old s → Allowed new s
 -- what step n leaves in a phase, with what it asks
 pub record Leaves (run : VolumeRun) (h : History) (guards : Guards) (e : ℕ) (life : Life) (n : ℕ) (old new : Phase) (actions : List Action) : Type 0 where
   pub knows : KnowsPhase run h guards e life n new
-  pub right : AllRight run e (Allowed new) (life.moments n) actions
+  pub right : AllRight run h e (Allowed new) (life.moments n) actions
   pub wider : Wider old new
 
 abbrev pub LeavesTurn : VolumeRun → History → Guards → ℕ → Life → ℕ → Phase → Phase → Turn → Type 0

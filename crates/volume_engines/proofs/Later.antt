@@ -19,6 +19,7 @@ use Rattle.volume_theorems.proofs.Guards.{asked_later}
 use Rattle.volume_theorems.proofs.Proposing.{sent_later}
 use Rattle.volume_logs.proofs.Epochs.{at_later}
 use Rattle.volume_engines.specs.Lives.{Life, Guards}
+use Rattle.volume_engines.proofs.Admissions.{unites_later}
 use Rattle.volume_engines.proofs.Sending.{IsOwnProposal, HasOpenedAt}
 use Rattle.volume_engines.proofs.Knowing.{KnowsSession, HasGiven, KnowsUnion, HasVotes, KnowsOpen, KnowsStage}
 
@@ -44,11 +45,7 @@ means_later readers log larger facts s inner m = (
 pub may_later : (run : VolumeRun) (e k s t : ℕ) → s ≤ t → MayPropose run e k s → MayPropose run e k t
 may_later run e k s t order p = record {
   union = p.union;
-  unites = record {
-    gathered = p.unites.gathered;
-    of_all = λ i among. let x = p.unites.of_all i among in let before : x.0 < s = x.1 in (x.0, omega arith, x.2, x.3);
-    sent = λ c inside. sent_later run s t c order (p.unites.sent c inside);
-  };
+  unites = unites_later run e s t p.union order p.unites;
   next = p.next;
   of_epoch = p.of_epoch;
   known = (p.known.0, p.known.1, λ i among. let x = p.known.2 i among in let before : x.0 < s = x.1 in (x.0, omega arith, x.2, x.3, x.4));

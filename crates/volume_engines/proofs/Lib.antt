@@ -1,9 +1,10 @@
 pub mod Tables
+pub mod Admissions
+pub mod Sending
+pub mod Replies
 pub mod Ordering
 pub mod OrderedSteps
 pub mod Named
-pub mod Sending
-pub mod Replies
 pub mod Knowing
 pub mod Turning
 pub mod Fencing
@@ -14,6 +15,8 @@ pub mod Shown
 pub mod Unions
 pub mod Pending
 pub mod Contents
+pub mod United
+pub mod Admitting
 pub mod Proposing
 pub mod Heard
 pub mod HearingOpening

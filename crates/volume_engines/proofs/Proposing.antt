@@ -5,9 +5,7 @@ use Rattle.redo_core.specs.Data.{RecordData, CutData}
 use Rattle.redo_core.specs.Sets.{IsPart, cuts}
 use Rattle.redo_core.specs.Sound.{IsSound}
 use Rattle.redo_core.specs.declared.facts.Fact.TheVariants.{Record}
-use Rattle.redo_core.proofs.FactParts.{part_records}
 use Rattle.redo_core.proofs.CompleteEpochs.{one_complete_epoch}
-use Rattle.log_theorems.proofs.Log.{log_of_sound}
 use Rattle.segment_theorems.specs.Means.{MeansAt}
 use Rattle.replica.specs.Parts.{ReplicaData}
 use Rattle.guard.specs.declared.requests.AcceptedCut.{AcceptedCut}
@@ -28,9 +26,8 @@ use Rattle.volume_logs.specs.Histories.{History, log_at}
 use Rattle.volume_logs.specs.Emitting.{IsEmitted}
 use Rattle.volume_logs.specs.PageLayout.{LeavesNumber}
 use Rattle.volume_logs.proofs.Moments.{until_earlier}
-use Rattle.volume_logs.proofs.Epochs.{newest_rises, at_later, record_epoch}
+use Rattle.volume_logs.proofs.Epochs.{at_later, record_epoch}
 use Rattle.volume_logs.proofs.Sound.{log_is_sound}
-use Rattle.volume_logs.proofs.Joining.{parts_unite}
 use Rattle.volume_engines.specs.Lives.{Guards}
 use Rattle.volume_engines.specs.World.{HasGuards}
 use Rattle.volume_engines.proofs.Tables.{marked_below}
@@ -39,7 +36,7 @@ use Rattle.volume_engines.proofs.Ordering.{pending_next}
 use Rattle.volume_engines.proofs.Named.{NamesPlan}
 use Rattle.volume_engines.proofs.Unions.{IsLast, own_last}
 use Rattle.volume_engines.proofs.Pending.{pending_known}
-use Rattle.volume_engines.proofs.Contents.{content_exists}
+use Rattle.volume_engines.proofs.United.{IsUnited, united}
 use Rattle.volume_engines.proofs.Knowing.{KnowsUnion, IsKnown, AreKnown}
 
 -- nodes that are marked, as many as a quorum takes
@@ -50,19 +47,6 @@ many_marked run marks P enough each = (
   (let low : count_marked marks ≤ size_below run.roster (λ i. is_marked marks i) = marked_below marks run.roster (λ i marked. (each i marked).0) in omega arith),
   λ i marked. (each i marked).1,
 )
-
--- the rules about what is emitted, up to an earlier moment
-pub emitted_until : (run : VolumeRun) (h : History) (t stop : ℕ) → t ≤ stop → IsEmitted run h stop → IsEmitted run h t
-emitted_until run h t stop upto is = record {
-  roster = is.roster;
-  epochs = is.epochs;
-  shaped = λ k some within. let more : h.newest t ≤ h.newest stop = newest_rises run h stop is t stop upto (omega arith) in is.shaped k some (omega arith);
-  sent = λ s k order. is.sent s k (omega arith);
-  newest = λ s c order. is.newest s c (omega arith);
-  grows = λ r s k order within. is.grows r s k order (omega arith);
-  writers = λ s k f order. is.writers s k f (omega arith);
-  held = λ s i order. is.held s i (omega arith);
-}
 
 not_pending : (pair : Option AcceptedCut) (epoch : ℕ) → ((cut : CutData) → IsPending pair epoch cut → ⊥) → ¬ (IsOfEpoch (vote_of pair) (suc epoch))
 not_pending None epoch none of = of
@@ -76,121 +60,112 @@ pending_vote (Some pair) epoch cut d same is = is.0 ∙ sym same
 module _ (run : VolumeRun) (h : History) (stop : ℕ) (content : ReplicaData → Content) (guards : Guards) (e t : ℕ) (o : Opening) (plan : Plan) (known : List Bool)
     (follows : FollowsUntil run stop) (emitted : IsEmitted run h stop) (guarded : HasGuards run h stop content guards) (upto : t ≤ stop)
     (best : IsBest run e (vote_of o.pair)) (union : KnowsUnion run h e t o.union [])
-    (enough : run.quorum ≤ count_marked known) (are : AreKnown run h e t plan known) (names : NamesPlan plan (run.engines e)) where
+    (enough : run.quorum ≤ count_marked known) (are : AreKnown run h e t plan known) (names : NamesPlan plan (run.engines e)) (gathered : HasGathered run e) where
   sound : IsSound h.readers (log_at h t)
   sound = log_is_sound run h stop t follows emitted upto
 
   means : MeansAt h.readers (log_at h t) union.facts union.means.0 o.union
   means = union.means.1
 
-  has : (u : Content) × IsContentOf union.facts u
-  has = content_exists union.facts (λ r inside.
-      ((log_of_sound h.readers (log_at h t) sound).backs r (part_records union.facts (log_at h t) means.part r inside)).1)
+  both : IsUnited run e t union.facts o.union
+  both = united run h stop e t o.union follows emitted upto gathered union
 
-  epoch_is : has.0.epoch ≡ o.union.book.complete
-  epoch_is = one_complete_epoch (cuts union.facts) has.0.epoch union.means.0.epoch has.1.epoch means.position.epoch ∙ sym means.epoch
-
-  epoch_at : has.0.epoch ≡ union.means.0.epoch
-  epoch_at = one_complete_epoch (cuts union.facts) has.0.epoch union.means.0.epoch has.1.epoch means.position.epoch
+  epoch_at : both.union.epoch ≡ union.means.0.epoch
+  epoch_at = one_complete_epoch (cuts union.facts) both.union.epoch union.means.0.epoch both.has.epoch means.position.epoch
 
   leaves : (r : RecordData) → Contains (log_at h t) (Record r) → LeavesNumber r
   leaves r inside =
       let x = record_epoch run h stop emitted t (h.newest t) r upto inside in
       (emitted.writers t x.0 (Record r) upto x.3).1.leaves r x.3
 
-  module _ (gathered : HasGathered run e) where
-    unites : IsUnion run e t has.0
-    unites = parts_unite run h t e union.facts has.0 (until_earlier run t stop upto follows) (emitted_until run h t stop upto emitted) gathered means.part has.1
-        (λ i among. union.given i among (λ marked. let no : false ≡ true = marked in absurd (cc)))
+  -- the point is known to a quorum
+  module _ (epoch : plan.cut.epoch ≡ suc both.union.epoch) (point : Contains both.union.points plan.cut.lo) where
+    known_at : (i : ℕ) → IsKnown run h e t i plan
+        → (s : ℕ) × (s < t) × AnswersUnder run e s i × ((run.nodes s i).content.epoch ≡ both.union.epoch) × Contains (run.nodes s i).content.points plan.cut.lo
+    known_at i is =
+        let s : ℕ = is.moment in
+        let early : s < t = is.before in
+        let f = is.front in
+        let next : is.epoch + 1 ≡ plan.cut.epoch = is.next in
+        let front : f.front.epoch ≡ is.epoch = f.epoch_is in
+        let own : (run.nodes s i).content.epoch ≡ f.front.epoch =
+        one_complete_epoch (cuts f.part) (run.nodes s i).content.epoch f.front.epoch f.content.epoch f.position.epoch in
+        let same : (run.nodes s i).content.epoch ≡ both.union.epoch = omega arith in
+        let inner : IsPart f.part (log_at h t) = λ x inside. at_later run h stop emitted s t (omega arith) upto x (f.inner x inside) in (
+          s,
+          is.before,
+          is.answers,
+          same,
+          fronts_reach h.readers (log_at h t) f.part union.facts f.front (run.nodes s i).content both.union plan.cut.lo sound inner means.part f.position f.content
+              both.has same point f.reached,
+        )
 
-    -- the point is known to a quorum
-    module _ (epoch : plan.cut.epoch ≡ suc has.0.epoch) (point : Contains has.0.points plan.cut.lo) where
-      known_at : (i : ℕ) → IsKnown run h e t i plan
-          → (s : ℕ) × (s < t) × AnswersUnder run e s i × ((run.nodes s i).content.epoch ≡ has.0.epoch) × Contains (run.nodes s i).content.points plan.cut.lo
-      known_at i is =
-          let s : ℕ = is.moment in
-          let early : s < t = is.before in
-          let f = is.front in
-          let next : is.epoch + 1 ≡ plan.cut.epoch = is.next in
-          let front : f.front.epoch ≡ is.epoch = f.epoch_is in
-          let own : (run.nodes s i).content.epoch ≡ f.front.epoch =
-          one_complete_epoch (cuts f.part) (run.nodes s i).content.epoch f.front.epoch f.content.epoch f.position.epoch in
-          let same : (run.nodes s i).content.epoch ≡ has.0.epoch = omega arith in
-          let inner : IsPart f.part (log_at h t) = λ x inside. at_later run h stop emitted s t (omega arith) upto x (f.inner x inside) in (
-            s,
-            is.before,
-            is.answers,
-            same,
-            fronts_reach h.readers (log_at h t) f.part union.facts f.front (run.nodes s i).content has.0 plan.cut.lo sound inner means.part f.position f.content
-                has.1 same point f.reached,
-          )
+    known_to_many : IsKnownToMany run e t both.union plan.cut.lo
+    known_to_many =
+        many_marked run known (λ i. (s : ℕ) × (s < t) × AnswersUnder run e s i × ((run.nodes s i).content.epoch ≡ both.union.epoch) × Contains (run.nodes s i).content.points plan.cut.lo)
+        enough (λ i marked. let is = are i marked in (is.within, known_at i is))
 
-      known_to_many : IsKnownToMany run e t has.0 plan.cut.lo
-      known_to_many =
-          many_marked run known (λ i. (s : ℕ) × (s < t) × AnswersUnder run e s i × ((run.nodes s i).content.epoch ≡ has.0.epoch) × Contains (run.nodes s i).content.points plan.cut.lo)
-          enough (λ i marked. let is = are i marked in (is.within, known_at i is))
+    proposes : AdoptsPending run e plan.cut.epoch (vote_of o.pair) ⊎ MakesOwn run e plan.cut.epoch both.union (vote_of o.pair) → IsOwnProposal run e t plan.cut
+    proposes choice = (
+      names.cut,
+      record {
+        union = both.union;
+        unites = both.unites;
+        next = epoch;
+        of_epoch = ap (λ (c : CutData). c.epoch) names.cut;
+        known = subst (λ (c : CutData). IsKnownToMany run e t both.union c.lo) (sym names.cut) known_to_many;
+        best = vote_of o.pair;
+        greatest = best;
+        choice = choice;
+      },
+    )
 
-      proposes : AdoptsPending run e plan.cut.epoch (vote_of o.pair) ⊎ MakesOwn run e plan.cut.epoch has.0 (vote_of o.pair) → IsOwnProposal run e t plan.cut
-      proposes choice = (
-        names.cut,
-        record {
-          union = has.0;
-          unites = unites;
-          next = epoch;
-          of_epoch = ap (λ (c : CutData). c.epoch) names.cut;
-          known = subst (λ (c : CutData). IsKnownToMany run e t has.0 c.lo) (sym names.cut) known_to_many;
-          best = vote_of o.pair;
-          greatest = best;
-          choice = choice;
-        },
-      )
+  -- a truncation of its own
+  own_proposed : plan.is_pending ≡ false → ((cut : CutData) → IsPending o.pair o.union.book.complete cut → ⊥) → IsOwnCut o.union plan.cut
+      → IsOwnProposal run e t plan.cut
+  own_proposed own none cut =
+      let last : IsLast union.facts union.means.0.epoch plan.cut =
+      own_last h.readers (log_at h t) union.facts union.means.0 o.union plan.cut sound means cut leaves in
+      let above : plan.cut.epoch ≡ cut.front.epoch + 1 = cut.epoch in
+      let front : cut.front.epoch ≡ o.union.book.complete = cut.own.epoch in
+      let mine : both.union.epoch ≡ o.union.book.complete = both.epoch in
+      let next : plan.cut.epoch ≡ suc both.union.epoch = omega arith in
+      let after : plan.cut.epoch ≡ suc o.union.book.complete = omega arith in
+      let point : Contains both.union.points plan.cut.lo =
+      (both.has.points plan.cut.lo).1 (subst (λ (k : ℕ). IsCommitPoint union.facts k plan.cut.lo) (sym epoch_at) last.point) in
+      proposes next point (inr (record {
+        opens = sym (names.own own);
+        free = λ of. not_pending o.pair o.union.book.complete none (subst (λ (k : ℕ). IsOfEpoch (vote_of o.pair) k) after of);
+        lo = subst (λ (c : CutData). Contains both.union.points c.lo) (sym names.cut) point;
+        last = λ p inside.
+            subst (λ (c : CutData). p ≤ c.lo) (sym names.cut)
+            (last.last p (subst (λ (k : ℕ). IsCommitPoint union.facts k p) epoch_at ((both.has.points p).0 inside)));
+        hi = subst (λ (c : CutData). c.lo ≤ c.hi) (sym names.cut) last.hi;
+      }))
 
-    -- a truncation of its own
-    own_proposed : plan.is_pending ≡ false → ((cut : CutData) → IsPending o.pair o.union.book.complete cut → ⊥) → IsOwnCut o.union plan.cut
-        → IsOwnProposal run e t plan.cut
-    own_proposed own none cut =
-        let last : IsLast union.facts union.means.0.epoch plan.cut =
-        own_last h.readers (log_at h t) union.facts union.means.0 o.union plan.cut sound means cut leaves in
-        let above : plan.cut.epoch ≡ cut.front.epoch + 1 = cut.epoch in
-        let front : cut.front.epoch ≡ o.union.book.complete = cut.own.epoch in
-        let mine : has.0.epoch ≡ o.union.book.complete = epoch_is in
-        let next : plan.cut.epoch ≡ suc has.0.epoch = omega arith in
-        let after : plan.cut.epoch ≡ suc o.union.book.complete = omega arith in
-        let point : Contains has.0.points plan.cut.lo =
-        (has.1.points plan.cut.lo).1 (subst (λ (k : ℕ). IsCommitPoint union.facts k plan.cut.lo) (sym epoch_at) last.point) in
-        proposes next point (inr (record {
-          opens = sym (names.own own);
-          free = λ of. not_pending o.pair o.union.book.complete none (subst (λ (k : ℕ). IsOfEpoch (vote_of o.pair) k) after of);
-          lo = subst (λ (c : CutData). Contains has.0.points c.lo) (sym names.cut) point;
-          last = λ p inside.
-              subst (λ (c : CutData). p ≤ c.lo) (sym names.cut)
-              (last.last p (subst (λ (k : ℕ). IsCommitPoint union.facts k p) epoch_at ((has.1.points p).0 inside)));
-          hi = subst (λ (c : CutData). c.lo ≤ c.hi) (sym names.cut) last.hi;
-        }))
+  -- one that is pending
+  point_pending : (pair : Option AcceptedCut) → IsBest run e (vote_of pair) → IsPending pair o.union.book.complete plan.cut
+      → plan.cut.epoch ≡ suc both.union.epoch → Contains both.union.points plan.cut.lo
+  point_pending None greatest is next = absurd is
+  point_pending (Some pair) greatest is next =
+      subst (λ (c : CutData). Contains both.union.points c.lo) is.0
+      (pending_known run e t both.union (record { generation = pair.generation; cut = pair.cut }) (until_earlier run t stop upto follows) both.unites greatest
+      (ap (λ (c : CutData). c.epoch) is.0 ∙ next))
 
-    -- one that is pending
-    point_pending : (pair : Option AcceptedCut) → IsBest run e (vote_of pair) → IsPending pair o.union.book.complete plan.cut
-        → plan.cut.epoch ≡ suc has.0.epoch → Contains has.0.points plan.cut.lo
-    point_pending None greatest is next = absurd is
-    point_pending (Some pair) greatest is next =
-        subst (λ (c : CutData). Contains has.0.points c.lo) is.0
-        (pending_known run e t has.0 (record { generation = pair.generation; cut = pair.cut }) (until_earlier run t stop upto follows) unites greatest
-        (ap (λ (c : CutData). c.epoch) is.0 ∙ next))
+  pending_proposed : plan.is_pending ≡ true → IsPending o.pair o.union.book.complete plan.cut → plan.cut.epoch ≡ o.union.book.complete + 1
+      → IsOwnProposal run e t plan.cut
+  pending_proposed pending is above =
+      let mine : both.union.epoch ≡ o.union.book.complete = both.epoch in
+      let next : plan.cut.epoch ≡ suc both.union.epoch = omega arith in
+      let point : Contains both.union.points plan.cut.lo = point_pending o.pair best is next in
+      proposes next point
+      (inl (record {
+        below = names.pending pending;
+        pending = pending_vote o.pair o.union.book.complete plan.cut ((run.engines e).cuts plan.cut.epoch) names.cut is;
+      }))
 
-    pending_proposed : plan.is_pending ≡ true → IsPending o.pair o.union.book.complete plan.cut → plan.cut.epoch ≡ o.union.book.complete + 1
-        → IsOwnProposal run e t plan.cut
-    pending_proposed pending is above =
-        let mine : has.0.epoch ≡ o.union.book.complete = epoch_is in
-        let next : plan.cut.epoch ≡ suc has.0.epoch = omega arith in
-        let point : Contains has.0.points plan.cut.lo = point_pending o.pair best is next in
-        proposes next point
-        (inl (record {
-          below = names.pending pending;
-          pending = pending_vote o.pair o.union.book.complete plan.cut ((run.engines e).cuts plan.cut.epoch) names.cut is;
-        }))
-
-    pub plan_proposed : IsPlan o.union o.pair plan → IsOwnProposal run e t plan.cut
-    plan_proposed is = ⊎_elim
-        (λ pending. pending_proposed pending.0 pending.1 (pending_next o.pair o.union.book.complete plan.cut pending.1))
-        (λ own. own_proposed own.0 own.1 own.2)
-        is
+  pub plan_proposed : IsPlan o.union o.pair plan → IsOwnProposal run e t plan.cut
+  plan_proposed is = ⊎_elim
+      (λ pending. pending_proposed pending.0 pending.1 (pending_next o.pair o.union.book.complete plan.cut pending.1))
+      (λ own. own_proposed own.0 own.1 own.2)
+      is

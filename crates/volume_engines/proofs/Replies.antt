@@ -1,5 +1,5 @@
 -- What a reply says of the request that it answers, and of the node that gave it.
-use Rattle.std.proofs.Common.{◌≡◌, ℕ, ⊎_elim, Option, sym, ◌∙◌, subst, ap}
+use Rattle.std.proofs.Common.{◌≡◌, ℕ, ⊎_elim, IsTrue, Option, sym, ◌∙◌, subst, ap}
 use Rattle.replica.specs.declared.requests.Request.{Request as SegmentRequest}
 use Rattle.replica.specs.declared.replies.Reply.{Reply as SegmentReply}
 use Rattle.replica.specs.Machine.{IsReply}
@@ -53,6 +53,48 @@ fenced_says old (request.Admit asked) generation birth accepted new says = ⊎_e
 fenced_says old (request.Plain asked) generation birth accepted new says = ⊎_elim
     (λ no. let clash : reply.Fenced generation birth accepted ≡ reply.Member = no.2 in absurd (cc))
     (λ yes. let clash : reply.Fenced generation birth accepted ≡ reply.Plain yes.2.0 = yes.2.2 in absurd (cc))
+    says
+
+-- ---- `fresh`
+fresh_name : (g : GuardData) (birth : ℕ) → NamesNode g (reply.Fresh birth) → ¬ (IsTrue g.is_member) × (birth ≡ g.birth)
+fresh_name g birth names = ⊎_elim
+    (λ member. let no : reply.Fresh birth ≡ reply.Stale g.generation = member.1 in absurd (cc))
+    (λ fresh. let told : reply.Fresh birth ≡ reply.Fresh g.birth = fresh.1 in (fresh.0, let same : birth ≡ g.birth = cc in same))
+    names
+
+-- the node is no member, and the birth is its own
+pub fresh_says : (old : GuardData) (asked : Request) (birth : ℕ) (new : GuardData) → IsGuardReply old asked (reply.Fresh birth) new
+    → ¬ (IsTrue old.is_member) × (birth ≡ old.birth)
+fresh_says old request.Status birth new says =
+    let no : reply.Fresh birth ≡ reply.Status old.generation old.birth old.is_member says.0 old.accepted = says.2 in absurd (cc)
+fresh_says old (request.Fence g) birth new says = ⊎_elim
+    (λ yes. let clash : reply.Fresh birth ≡ reply.Fenced g old.birth old.accepted = yes.1 in absurd (cc))
+    (λ no. fresh_name old birth no.1.0)
+    says
+fresh_says old (request.As g b asked) birth new says = ⊎_elim
+    (λ no. let clash : reply.Fresh birth ≡ reply.Unguarded = no.1 in absurd (cc))
+    (λ may. ⊎_elim
+    (λ yes. let clash : reply.Fresh birth ≡ reply.Headed g b yes.3.0 = yes.3.2 in absurd (cc))
+    (λ no. fresh_name old birth no.2.0)
+    may)
+    says
+fresh_says old (request.Propose g b cut) birth new says = ⊎_elim
+    (λ yes. let clash : reply.Fresh birth ≡ reply.Accepted g b cut.epoch = yes.2 in absurd (cc))
+    (λ no. fresh_name old birth no.1.0)
+    says
+fresh_says old (request.Admit asked) birth new says = ⊎_elim
+    (λ no. let clash : reply.Fresh birth ≡ reply.Member = no.1 in absurd (cc))
+    (λ out. ⊎_elim
+    (λ no. let clash : reply.Fresh birth ≡ reply.Stranger old.birth = no.2 in absurd (cc))
+    (λ known. ⊎_elim
+    (λ yes. let clash : reply.Fresh birth ≡ reply.Admitted asked.generation old.birth = yes.1 in absurd (cc))
+    (λ no. let clash : reply.Fresh birth ≡ reply.Behind known.2.0.epoch known.2.0.complete = no.1 in absurd (cc))
+    known.2.2)
+    out)
+    says
+fresh_says old (request.Plain asked) birth new says = ⊎_elim
+    (λ no. let clash : reply.Fresh birth ≡ reply.Member = no.2 in absurd (cc))
+    (λ yes. let clash : reply.Fresh birth ≡ reply.Plain yes.2.0 = yes.2.2 in absurd (cc))
     says
 
 -- ---- what a replica replied

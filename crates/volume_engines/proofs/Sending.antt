@@ -1,10 +1,11 @@
 -- What an engine may have sent.
-use Rattle.std.proofs.Common.{◌≡◌, ℕ, zero, suc, ◌+◌, ◌≤◌, List, [], ◌∷◌, ◌++◌, map, Option, Some, None}
+use Rattle.std.proofs.Common.{◌≡◌, ℕ, zero, suc, ◌+◌, ◌≤◌, List, [], ◌∷◌, ◌++◌, map, Option, Some, None, refl, arith}
 use Rattle.std.specs.List.{AllByRecursion}
 use Rattle.redo_core.specs.Data.{CutData}
 use Rattle.redo_core.specs.declared.facts.Fact.{Fact}
 use Rattle.redo_core.specs.declared.facts.Fact.TheVariants.{Cut}
 use Rattle.messages.specs.Summaries.{SummaryData}
+use Rattle.messages.specs.Deltas.{DeltaData}
 use Rattle.replica.specs.declared.requests.Request.{Request as SegmentRequest}
 use Rattle.replica.specs.declared.requests.Request.TheVariants as segment
 use Rattle.guard.specs.declared.requests.Request.{Request}
@@ -13,13 +14,17 @@ use Rattle.volume.specs.declared.actions.Action.{Action}
 use Rattle.volume.specs.declared.actions.Action.TheVariants.{Ask, Opened}
 use Rattle.volume.specs.declared.errands.Errand.{Errand}
 use Rattle.volume.specs.declared.errands.Errand.TheVariants as errand
+use Rattle.volume.specs.declared.errands.Joining.{Joining}
 use Rattle.volume.specs.declared.errands.Query.{Query}
 use Rattle.volume.specs.declared.errands.Query.TheVariants as query
 use Rattle.volume.specs.Asking.{requests_of, asks_of, asks_from, asks_at, request_of_query, queries_from, query_to}
+use Rattle.volume.specs.Sets.{birth_at}
 use Rattle.volume_theorems.specs.Runs.{VolumeRun}
 use Rattle.volume_theorems.specs.Opening.{HasAsked, IsCutSent}
 use Rattle.volume_theorems.specs.ByMoment.{HasOpenedBy}
 use Rattle.volume_theorems.specs.Proposing.{MayPropose}
+use Rattle.volume_logs.specs.Histories.{History}
+use Rattle.volume_engines.proofs.Admissions.{IsAdmission, joining_as}
 
 -- ---- what holds of each request that engine e sends at the moment t
 abbrev pub IsOwnProposal : VolumeRun → ℕ → ℕ → CutData → Type 0
@@ -40,31 +45,34 @@ RightUnder run e Q t segment.Ask = Unit {0}
 RightUnder run e Q t (segment.Absorb summary delta) = Unit {0}
 RightUnder run e Q t asked = ⊥
 
-abbrev pub Right : VolumeRun → ℕ → (SummaryData → Type 0) → ℕ → Request → Type 0
-Right run e Q t (request.As generation birth asked) = RightUnder run e Q t asked
-Right run e Q t (request.Propose generation birth cut) = IsOwnProposal run e t cut
-Right run e Q t asked = Unit {0}
+abbrev pub Right : VolumeRun → History → ℕ → (SummaryData → Type 0) → ℕ → ℕ → Request → Type 0
+Right run h e Q t node (request.As generation birth asked) = RightUnder run e Q t asked
+Right run h e Q t node (request.Propose generation birth cut) = IsOwnProposal run e t cut
+Right run h e Q t node (request.Admit asked) = IsAdmission run h e t node asked
+Right run h e Q t node asked = Unit {0}
 
 -- the engine has opened the epoch of its own truncation, at the point that this keeps
 abbrev pub HasOpenedAt : VolumeRun → ℕ → ℕ → ℕ → ℕ → Type 0
 HasOpenedAt run e t epoch point = HasOpenedBy run t e epoch × (point ≡ ((run.engines e).cuts epoch).lo)
 
-abbrev pub RightAction : VolumeRun → ℕ → (SummaryData → Type 0) → ℕ → Action → Type 0
-RightAction run e Q t (Ask node asked) = Right run e Q t asked
-RightAction run e Q t (Opened epoch point header) = HasOpenedAt run e t epoch point
-RightAction run e Q t other = Unit {0}
+abbrev pub RightAction : VolumeRun → History → ℕ → (SummaryData → Type 0) → ℕ → Action → Type 0
+RightAction run h e Q t (Ask node asked) = Right run h e Q t node asked
+RightAction run h e Q t (Opened epoch point header) = HasOpenedAt run e t epoch point
+RightAction run h e Q t other = Unit {0}
 
-abbrev pub AllRight : VolumeRun → ℕ → (SummaryData → Type 0) → ℕ → List Action → Type 0
-AllRight run e Q t actions = AllByRecursion (RightAction run e Q t) actions
+abbrev pub AllRight : VolumeRun → History → ℕ → (SummaryData → Type 0) → ℕ → List Action → Type 0
+AllRight run h e Q t actions = AllByRecursion (RightAction run h e Q t) actions
 
-abbrev pub RightErrand : VolumeRun → ℕ → (SummaryData → Type 0) → ℕ → Errand → Type 0
-RightErrand run e Q t (errand.Pull summary) = Q summary × ((run.engines e).gathered ≤ t)
-RightErrand run e Q t (errand.Push summary delta) = HasAsked run e t
-RightErrand run e Q t (errand.Propose cut) = IsOwnProposal run e t cut
-RightErrand run e Q t (errand.Begin cut) = HasAsked run e t × IsCutSent run t cut
-RightErrand run e Q t (errand.Close redo) = HasAsked run e t
-RightErrand run e Q t errand.Report = HasAsked run e t
-RightErrand run e Q t other = Unit {0}
+abbrev pub RightErrand : VolumeRun → History → ℕ → (SummaryData → Type 0) → ℕ → Errand → Type 0
+RightErrand run h e Q t (errand.Pull summary) = Q summary × ((run.engines e).gathered ≤ t)
+RightErrand run h e Q t (errand.Push summary delta) = HasAsked run e t
+RightErrand run h e Q t (errand.Propose cut) = IsOwnProposal run e t cut
+RightErrand run h e Q t (errand.Begin cut) = HasAsked run e t × IsCutSent run t cut
+RightErrand run h e Q t (errand.Close redo) = HasAsked run e t
+RightErrand run h e Q t errand.Report = HasAsked run e t
+RightErrand run h e Q t errand.Found = ⊥
+RightErrand run h e Q t (errand.Join summary delta joining) = ⊥
+RightErrand run h e Q t other = Unit {0}
 
 -- ---- other summaries
 under_wider : (run : VolumeRun) (e : ℕ) (Q R : SummaryData → Type 0) (t : ℕ) → ((s : SummaryData) → Q s → R s) → (asked : SegmentRequest)
@@ -76,73 +84,90 @@ under_wider run e Q R t wider segment.Ask is = is
 under_wider run e Q R t wider (segment.Absorb summary delta) is = is
 under_wider run e Q R t wider asked is = absurd is
 
-right_wider : (run : VolumeRun) (e : ℕ) (Q R : SummaryData → Type 0) (t : ℕ) → ((s : SummaryData) → Q s → R s) → (asked : Request)
-    → Right run e Q t asked → Right run e R t asked
-right_wider run e Q R t wider (request.As generation birth asked) is = under_wider run e Q R t wider asked is
-right_wider run e Q R t wider (request.Propose generation birth cut) is = is
-right_wider run e Q R t wider asked is = tt
+right_wider : (run : VolumeRun) (h : History) (e : ℕ) (Q R : SummaryData → Type 0) (t : ℕ) → ((s : SummaryData) → Q s → R s) → (node : ℕ) (asked : Request)
+    → Right run h e Q t node asked → Right run h e R t node asked
+right_wider run h e Q R t wider node (request.As generation birth asked) is = under_wider run e Q R t wider asked is
+right_wider run h e Q R t wider node (request.Propose generation birth cut) is = is
+right_wider run h e Q R t wider node (request.Admit asked) is = is
+right_wider run h e Q R t wider node asked is = tt
 
-action_wider : (run : VolumeRun) (e : ℕ) (Q R : SummaryData → Type 0) (t : ℕ) → ((s : SummaryData) → Q s → R s) → (a : Action)
-    → RightAction run e Q t a → RightAction run e R t a
-action_wider run e Q R t wider (Ask node asked) is = right_wider run e Q R t wider asked is
-action_wider run e Q R t wider (Opened epoch point header) is = is
-action_wider run e Q R t wider other is = tt
+action_wider : (run : VolumeRun) (h : History) (e : ℕ) (Q R : SummaryData → Type 0) (t : ℕ) → ((s : SummaryData) → Q s → R s) → (a : Action)
+    → RightAction run h e Q t a → RightAction run h e R t a
+action_wider run h e Q R t wider (Ask node asked) is = right_wider run h e Q R t wider node asked is
+action_wider run h e Q R t wider (Opened epoch point header) is = is
+action_wider run h e Q R t wider other is = tt
 
-pub all_wider : (run : VolumeRun) (e : ℕ) (Q R : SummaryData → Type 0) (t : ℕ) → ((s : SummaryData) → Q s → R s) → (actions : List Action)
-    → AllRight run e Q t actions → AllRight run e R t actions
-all_wider run e Q R t wider [] all = tt
-all_wider run e Q R t wider (a ∷ actions) all = (action_wider run e Q R t wider a all.0, all_wider run e Q R t wider actions all.1)
+pub all_wider : (run : VolumeRun) (h : History) (e : ℕ) (Q R : SummaryData → Type 0) (t : ℕ) → ((s : SummaryData) → Q s → R s) → (actions : List Action)
+    → AllRight run h e Q t actions → AllRight run h e R t actions
+all_wider run h e Q R t wider [] all = tt
+all_wider run h e Q R t wider (a ∷ actions) all = (action_wider run h e Q R t wider a all.0, all_wider run h e Q R t wider actions all.1)
 
 -- ---- lists of requests
 pub all_append : {X : Type 0} (P : X → Type 0) (xs ys : List X) → AllByRecursion P xs → AllByRecursion P ys → AllByRecursion P (xs ++ ys)
 all_append P [] ys one two = two
 all_append P (x ∷ xs) ys one two = (one.0, all_append P xs ys one.1 two)
 
-requests_right : (run : VolumeRun) (e : ℕ) (Q : SummaryData → Type 0) (t generation birth : ℕ) (er : Errand) → RightErrand run e Q t er
-    → AllByRecursion (Right run e Q t) (requests_of generation birth er)
-requests_right run e Q t generation birth (errand.Pull summary) is = (is, tt)
-requests_right run e Q t generation birth errand.Ask is = (tt, tt)
-requests_right run e Q t generation birth (errand.Push summary delta) is = (tt, (is, tt))
-requests_right run e Q t generation birth (errand.Propose cut) is = (is, tt)
-requests_right run e Q t generation birth (errand.Begin cut) is = (is.1, (is.0, tt))
-requests_right run e Q t generation birth (errand.Store redo) is = (tt, tt)
-requests_right run e Q t generation birth (errand.Close redo) is = (tt, (is, tt))
-requests_right run e Q t generation birth (errand.Raise advance) is = (tt, tt)
-requests_right run e Q t generation birth errand.Report is = (is, tt)
-requests_right run e Q t generation birth errand.Found is = (tt, tt)
-requests_right run e Q t generation birth (errand.Join summary delta joining) is = (tt, (tt, tt))
+requests_right : (run : VolumeRun) (h : History) (e : ℕ) (Q : SummaryData → Type 0) (t node generation birth : ℕ) (er : Errand) → RightErrand run h e Q t er
+    → AllByRecursion (Right run h e Q t node) (requests_of generation birth er)
+requests_right run h e Q t node generation birth (errand.Pull summary) is = (is, tt)
+requests_right run h e Q t node generation birth errand.Ask is = (tt, tt)
+requests_right run h e Q t node generation birth (errand.Push summary delta) is = (tt, (is, tt))
+requests_right run h e Q t node generation birth (errand.Propose cut) is = (is, tt)
+requests_right run h e Q t node generation birth (errand.Begin cut) is = (is.1, (is.0, tt))
+requests_right run h e Q t node generation birth (errand.Store redo) is = (tt, tt)
+requests_right run h e Q t node generation birth (errand.Close redo) is = (tt, (is, tt))
+requests_right run h e Q t node generation birth (errand.Raise advance) is = (tt, tt)
+requests_right run h e Q t node generation birth errand.Report is = (is, tt)
+requests_right run h e Q t node generation birth errand.Found is = absurd is
+requests_right run h e Q t node generation birth (errand.Join summary delta joining) is = absurd is
 
-sent_to : (run : VolumeRun) (e : ℕ) (Q : SummaryData → Type 0) (t node : ℕ) (rs : List Request) → AllByRecursion (Right run e Q t) rs
-    → AllRight run e Q t (map (λ r. Ask node r) rs)
-sent_to run e Q t node [] all = tt
-sent_to run e Q t node (r ∷ rs) all = (all.0, sent_to run e Q t node rs all.1)
+sent_to : (run : VolumeRun) (h : History) (e : ℕ) (Q : SummaryData → Type 0) (t node : ℕ) (rs : List Request) → AllByRecursion (Right run h e Q t node) rs
+    → AllRight run h e Q t (map (λ r. Ask node r) rs)
+sent_to run h e Q t node [] all = tt
+sent_to run h e Q t node (r ∷ rs) all = (all.0, sent_to run h e Q t node rs all.1)
 
-pub to_node : (run : VolumeRun) (e : ℕ) (Q : SummaryData → Type 0) (t node generation birth : ℕ) (er : Errand) → RightErrand run e Q t er
-    → AllRight run e Q t (asks_of node generation birth er)
-to_node run e Q t node generation birth er is =
-    sent_to run e Q t node (requests_of generation birth er) (requests_right run e Q t generation birth er is)
+pub to_node : (run : VolumeRun) (h : History) (e : ℕ) (Q : SummaryData → Type 0) (t node generation birth : ℕ) (er : Errand) → RightErrand run h e Q t er
+    → AllRight run h e Q t (asks_of node generation birth er)
+to_node run h e Q t node generation birth er is =
+    sent_to run h e Q t node (requests_of generation birth er) (requests_right run h e Q t node generation birth er is)
 
-pub to_each : (run : VolumeRun) (e : ℕ) (Q : SummaryData → Type 0) (t node generation : ℕ) (births : List (Option ℕ)) (er : Errand)
-    → RightErrand run e Q t er → AllRight run e Q t (asks_from generation er node births)
-to_each run e Q t node generation [] er is = tt
-to_each run e Q t node generation (None ∷ births) er is = to_each run e Q t (node + 1) generation births er is
-to_each run e Q t node generation (Some birth ∷ births) er is =
-    all_append (RightAction run e Q t) (asks_of node generation birth er) (asks_from generation er (node + 1) births)
-    (to_node run e Q t node generation birth er is) (to_each run e Q t (node + 1) generation births er is)
+pub to_each : (run : VolumeRun) (h : History) (e : ℕ) (Q : SummaryData → Type 0) (t node generation : ℕ) (births : List (Option ℕ)) (er : Errand)
+    → RightErrand run h e Q t er → AllRight run h e Q t (asks_from generation er node births)
+to_each run h e Q t node generation [] er is = tt
+to_each run h e Q t node generation (None ∷ births) er is = to_each run h e Q t (node + 1) generation births er is
+to_each run h e Q t node generation (Some birth ∷ births) er is =
+    all_append (RightAction run h e Q t) (asks_of node generation birth er) (asks_from generation er (node + 1) births)
+    (to_node run h e Q t node generation birth er is) (to_each run h e Q t (node + 1) generation births er is)
 
-pub to_one : (run : VolumeRun) (e : ℕ) (Q : SummaryData → Type 0) (t node generation : ℕ) (birth : Option ℕ) (er : Errand)
-    → RightErrand run e Q t er → AllRight run e Q t (asks_at generation er node birth)
-to_one run e Q t node generation None er is = tt
-to_one run e Q t node generation (Some birth) er is = to_node run e Q t node generation birth er is
+pub to_one : (run : VolumeRun) (h : History) (e : ℕ) (Q : SummaryData → Type 0) (t node generation : ℕ) (birth : Option ℕ) (er : Errand)
+    → RightErrand run h e Q t er → AllRight run h e Q t (asks_at generation er node birth)
+to_one run h e Q t node generation None er is = tt
+to_one run h e Q t node generation (Some birth) er is = to_node run h e Q t node generation birth er is
+
+-- ---- admissions
+-- each node of the table is asked to become a member
+pub joins_each : (run : VolumeRun) (h : History) (e : ℕ) (Q : SummaryData → Type 0) (t node generation : ℕ) (births : List (Option ℕ)) (summary : SummaryData)
+    (delta : DeltaData) (joining : Joining)
+    → ((i at b : ℕ) → at ≡ node + i → birth_at births i ≡ Some b → IsAdmission run h e t at (joining_as generation b joining))
+    → AllRight run h e Q t (asks_from generation (errand.Join summary delta joining) node births)
+joins_each run h e Q t node generation [] summary delta joining each = tt
+joins_each run h e Q t node generation (None ∷ births) summary delta joining each =
+    joins_each run h e Q t (node + 1) generation births summary delta joining
+    (λ i at b is has. each (suc i) at b (omega (arith, is)) has)
+joins_each run h e Q t node generation (Some birth ∷ births) summary delta joining each =
+    all_append (RightAction run h e Q t) (asks_of node generation birth (errand.Join summary delta joining))
+    (asks_from generation (errand.Join summary delta joining) (node + 1) births) (tt, (each 0 node birth (omega arith) refl, tt))
+    (joins_each run h e Q t (node + 1) generation births summary delta joining
+    (λ i at b is has. each (suc i) at b (omega (arith, is)) has))
 
 -- ---- queries
-query_right : (run : VolumeRun) (e : ℕ) (Q : SummaryData → Type 0) (t : ℕ) (q : Query) → Right run e Q t (request_of_query q)
-query_right run e Q t query.Status = tt
-query_right run e Q t (query.Fence generation) = tt
+query_right : (run : VolumeRun) (h : History) (e : ℕ) (Q : SummaryData → Type 0) (t node : ℕ) (q : Query) → Right run h e Q t node (request_of_query q)
+query_right run h e Q t node query.Status = tt
+query_right run h e Q t node (query.Fence generation) = tt
 
-pub query_one : (run : VolumeRun) (e : ℕ) (Q : SummaryData → Type 0) (t node : ℕ) (q : Query) → AllRight run e Q t (query_to q node)
-query_one run e Q t node q = (query_right run e Q t q, tt)
+pub query_one : (run : VolumeRun) (h : History) (e : ℕ) (Q : SummaryData → Type 0) (t node : ℕ) (q : Query) → AllRight run h e Q t (query_to q node)
+query_one run h e Q t node q = (query_right run h e Q t node q, tt)
 
-pub queries_each : (run : VolumeRun) (e : ℕ) (Q : SummaryData → Type 0) (t node count : ℕ) (q : Query) → AllRight run e Q t (queries_from q node count)
-queries_each run e Q t node zero q = tt
-queries_each run e Q t node (suc count) q = (query_right run e Q t q, queries_each run e Q t (node + 1) count q)
+pub queries_each : (run : VolumeRun) (h : History) (e : ℕ) (Q : SummaryData → Type 0) (t node count : ℕ) (q : Query) → AllRight run h e Q t (queries_from q node count)
+queries_each run h e Q t node zero q = tt
+queries_each run h e Q t node (suc count) q = (query_right run h e Q t node q, queries_each run h e Q t (node + 1) count q)

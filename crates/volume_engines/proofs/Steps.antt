@@ -45,7 +45,10 @@ use Rattle.volume_engines.specs.Lives.{Life, Guards, WasGiven, MayHappen}
 use Rattle.volume_engines.specs.Engines.{fenced_in, fenced_at, fenced_by, Gathers}
 use Rattle.volume_engines.specs.Proposed.{IsPlanOf, IsPlanIn}
 use Rattle.volume_engines.specs.Proposals.{IsLifeIn, ProposalsKeepRules}
+use Rattle.volume_engines.specs.Admitted.{AdmissionsKeepRules}
 use Rattle.volume_engines.specs.Openings.{IsOpening, TakesKeepRules, OpeningsAreDurable}
+use Rattle.volume_engines.proofs.Tables.{no_birth}
+use Rattle.volume_engines.proofs.Admissions.{fresh_later, none_fresh, admits_later}
 use Rattle.volume_engines.proofs.Sending.{IsOwnProposal, HasOpenedAt, RightAction, AllRight, all_wider, queries_each}
 use Rattle.volume_engines.proofs.Knowing.{pair_at, KnowsFencing, KnowsOpening, KnowsOpen, KnowsPhase, Allowed, Leaves, LeavesTurn}
 use Rattle.volume_engines.proofs.OrderedSteps.{plans_in_order}
@@ -79,11 +82,6 @@ fenced_not : (told : Reply) (own at before : ℕ) → fenced_in told own false a
 fenced_not (reply.Fenced generation birth accepted) own at before = refl
 fenced_not told own at before = refl
 
-no_birth : (n i : ℕ) → birth_at (replicate n None) i ≡ None
-no_birth zero i = refl
-no_birth (suc n) zero = refl
-no_birth (suc n) (suc i) = no_birth n i
-
 no_pair : (n i : ℕ) → pair_at (replicate n None) i ≡ None
 no_pair zero i = refl
 no_pair (suc n) zero = refl
@@ -96,7 +94,7 @@ module _ (run : VolumeRun) (h : History) (stop : ℕ) (content : ReplicaData →
     pub settings : v.settings ≡ (life.states 0).settings
     pub generation : v.generation ≡ life.generation
     pub knows : KnowsPhase run h guards e life n v.phase
-    pub sent : (m : ℕ) → m < suc n → AllRight run e (Allowed v.phase) (life.moments m) (life.actions m)
+    pub sent : (m : ℕ) → m < suc n → AllRight run h e (Allowed v.phase) (life.moments m) (life.actions m)
 
   module _ (n : ℕ) (step : suc n < count) (old new : VolumeData) (k : Knows n old) where
     in_time : life.moments n ≤ life.moments (suc n)
@@ -105,17 +103,17 @@ module _ (run : VolumeRun) (h : History) (stop : ℕ) (content : ReplicaData →
     -- ---- a step that leads to a phase
     leads : (p q : Phase) → old.phase ≡ p → new ≡ at_phase old q → Leaves run h guards e life (suc n) p q (life.actions (suc n)) → Knows (suc n) new
     leads p q from same leaves =
-        let before : (m : ℕ) → m < suc n → AllRight run e (Allowed p) (life.moments m) (life.actions m) =
-        subst (λ (x : Phase). (m : ℕ) → m < suc n → AllRight run e (Allowed x) (life.moments m) (life.actions m)) from k.sent in
+        let before : (m : ℕ) → m < suc n → AllRight run h e (Allowed p) (life.moments m) (life.actions m) =
+        subst (λ (x : Phase). (m : ℕ) → m < suc n → AllRight run h e (Allowed x) (life.moments m) (life.actions m)) from k.sent in
         let after : Knows (suc n) (at_phase old q) = record {
           settings = k.settings;
           generation = k.generation;
           knows = leaves.knows;
           sent = λ m within. ⊎_elim
               (λ (now : m ≡ suc n).
-              subst (λ (x : ℕ). AllRight run e (Allowed q) (life.moments x) (life.actions x)) (sym now) leaves.right)
+              subst (λ (x : ℕ). AllRight run h e (Allowed q) (life.moments x) (life.actions x)) (sym now) leaves.right)
               (λ (early : m < suc n).
-              all_wider run e (Allowed p) (Allowed q) (life.moments m) leaves.wider (life.actions m) (before m early))
+              all_wider run h e (Allowed p) (Allowed q) (life.moments m) leaves.wider (life.actions m) (before m early))
               (let way : (m ≡ suc n) ⊎ (m < suc n) = grind (arith, within) in way);
         } in
         subst (λ (v : VolumeData). Knows (suc n) v) (sym same) after
@@ -140,15 +138,17 @@ module _ (run : VolumeRun) (h : History) (stop : ℕ) (content : ReplicaData →
     phase_later (phase.Fencing f) same knows = record {
       generation = knows.generation;
       table = table_stays_below run guards e life n in_time f.births f.pairs same knows.table;
+      fresh = fresh_later run (life.moments n) (life.moments (suc n)) f.fresh in_time knows.fresh;
     }
     phase_later (phase.Opening o) same knows = record {
       session = session_later run guards e life (life.moments n) (life.moments (suc n)) o.session in_time knows.session;
       best = knows.best;
+      fresh = knows.fresh;
       at = stage_later run h stop e (life.moments n) (life.moments (suc n)) is.emitted in_time (is.upto (suc n) step) o.union o.pair o.stage knows.at;
     }
     phase_later (phase.Open w) same knows = open_later run e (life.moments n) (life.moments (suc n)) w in_time knows
 
-    unchanged : (actions : List Action) → SameBelow → life.actions (suc n) ≡ actions → AllRight run e (Allowed old.phase) (life.moments (suc n)) actions
+    unchanged : (actions : List Action) → SameBelow → life.actions (suc n) ≡ actions → AllRight run h e (Allowed old.phase) (life.moments (suc n)) actions
         → new ≡ old → Knows (suc n) new
     unchanged actions same asks right stays =
         leads old.phase old.phase refl stays
@@ -169,7 +169,7 @@ module _ (run : VolumeRun) (h : History) (stop : ℕ) (content : ReplicaData →
     -- ---- calls
     calls_open : (does : Writing → List Action → Writing → Type 0) (p : Phase) → old.phase ≡ p → SameBelow
         → ((w after : Writing) → HasAsked run e (life.moments (suc n)) → does w (life.actions (suc n)) after
-        → (after.cut ≡ w.cut) × AllRight run e (λ s. Unit {0}) (life.moments (suc n)) (life.actions (suc n)))
+        → (after.cut ≡ w.cut) × AllRight run h e (λ s. Unit {0}) (life.moments (suc n)) (life.actions (suc n)))
         → CallsOpen does old p (life.actions (suc n)) new → Knows (suc n) new
     calls_open does (phase.Open w) from same right says =
         let known : KnowsOpen run e (life.moments (suc n)) w = open_known w from in
@@ -202,13 +202,14 @@ module _ (run : VolumeRun) (h : History) (stop : ℕ) (content : ReplicaData →
     knows_of : (p : Phase) → old.phase ≡ p → KnowsPhase run h guards e life n p
     knows_of p from = subst (λ (x : Phase). KnowsPhase run h guards e life n x) from k.knows
 
-    sent_of : (p : Phase) → old.phase ≡ p → (m : ℕ) → m < suc n → AllRight run e (Allowed p) (life.moments m) (life.actions m)
-    sent_of p from = subst (λ (x : Phase). (m : ℕ) → m < suc n → AllRight run e (Allowed x) (life.moments m) (life.actions m)) from k.sent
+    sent_of : (p : Phase) → old.phase ≡ p → (m : ℕ) → m < suc n → AllRight run h e (Allowed p) (life.moments m) (life.actions m)
+    sent_of p from = subst (λ (x : Phase). (m : ℕ) → m < suc n → AllRight run h e (Allowed x) (life.moments m) (life.actions m)) from k.sent
 
     opening_later : (o : Opening) → KnowsOpening run h guards e life (life.moments n) o → KnowsOpening run h guards e life (life.moments (suc n)) o
     opening_later o knows = record {
       session = session_later run guards e life (life.moments n) (life.moments (suc n)) o.session in_time knows.session;
       best = knows.best;
+      fresh = knows.fresh;
       at = stage_later run h stop e (life.moments n) (life.moments (suc n)) is.emitted in_time (is.upto (suc n) step) o.union o.pair o.stage knows.at;
     }
 
@@ -333,6 +334,7 @@ module _ (run : VolumeRun) (h : History) (stop : ℕ) (content : ReplicaData →
       fenced = λ i b has. let no : None ≡ Some b = sym (no_birth 15 i) ∙ has in absurd (cc);
       lone = λ i none. no_pair 15 i;
     };
+    fresh = none_fresh run (life.moments 0);
   }
 
   first : 0 < count → Knows 0 (life.states 1)
@@ -345,16 +347,16 @@ module _ (run : VolumeRun) (h : History) (stop : ℕ) (content : ReplicaData →
       let above : (life.states 0).generation < life.generation = is.lives.above in
       absurd (omega arith))
       (λ up.
-      let right : AllRight run e (λ s. ⊥) (life.moments 0) (life.actions 0) =
-      subst (λ (xs : List Action). AllRight run e (λ s. ⊥) (life.moments 0) xs) (sym up.1)
-      (queries_each run e (λ s. ⊥) (life.moments 0) 0 (life.states 0).settings.nodes (Fence life.generation)) in
+      let right : AllRight run h e (λ s. ⊥) (life.moments 0) (life.actions 0) =
+      subst (λ (xs : List Action). AllRight run h e (λ s. ⊥) (life.moments 0) xs) (sym up.1)
+      (queries_each run h e (λ s. ⊥) (life.moments 0) 0 (life.states 0).settings.nodes (Fence life.generation)) in
       let knows : Knows 0 (volume_of (life.states 0).settings life.generation (phase.Fencing (new_fencing life.generation))) = record {
         settings = refl;
         generation = refl;
         knows = fresh_table;
         sent = λ m within.
             let zeroth : 0 ≡ m = omega arith in
-            subst (λ (x : ℕ). AllRight run e (λ s. ⊥) (life.moments x) (life.actions x)) zeroth right;
+            subst (λ (x : ℕ). AllRight run h e (λ s. ⊥) (life.moments x) (life.actions x)) zeroth right;
       } in
       subst (λ (v : VolumeData). Knows 0 v) (sym up.2) knows)
       starts
@@ -366,11 +368,11 @@ module _ (run : VolumeRun) (h : History) (stop : ℕ) (content : ReplicaData →
       (is.lives.heard n step) (is.lives.steps (suc n) step)
 
   -- what holds of an action of a step
-  right_action : (n : ℕ) (a : Action) → n < count → Contains (life.actions n) a → RightAction run e (Allowed (life.states (suc n)).phase) (life.moments n) a
+  right_action : (n : ℕ) (a : Action) → n < count → Contains (life.actions n) a → RightAction run h e (Allowed (life.states (suc n)).phase) (life.moments n) a
   right_action n a within inside =
       let k : Knows n (life.states (suc n)) = known n within in
       let Q : SummaryData → Type 0 = Allowed (life.states (suc n)).phase in
-      each (RightAction run e Q (life.moments n)) (life.actions n) a (k.sent n (omega arith)) inside
+      each (RightAction run h e Q (life.moments n)) (life.actions n) a (k.sent n (omega arith)) inside
 
   pub proposed : (n node generation birth t : ℕ) (cut : CutData) → n < count → Contains (life.actions n) (Ask node (request.Propose generation birth cut))
       → life.moments n ≤ t → IsOwnProposal run e t cut
@@ -382,7 +384,7 @@ module _ (run : VolumeRun) (h : History) (stop : ℕ) (content : ReplicaData →
   taken n node generation birth t cut within inside order =
       sent_later run (life.moments n) t cut order (right_action n (Ask node (request.As generation birth (segment.Take (Cut cut)))) within inside)
 
-  opening_right : (Q : SummaryData → Type 0) (t : ℕ) (a : Action) (epoch point : ℕ) → RightAction run e Q t a → IsOpening a epoch point
+  opening_right : (Q : SummaryData → Type 0) (t : ℕ) (a : Action) (epoch point : ℕ) → RightAction run h e Q t a → IsOpening a epoch point
       → HasOpenedAt run e t epoch point
   opening_right Q t (Opened k p header) epoch point right is =
       subst (λ (x : ℕ). HasOpenedAt run e t epoch x) is.1 (subst (λ (x : ℕ). HasOpenedAt run e t x p) is.0 right)
@@ -395,6 +397,11 @@ module _ (run : VolumeRun) (h : History) (stop : ℕ) (content : ReplicaData →
       let at : HasOpenedAt run e t epoch point =
       opened_later run e (life.moments n) t epoch point order (opening_right Q (life.moments n) a epoch point (right_action n a within inside) is_opening) in
       (at.0, inl at.1)
+
+pub admissions_keep_rules : AdmissionsKeepRules
+admissions_keep_rules run h stop content guards e life count is n node t asked within inside order upto =
+    admits_later run h stop content guards e (life.moments n) t node asked is.follows is.emitted is.guarded order upto
+    (right_action run h stop content guards e life count is n (Ask node (request.Admit asked)) within inside)
 
 pub takes_keep_rules : TakesKeepRules
 takes_keep_rules run h stop content guards e life count is n node generation birth t cut within inside order =

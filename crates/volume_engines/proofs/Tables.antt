@@ -16,6 +16,14 @@ put_there xs node i x d within same = ap (λ (k : ℕ). slice_index_or (slice_se
 pub put_elsewhere : {X : Type 0} (xs : List X) (node i : ℕ) (x d : X) → i ≢ node → slice_index_or (slice_set xs node x) i d ≡ slice_index_or xs i d
 put_elsewhere xs node i x d apart = get_or-set_other xs node i x d apart
 
+pub no_birth : (n i : ℕ) → birth_at (replicate n None) i ≡ None
+no_birth zero i = refl
+no_birth (suc n) zero = refl
+no_birth (suc n) (suc i) = no_birth n i
+
+pub some_same : {X : Type 0} (a b : X) → Some a ≡ Some b → a ≡ b
+some_same a b same = cc
+
 -- ---- marks
 pub marked_has : (births : List (Option ℕ)) (i : ℕ) → is_marked (marks_of births) i ≡ true → (b : ℕ) × (birth_at births i ≡ Some b)
 marked_has [] i marked = absurd (let no : false ≡ true = marked in cc)

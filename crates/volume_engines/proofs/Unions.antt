@@ -4,7 +4,7 @@ use Rattle.std.specs.List.{Contains}
 use Rattle.redo_core.specs.Data.{RecordData, CutData}
 use Rattle.redo_core.specs.Order.{IsGreatest}
 use Rattle.redo_core.specs.Linked.{IsLinkedRecord}
-use Rattle.redo_core.specs.Position.{Position}
+use Rattle.redo_core.specs.Position.{Position, IsPosition}
 use Rattle.redo_core.specs.PageAt.{IsPageAt}
 use Rattle.redo_core.specs.Sound.{IsSound}
 use Rattle.redo_core.specs.declared.facts.Fact.{Fact}
@@ -15,7 +15,7 @@ use Rattle.redo_core.proofs.SoundFacts.{kept}
 use Rattle.log_theorems.proofs.Log.{IsLog, log_of_sound}
 use Rattle.segment_theorems.specs.State.{State}
 use Rattle.segment_theorems.specs.Means.{MeansAt}
-use Rattle.segment_theorems.specs.HasMeaning.{IsLinkedIn}
+use Rattle.segment_theorems.specs.HasMeaning.{IsLinkedIn, HasComplete}
 use Rattle.segment_theorems.specs.Shows.{Shows}
 use Rattle.segment_theorems.proofs.Own.{position_of}
 use Rattle.segment_theorems.proofs.Reading.{pages_law}
@@ -32,14 +32,30 @@ pub record IsLast (facts : List Fact) (k : ℕ) (cut : CutData) : Type 0 where
   pub last : (p : ℕ) → IsCommitPoint facts k p → p ≤ cut.lo
   pub hi : cut.lo ≤ cut.hi
 
+-- no commit point is above the complete point
+pub points_within : (readers : ℕ) (facts : List Fact) (p : Position) (n : ℕ) → IsPosition readers facts p → IsCommitPoint facts p.epoch n → n ≤ p.complete
+points_within readers facts p n position point = ⊎_elim
+    (λ (none : n ≡ 0). omega arith)
+    (λ (has : (r : RecordData) × IsLinkedRecord facts p.epoch r × (r.page ≡ 0) × (r.number ≡ n)).
+    let upto : has.0.number ≤ p.complete = position.complete.1 has.0.number has.1.linked in
+    let same : has.0.number ≡ n = has.3 in
+    omega arith)
+    point
+
+-- a state's own complete point is that of the facts that it means
+pub complete_is : (readers : ℕ) (log facts : List Fact) (p : Position) (s : State) (n : ℕ) → IsSound readers log → MeansAt readers log facts p s
+    → HasComplete s n → n ≡ p.complete
+complete_is readers log facts p s n sound means complete =
+    greatest_unique (IsLinkedIn s) (IsLinkedIn s) (λ m. (λ x. x, λ x. x)) n p.complete complete
+    (position_of log facts p s (log_of_sound readers log sound) means).complete
+
 module _ (readers : ℕ) (log facts : List Fact) (p : Position) (s : State) (cut : CutData) (sound : IsSound readers log) (means : MeansAt readers log facts p s)
     (own : IsOwnCut s cut) (leaves : (r : RecordData) → Contains log (Record r) → LeavesNumber r) where
   log_is : IsLog readers log
   log_is = log_of_sound readers log sound
 
   reached : own.front.complete ≡ p.complete
-  reached = greatest_unique (IsLinkedIn s) (IsLinkedIn s) (λ n. (λ x. x, λ x. x)) own.front.complete p.complete own.own.complete
-      (position_of log facts p s log_is means).complete
+  reached = complete_is readers log facts p s own.front.complete sound means own.own.complete
 
   anchor_low : p.anchor ≤ p.complete
   anchor_low = ⊎_elim

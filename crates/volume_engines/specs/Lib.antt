@@ -4,3 +4,4 @@ pub mod Proposed
 pub mod Engines
 pub mod Proposals
 pub mod Openings
+pub mod Admitted

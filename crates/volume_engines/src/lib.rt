@@ -2,6 +2,7 @@
 #![tactic(auto)]
 
 ghost use Rattle.volume_engines.specs.Proposed.{PlansInOrder};
+ghost use Rattle.volume_engines.specs.Admitted.{AdmissionsKeepRules};
 ghost use Rattle.volume_engines.specs.Openings.{OpeningsAreDurable, TakesKeepRules};
 ghost use Rattle.volume_engines.specs.Proposals.{ProposalsKeepRules};
 
@@ -18,6 +19,11 @@ pub fn proposals_keep_rules()
 /// Which truncations such a machine has nodes take: those that a quorum has accepted.
 pub fn takes_keep_rules()
     ensures { TakesKeepRules }
+{}
+
+/// Which nodes such a machine admits: those that the rules let its engine admit.
+pub fn admissions_keep_rules()
+    ensures { AdmissionsKeepRules }
 {}
 
 /// What such a machine reports as open is durable.
