@@ -1,5 +1,5 @@
 -- The admissions that an opening sends.
-use Rattle.std.proofs.Common.{◌≡◌, ℕ, ◌≤◌, List, [], Some, sym, ◌∙◌, subst, arith}
+use Rattle.std.proofs.Common.{◌≡◌, ℕ, ◌≤◌, [], Some, sym, ◌∙◌, subst, arith}
 use Rattle.std.specs.List.{Contains}
 use Rattle.redo_core.specs.Sets.{cuts}
 use Rattle.redo_core.proofs.CompleteEpochs.{one_complete_epoch}

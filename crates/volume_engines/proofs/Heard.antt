@@ -1,5 +1,5 @@
 -- What a reply that an engine counts says of the node that gave it.
-use Rattle.std.proofs.Common.{◌≡◌, ℕ, suc, ◌<◌, ◌≤◌, IsTrue, Some, sym, ◌∙◌, subst, ap, arith}
+use Rattle.std.proofs.Common.{◌≡◌, ℕ, suc, ◌<◌, ◌≤◌, IsTrue, sym, ◌∙◌, subst, ap, arith}
 use Rattle.redo_core.specs.Sound.{IsSound}
 use Rattle.redo_core.proofs.Members.{each}
 use Rattle.messages.specs.Summaries.{SummaryData}

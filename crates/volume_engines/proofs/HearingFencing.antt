@@ -96,7 +96,7 @@ module _ (run : VolumeRun) (h : History) (stop : ℕ) (content : ReplicaData →
   pulls f new (turn.Enter (phase.Opening o) actions) k enough names says =
       let asks : AllRight run h e (Allowed (phase.Opening o)) (life.moments (suc n)) actions.items =
       subst (λ (xs : List Action). AllRight run h e (Allowed (phase.Opening o)) (life.moments (suc n)) xs) (sym says.1)
-      (to_each run h e (Allowed (phase.Opening o)) (life.moments (suc n)) 0 new.generation new.births (Pull o.summary)
+      (to_each run h e (Allowed (phase.Opening o)) (life.moments (suc n)) 0 new.generation (is.names.generation ∙ sym k.generation) new.births (Pull o.summary)
       (refl, let at : (run.engines e).gathered ≡ life.moments (suc n) = (names o refl).gathered in omega arith)) in
       record {
         knows = begins_knowing run h stop content guards e life (suc n) s new o is.follows.overlap is.guarded (is.upto (suc n) step) quorum readers
@@ -181,5 +181,5 @@ module _ (run : VolumeRun) (h : History) (stop : ℕ) (content : ReplicaData →
       (λ idle. nothing_heard f t same k idle.1)
       (λ lost. goes_on f (without_node f node) t (query_to (Fence f.generation) node)
       (record { generation = k.generation; table = (stays_known f same k).table; fresh = (stays_known f same k).fresh })
-      (query_one run h e (Allowed (phase.Fencing (without_node f node))) (life.moments (suc n)) node (Fence f.generation)) lost.1)
+      (query_one run h e (Allowed (phase.Fencing (without_node f node))) (life.moments (suc n)) node (Fence f.generation) (is.names.generation ∙ sym k.generation)) lost.1)
       says

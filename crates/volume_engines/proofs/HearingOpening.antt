@@ -26,6 +26,7 @@ use Rattle.volume.specs.declared.errands.Errand.TheVariants as errand
 use Rattle.volume.specs.declared.errands.Query.TheVariants.{Fence}
 use Rattle.volume.specs.declared.phases.Opening.{Opening}
 use Rattle.volume.specs.declared.phases.Phase.TheVariants as phase
+use Rattle.volume.specs.declared.phases.Session.{Session}
 use Rattle.volume.specs.declared.phases.Stage.{Stage}
 use Rattle.volume.specs.declared.phases.Stage.TheVariants as stage
 use Rattle.volume.specs.declared.plans.Plan.{Plan}
@@ -50,7 +51,7 @@ use Rattle.volume_logs.proofs.Sound.{log_is_sound}
 use Rattle.volume_engines.specs.Lives.{Life, Guards, WasGiven}
 use Rattle.volume_engines.specs.Proposals.{IsLifeIn}
 use Rattle.volume_engines.proofs.Tables.{at_or_not, put_elsewhere, count_zero, none_marked, marked_more}
-use Rattle.volume_engines.proofs.Sending.{IsOwnProposal, HasOpenedAt, RightAction, AllRight, all_append, joins_each, to_one, query_one}
+use Rattle.volume_engines.proofs.Sending.{IsOwnProposal, IsOwnGeneration, HasOpenedAt, RightAction, AllRight, all_append, joins_each, to_one, query_one}
 use Rattle.volume_engines.proofs.Sending.{to_each as each_node}
 use Rattle.volume_engines.proofs.Admissions.{IsAdmission, joining_as, none_fresh}
 use Rattle.volume_engines.proofs.Admitting.{admits}
@@ -109,6 +110,9 @@ module _ (run : VolumeRun) (h : History) (stop : ℕ) (content : ReplicaData →
   abbrev Left : Opening → Turn → Type 0
   Left new t = LeavesTurn run h guards e life n (phase.Opening old) (phase.Opening new) t
 
+  mine : IsOwnGeneration run e old.session.generation
+  mine = is.names.generation ∙ sym k.session.generation
+
   upto : life.moments n ≤ stop
   upto = is.upto n step
 
@@ -145,7 +149,7 @@ module _ (run : VolumeRun) (h : History) (stop : ℕ) (content : ReplicaData →
       let knows : AreKnown run h e T plan.0 no_nodes = λ i marked. absurd (none_marked i marked) in
       goes_to new (with_union old u (stage.Spreading plan.0 no_nodes)) t (to_each old errand.Ask) plan.2 refl
       (knows_on u (stage.Spreading plan.0 no_nodes) (un, plan.1, knows))
-      (each_node run h e Q T 0 old.session.generation old.session.births errand.Ask tt) plan.3)
+      (each_node run h e Q T 0 old.session.generation mine old.session.births errand.Ask tt) plan.3)
       (λ fault. ends new t fault.0 fault.2)
       says
 
@@ -229,7 +233,7 @@ module _ (run : VolumeRun) (h : History) (stop : ℕ) (content : ReplicaData →
       (λ damaged. ends new t Damaged damaged.1)
       (λ fills.
       goes_to new old t _ fills.2 refl k
-      (to_one run h e Q T node old.session.generation (birth_at old.session.births node) (errand.Push summary fills.0) (asked_all old.union at.0)) fills.3)
+      (to_one run h e Q T node old.session.generation mine (birth_at old.session.births node) (errand.Push summary fills.0) (asked_all old.union at.0)) fills.3)
       says
   hears_summary (stage.Pulling left) node summary new t at says = idle new t says
   hears_summary (stage.Proposing plan accepted) node summary new t at says = idle new t says
@@ -245,7 +249,7 @@ module _ (run : VolumeRun) (h : History) (stop : ℕ) (content : ReplicaData →
       (λ i at b here has.
       let same : at ≡ i = omega (arith, here) in
       subst (λ (j : ℕ). IsAdmission run h e T j (joining_as old.session.generation b (joining_of old some.1))) (sym same)
-      (admits run h stop e T old is.follows is.emitted upto k.session.gathered (is.names.generation ∙ sym k.session.generation) k.best k.fresh un some.1 some.3
+      (admits run h stop e T old is.follows is.emitted upto k.session.gathered mine k.best k.fresh un some.1 some.3
       i b has))))
       says
 
@@ -266,7 +270,7 @@ module _ (run : VolumeRun) (h : History) (stop : ℕ) (content : ReplicaData →
       let none : HaveAccepted run e T plan.cut.epoch no_nodes = λ i marked. absurd (none_marked i marked) in
       goes_to new next t _ sends.2 refl (record { session = k.session; best = k.best; fresh = none_fresh run (run.engines e).gathered; at = (at.0, own, none, named) })
       (all_append (RightAction run h e Q T) sends.0 (to_each old (errand.Propose plan.cut)) (joins_right next sends.0 at.0 sends.1)
-      (each_node run h e Q T 0 old.session.generation old.session.births (errand.Propose plan.cut) own))
+      (each_node run h e Q T 0 old.session.generation mine old.session.births (errand.Propose plan.cut) own))
       sends.3)
       says
 
@@ -278,14 +282,18 @@ module _ (run : VolumeRun) (h : History) (stop : ℕ) (content : ReplicaData →
       let part : KnowsUnion run h e T old.union left =
       record { facts = un.facts; means = un.means; given = λ i among no. un.given i among (unmarked i) } in
       goes_to new (at_stage old (stage.Pulling left)) t _ again.1 refl (knows_on old.union (stage.Pulling left) part)
-      (to_one run h e Q T node old.session.generation (birth_at old.session.births node) (errand.Pull old.summary) (refl, k.session.upto)) again.2)
+      (to_one run h e Q T node old.session.generation mine (birth_at old.session.births node) (errand.Pull old.summary) (refl, k.session.upto)) again.2)
       says
 
   -- ---- the volume is open
   opens : (u : State) (plan : Plan) (new : Opening) (t : Turn) → HasAsked run e T → NamesPlan plan (run.engines e) → plan.is_pending ≡ false
       → HasVotes run e T plan.cut.epoch → OpensVolume old.session u plan.cut t → Left new t
   opens u plan new (turn.Enter (phase.Open w) actions) asked names own votes says = record {
-    knows = (asked, subst (λ (c : CutData). IsCutSent run T c) (sym says.0.cut_is) (sent_plan run e T plan names votes));
+    knows = (
+      asked,
+      subst (λ (c : CutData). IsCutSent run T c) (sym says.0.cut_is) (sent_plan run e T plan names votes),
+      mine ∙ ap (λ (s : Session). s.generation) (sym says.0.session_is),
+    );
     right = opened_right run h e (λ s. Unit {0}) T u plan actions.items names own votes says.1;
     wider = λ s own. tt;
   }
@@ -390,7 +398,7 @@ module _ (run : VolumeRun) (h : History) (stop : ℕ) (content : ReplicaData →
       (subst (λ (m : ℕ). m ≤ count_marked after) q_is enough.0) all in
       goes_to new (at_stage old (stage.Taking plan no_nodes)) t _ enough.1 refl
       (knows_on old.union (stage.Taking plan no_nodes) (at.0, at.1, votes, at.3))
-      (each_node run h e Q T 0 old.session.generation old.session.births (errand.Begin plan.cut)
+      (each_node run h e Q T 0 old.session.generation mine old.session.births (errand.Begin plan.cut)
       (asked_all old.union at.0, sent_plan run e T plan at.3 votes)) enough.2)
       yes.1)
       says
@@ -399,13 +407,13 @@ module _ (run : VolumeRun) (h : History) (stop : ℕ) (content : ReplicaData →
   hears_accepted (stage.Taking plan reported) node generation birth epoch new t within given at says = idle new t says
 
   -- ---- nodes that come late
-  stage_asks : (u : State) (st : Stage) (generation node : ℕ) (b : Option ℕ) → KnowsStage run h e T u old.pair st
+  stage_asks : (u : State) (st : Stage) (generation node : ℕ) (b : Option ℕ) → IsOwnGeneration run e generation → KnowsStage run h e T u old.pair st
       → AllRight run h e Q T (asks_in_stage generation st node b)
-  stage_asks u (stage.Pulling left) generation node b at = tt
-  stage_asks u (stage.Spreading plan known) generation node b at = to_one run h e Q T node generation b errand.Ask tt
-  stage_asks u (stage.Proposing plan accepted) generation node b at = to_one run h e Q T node generation b (errand.Propose plan.cut) at.1
-  stage_asks u (stage.Taking plan reported) generation node b at =
-      to_one run h e Q T node generation b (errand.Begin plan.cut) (asked_all u at.0, sent_plan run e T plan at.3 at.2)
+  stage_asks u (stage.Pulling left) generation node b same at = tt
+  stage_asks u (stage.Spreading plan known) generation node b same at = to_one run h e Q T node generation same b errand.Ask tt
+  stage_asks u (stage.Proposing plan accepted) generation node b same at = to_one run h e Q T node generation same b (errand.Propose plan.cut) at.1
+  stage_asks u (stage.Taking plan reported) generation node b same at =
+      to_one run h e Q T node generation same b (errand.Begin plan.cut) (asked_all u at.0, sent_plan run e T plan at.3 at.2)
 
   late_session : (node birth : ℕ) → birth_at old.session.births node ≡ None → KnowsSession run guards e life T (with_birth old.session node birth)
   late_session node birth none = record {
@@ -427,7 +435,7 @@ module _ (run : VolumeRun) (h : History) (stop : ℕ) (content : ReplicaData →
       (λ late.
       goes_to new (opened_with old (with_birth old.session node birth) old.union old.fresh old.stage) t _ late.1 refl
       (record { session = late_session node birth late.0.1; best = k.best; fresh = k.fresh; at = k.at })
-      (stage_asks old.union old.stage generation node (birth_at (with_birth old.session node birth).births node) k.at) late.2)
+      (stage_asks old.union old.stage generation node (birth_at (with_birth old.session node birth).births node) (mine ∙ sym late.0.0) k.at) late.2)
       says
 
   hears_lost : (st : Stage) (node : ℕ) (new : Opening) (t : Turn) → HearsLost quorum old st node new t → Left new t
@@ -461,15 +469,15 @@ module _ (run : VolumeRun) (h : History) (stop : ℕ) (content : ReplicaData →
 
   -- ---- broken connections
   asks_right : (st : Stage) (node : ℕ) (b : Option ℕ) → KnowsStage run h e T old.union old.pair st → AllRight run h e Q T (asks_again old st node b)
-  asks_right (stage.Pulling left) node None at = query_one run h e Q T node (Fence old.session.generation)
-  asks_right (stage.Spreading plan known) node None at = query_one run h e Q T node (Fence old.session.generation)
-  asks_right (stage.Proposing plan accepted) node None at = query_one run h e Q T node (Fence old.session.generation)
-  asks_right (stage.Taking plan reported) node None at = query_one run h e Q T node (Fence old.session.generation)
+  asks_right (stage.Pulling left) node None at = query_one run h e Q T node (Fence old.session.generation) mine
+  asks_right (stage.Spreading plan known) node None at = query_one run h e Q T node (Fence old.session.generation) mine
+  asks_right (stage.Proposing plan accepted) node None at = query_one run h e Q T node (Fence old.session.generation) mine
+  asks_right (stage.Taking plan reported) node None at = query_one run h e Q T node (Fence old.session.generation) mine
   asks_right (stage.Pulling left) node (Some birth) at =
-      if_right run h e Q T (is_marked left node) _ (to_one run h e Q T node old.session.generation (Some birth) (errand.Pull old.summary) (refl, k.session.upto))
-  asks_right (stage.Spreading plan known) node (Some birth) at = stage_asks old.union (stage.Spreading plan known) old.session.generation node (Some birth) at
-  asks_right (stage.Proposing plan accepted) node (Some birth) at = stage_asks old.union (stage.Proposing plan accepted) old.session.generation node (Some birth) at
-  asks_right (stage.Taking plan reported) node (Some birth) at = stage_asks old.union (stage.Taking plan reported) old.session.generation node (Some birth) at
+      if_right run h e Q T (is_marked left node) _ (to_one run h e Q T node old.session.generation mine (Some birth) (errand.Pull old.summary) (refl, k.session.upto))
+  asks_right (stage.Spreading plan known) node (Some birth) at = stage_asks old.union (stage.Spreading plan known) old.session.generation node (Some birth) mine at
+  asks_right (stage.Proposing plan accepted) node (Some birth) at = stage_asks old.union (stage.Proposing plan accepted) old.session.generation node (Some birth) mine at
+  asks_right (stage.Taking plan reported) node (Some birth) at = stage_asks old.union (stage.Taking plan reported) old.session.generation node (Some birth) mine at
 
   pub retries_in_opening : (node : ℕ) (t : Turn) → Stays t (retries_opening old old.stage node) → Left old t
   retries_in_opening node t says =

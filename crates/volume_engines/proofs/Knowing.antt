@@ -30,7 +30,7 @@ use Rattle.volume_logs.specs.Joining.{IsFrontAbove}
 use Rattle.volume_engines.specs.Lives.{Life, Guards}
 use Rattle.volume_engines.specs.Engines.{fenced_by}
 use Rattle.volume_engines.proofs.Admissions.{KnowsFresh}
-use Rattle.volume_engines.proofs.Sending.{IsOwnProposal, AllRight}
+use Rattle.volume_engines.proofs.Sending.{IsOwnProposal, IsOwnGeneration, AllRight}
 use Rattle.volume_engines.proofs.Named.{NamesPlan}
 
 -- ---- before a quorum is fenced
@@ -116,7 +116,7 @@ pub record KnowsOpening (run : VolumeRun) (h : History) (guards : Guards) (e : �
 
 -- ---- after the volume is open
 abbrev pub KnowsOpen : VolumeRun → ℕ → ℕ → Writing → Type 0
-KnowsOpen run e t w = HasAsked run e t × IsCutSent run t w.cut
+KnowsOpen run e t w = HasAsked run e t × IsCutSent run t w.cut × IsOwnGeneration run e w.session.generation
 
 -- ---- all phases
 abbrev pub KnowsPhase : VolumeRun → History → Guards → ℕ → Life → ℕ → Phase → Type 0

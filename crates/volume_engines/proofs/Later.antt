@@ -61,7 +61,7 @@ votes_later : (run : VolumeRun) (e s t k : ℕ) → s ≤ t → HasVotes run e s
 votes_later run e s t k order votes = (votes.0, votes.1, λ i among. let x = votes.2 i among in let before : x.0 < s = x.1 in (x.0, omega arith, x.2))
 
 pub open_later : (run : VolumeRun) (e s t : ℕ) (w : Writing) → s ≤ t → KnowsOpen run e s w → KnowsOpen run e t w
-open_later run e s t w order k = (asked_later run e s t order k.0, sent_later run s t w.cut order k.1)
+open_later run e s t w order k = (asked_later run e s t order k.0, sent_later run s t w.cut order k.1, k.2)
 
 pub opened_later : (run : VolumeRun) (e s t epoch point : ℕ) → s ≤ t → HasOpenedAt run e s epoch point → HasOpenedAt run e t epoch point
 opened_later run e s t epoch point order is = (record { own = is.0.own; accepted = votes_later run e s t epoch order is.0.accepted }, is.1)

@@ -1,6 +1,5 @@
 -- The engine of a run has the name of each plan of its life, since these come in order.
 use Rattle.std.proofs.Common.{◌≡◌, ℕ, zero, suc, ◌<◌, ◌⊎◌, ⊎_elim, inl, inr, Bool, true, false, refl, sym, ◌∙◌, subst, ap, arith}
-use Rattle.redo_core.specs.Data.{CutData}
 use Rattle.volume.specs.declared.phases.Phase.{Phase}
 use Rattle.volume.specs.declared.phases.Phase.TheVariants as phase
 use Rattle.volume.specs.declared.phases.Stage.{Stage}

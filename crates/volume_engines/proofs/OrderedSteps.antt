@@ -1,10 +1,9 @@
 -- What a machine plans comes in order: one step after another.
-use Rattle.std.proofs.Common.{◌≡◌, ℕ, zero, suc, ◌<◌, ◌≤◌, ◌⊎◌, ⊎_elim, inl, inr, List, [], ◌∷◌, Option, refl, sym, ◌∙◌, subst, ap, arith}
+use Rattle.std.proofs.Common.{◌≡◌, ℕ, zero, suc, ◌<◌, ◌≤◌, ◌⊎◌, ⊎_elim, inl, inr, List, [], ◌∷◌, refl, sym, ◌∙◌, subst, ap, arith}
 use Rattle.guard.specs.declared.replies.Reply.{Reply}
 use Rattle.guard.specs.declared.replies.Reply.TheVariants as reply
 use Rattle.replica.specs.declared.replies.Reply.{Reply as SegmentReply}
 use Rattle.replica.specs.declared.replies.Reply.TheVariants as told
-use Rattle.segment_theorems.specs.State.{empty_state}
 use Rattle.volume.specs.declared.actions.Action.{Action}
 use Rattle.volume.specs.declared.actions.Action.TheVariants.{Durable}
 use Rattle.volume.specs.declared.actions.Fault.TheVariants.{Fenced, NoQuorum}
@@ -22,14 +21,13 @@ use Rattle.volume.specs.declared.turns.Turn.TheVariants as turn
 use Rattle.volume.specs.Data.{VolumeData, volume_of, at_phase}
 use Rattle.volume.specs.Fencing.{new_fencing, with_fenced, with_fresh, without_node, BeginsOpening, PullsQuorum, GoesOn, HearsFencing, RetriesFencing}
 use Rattle.volume.specs.Settings.{SettingsData}
-use Rattle.volume.specs.Sets.{count_marked, marks_of}
 use Rattle.volume.specs.Stepping.{IsVolumeStep, StartsOpening, CallsOpen, Hears, Retries, Turns}
 use Rattle.volume.specs.Turning.{Stays}
 use Rattle.volume.specs.Writing.{HearsSegment, HearsWriting, WritesPage, EndsTransaction, RaisesPoint}
 use Rattle.volume_theorems.specs.Runs.{VolumeRun}
 use Rattle.volume_engines.specs.Lives.{Life, Guards, MayHappen, IsLife}
-use Rattle.volume_engines.specs.Proposed.{IsPlanIn, ProposesAt, PlansInOrder}
-use Rattle.volume_engines.proofs.Ordering.{AreBehind, OrderedStage, OrderedOpening, OrderedPhase, OrderedTurn, phase_with, up_to, on_stay, on_enter, on_stop, orders_opening}
+use Rattle.volume_engines.specs.Proposed.{ProposesAt, PlansInOrder}
+use Rattle.volume_engines.proofs.Ordering.{OrderedStage, OrderedOpening, OrderedPhase, OrderedTurn, phase_with, up_to, on_stay, on_enter, on_stop, orders_opening}
 
 -- another opening is another life
 abbrev IsWithin : ℕ → Event → Type 0

@@ -1,5 +1,5 @@
 -- What a machine plans comes in order: a step of an opening.
-use Rattle.std.proofs.Common.{◌≡◌, ℕ, suc, ◌+◌, ◌<◌, ◌≤◌, ◌⊎◌, ⊎_elim, inl, inr, List, [], Bool, true, false, Option, Some, None, refl, sym, ◌∙◌, subst, ap, arith}
+use Rattle.std.proofs.Common.{◌≡◌, ℕ, ◌+◌, ◌<◌, ◌≤◌, ◌⊎◌, ⊎_elim, inl, inr, List, [], Bool, true, false, Option, Some, None, refl, sym, ◌∙◌, subst, ap, arith}
 use Rattle.std.specs.Prelude.{slice_set}
 use Rattle.redo_core.specs.Data.{CutData}
 use Rattle.redo_core.specs.Book.{BookData}

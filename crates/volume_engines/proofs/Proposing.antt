@@ -16,9 +16,9 @@ use Rattle.volume.specs.Sets.{is_marked, count_marked}
 use Rattle.volume_theorems.specs.Nodes.{Content}
 use Rattle.volume_theorems.specs.Quorums.{size_below}
 use Rattle.volume_theorems.specs.Runs.{VolumeRun, Many}
-use Rattle.volume_theorems.specs.Opening.{HasGathered, AnswersUnder, IsUnion, IsKnownToMany, IsBest}
+use Rattle.volume_theorems.specs.Opening.{HasGathered, AnswersUnder, IsKnownToMany, IsBest}
 use Rattle.volume_theorems.specs.Proposing.{IsVoteFor, IsOfEpoch, AdoptsPending, MakesOwn}
-use Rattle.volume_theorems.specs.Contents.{IsCommitPoint, IsContentOf}
+use Rattle.volume_theorems.specs.Contents.{IsCommitPoint}
 use Rattle.volume_theorems.specs.Stopping.{FollowsUntil}
 use Rattle.volume_theorems.proofs.Contents.{fronts_reach}
 use Rattle.volume_guards.specs.Guards.{vote_of}

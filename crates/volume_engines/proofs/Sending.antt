@@ -45,9 +45,13 @@ RightUnder run e Q t segment.Ask = Unit {0}
 RightUnder run e Q t (segment.Absorb summary delta) = Unit {0}
 RightUnder run e Q t asked = ⊥
 
+abbrev pub IsOwnGeneration : VolumeRun → ℕ → ℕ → Type 0
+IsOwnGeneration run e generation = (run.engines e).generation ≡ generation
+
 abbrev pub Right : VolumeRun → History → ℕ → (SummaryData → Type 0) → ℕ → ℕ → Request → Type 0
 Right run h e Q t node (request.As generation birth asked) = RightUnder run e Q t asked
-Right run h e Q t node (request.Propose generation birth cut) = IsOwnProposal run e t cut
+Right run h e Q t node (request.Fence generation) = IsOwnGeneration run e generation
+Right run h e Q t node (request.Propose generation birth cut) = IsOwnGeneration run e generation × IsOwnProposal run e t cut
 Right run h e Q t node (request.Admit asked) = IsAdmission run h e t node asked
 Right run h e Q t node asked = Unit {0}
 
@@ -87,6 +91,7 @@ under_wider run e Q R t wider asked is = absurd is
 right_wider : (run : VolumeRun) (h : History) (e : ℕ) (Q R : SummaryData → Type 0) (t : ℕ) → ((s : SummaryData) → Q s → R s) → (node : ℕ) (asked : Request)
     → Right run h e Q t node asked → Right run h e R t node asked
 right_wider run h e Q R t wider node (request.As generation birth asked) is = under_wider run e Q R t wider asked is
+right_wider run h e Q R t wider node (request.Fence generation) is = is
 right_wider run h e Q R t wider node (request.Propose generation birth cut) is = is
 right_wider run h e Q R t wider node (request.Admit asked) is = is
 right_wider run h e Q R t wider node asked is = tt
@@ -107,42 +112,42 @@ pub all_append : {X : Type 0} (P : X → Type 0) (xs ys : List X) → AllByRecur
 all_append P [] ys one two = two
 all_append P (x ∷ xs) ys one two = (one.0, all_append P xs ys one.1 two)
 
-requests_right : (run : VolumeRun) (h : History) (e : ℕ) (Q : SummaryData → Type 0) (t node generation birth : ℕ) (er : Errand) → RightErrand run h e Q t er
+requests_right : (run : VolumeRun) (h : History) (e : ℕ) (Q : SummaryData → Type 0) (t node generation birth : ℕ) (same : IsOwnGeneration run e generation) (er : Errand) → RightErrand run h e Q t er
     → AllByRecursion (Right run h e Q t node) (requests_of generation birth er)
-requests_right run h e Q t node generation birth (errand.Pull summary) is = (is, tt)
-requests_right run h e Q t node generation birth errand.Ask is = (tt, tt)
-requests_right run h e Q t node generation birth (errand.Push summary delta) is = (tt, (is, tt))
-requests_right run h e Q t node generation birth (errand.Propose cut) is = (is, tt)
-requests_right run h e Q t node generation birth (errand.Begin cut) is = (is.1, (is.0, tt))
-requests_right run h e Q t node generation birth (errand.Store redo) is = (tt, tt)
-requests_right run h e Q t node generation birth (errand.Close redo) is = (tt, (is, tt))
-requests_right run h e Q t node generation birth (errand.Raise advance) is = (tt, tt)
-requests_right run h e Q t node generation birth errand.Report is = (is, tt)
-requests_right run h e Q t node generation birth errand.Found is = absurd is
-requests_right run h e Q t node generation birth (errand.Join summary delta joining) is = absurd is
+requests_right run h e Q t node generation birth same (errand.Pull summary) is = (is, tt)
+requests_right run h e Q t node generation birth same errand.Ask is = (tt, tt)
+requests_right run h e Q t node generation birth same (errand.Push summary delta) is = (tt, (is, tt))
+requests_right run h e Q t node generation birth same (errand.Propose cut) is = ((same, is), tt)
+requests_right run h e Q t node generation birth same (errand.Begin cut) is = (is.1, (is.0, tt))
+requests_right run h e Q t node generation birth same (errand.Store redo) is = (tt, tt)
+requests_right run h e Q t node generation birth same (errand.Close redo) is = (tt, (is, tt))
+requests_right run h e Q t node generation birth same (errand.Raise advance) is = (tt, tt)
+requests_right run h e Q t node generation birth same errand.Report is = (is, tt)
+requests_right run h e Q t node generation birth same errand.Found is = absurd is
+requests_right run h e Q t node generation birth same (errand.Join summary delta joining) is = absurd is
 
 sent_to : (run : VolumeRun) (h : History) (e : ℕ) (Q : SummaryData → Type 0) (t node : ℕ) (rs : List Request) → AllByRecursion (Right run h e Q t node) rs
     → AllRight run h e Q t (map (λ r. Ask node r) rs)
 sent_to run h e Q t node [] all = tt
 sent_to run h e Q t node (r ∷ rs) all = (all.0, sent_to run h e Q t node rs all.1)
 
-pub to_node : (run : VolumeRun) (h : History) (e : ℕ) (Q : SummaryData → Type 0) (t node generation birth : ℕ) (er : Errand) → RightErrand run h e Q t er
-    → AllRight run h e Q t (asks_of node generation birth er)
-to_node run h e Q t node generation birth er is =
-    sent_to run h e Q t node (requests_of generation birth er) (requests_right run h e Q t node generation birth er is)
+pub to_node : (run : VolumeRun) (h : History) (e : ℕ) (Q : SummaryData → Type 0) (t node generation birth : ℕ) (same : IsOwnGeneration run e generation) (er : Errand)
+    → RightErrand run h e Q t er → AllRight run h e Q t (asks_of node generation birth er)
+to_node run h e Q t node generation birth same er is =
+    sent_to run h e Q t node (requests_of generation birth er) (requests_right run h e Q t node generation birth same er is)
 
-pub to_each : (run : VolumeRun) (h : History) (e : ℕ) (Q : SummaryData → Type 0) (t node generation : ℕ) (births : List (Option ℕ)) (er : Errand)
+pub to_each : (run : VolumeRun) (h : History) (e : ℕ) (Q : SummaryData → Type 0) (t node generation : ℕ) (same : IsOwnGeneration run e generation) (births : List (Option ℕ)) (er : Errand)
     → RightErrand run h e Q t er → AllRight run h e Q t (asks_from generation er node births)
-to_each run h e Q t node generation [] er is = tt
-to_each run h e Q t node generation (None ∷ births) er is = to_each run h e Q t (node + 1) generation births er is
-to_each run h e Q t node generation (Some birth ∷ births) er is =
+to_each run h e Q t node generation same [] er is = tt
+to_each run h e Q t node generation same (None ∷ births) er is = to_each run h e Q t (node + 1) generation same births er is
+to_each run h e Q t node generation same (Some birth ∷ births) er is =
     all_append (RightAction run h e Q t) (asks_of node generation birth er) (asks_from generation er (node + 1) births)
-    (to_node run h e Q t node generation birth er is) (to_each run h e Q t (node + 1) generation births er is)
+    (to_node run h e Q t node generation birth same er is) (to_each run h e Q t (node + 1) generation same births er is)
 
-pub to_one : (run : VolumeRun) (h : History) (e : ℕ) (Q : SummaryData → Type 0) (t node generation : ℕ) (birth : Option ℕ) (er : Errand)
+pub to_one : (run : VolumeRun) (h : History) (e : ℕ) (Q : SummaryData → Type 0) (t node generation : ℕ) (same : IsOwnGeneration run e generation) (birth : Option ℕ) (er : Errand)
     → RightErrand run h e Q t er → AllRight run h e Q t (asks_at generation er node birth)
-to_one run h e Q t node generation None er is = tt
-to_one run h e Q t node generation (Some birth) er is = to_node run h e Q t node generation birth er is
+to_one run h e Q t node generation same None er is = tt
+to_one run h e Q t node generation same (Some birth) er is = to_node run h e Q t node generation birth same er is
 
 -- ---- admissions
 -- each node of the table is asked to become a member
@@ -161,13 +166,18 @@ joins_each run h e Q t node generation (Some birth ∷ births) summary delta joi
     (λ i at b is has. each (suc i) at b (omega (arith, is)) has))
 
 -- ---- queries
-query_right : (run : VolumeRun) (h : History) (e : ℕ) (Q : SummaryData → Type 0) (t node : ℕ) (q : Query) → Right run h e Q t node (request_of_query q)
-query_right run h e Q t node query.Status = tt
-query_right run h e Q t node (query.Fence generation) = tt
+-- the machine fences under its own generation
+abbrev pub RightQuery : VolumeRun → ℕ → Query → Type 0
+RightQuery run e query.Status = Unit {0}
+RightQuery run e (query.Fence generation) = IsOwnGeneration run e generation
 
-pub query_one : (run : VolumeRun) (h : History) (e : ℕ) (Q : SummaryData → Type 0) (t node : ℕ) (q : Query) → AllRight run h e Q t (query_to q node)
-query_one run h e Q t node q = (query_right run h e Q t node q, tt)
+query_right : (run : VolumeRun) (h : History) (e : ℕ) (Q : SummaryData → Type 0) (t node : ℕ) (q : Query) → RightQuery run e q → Right run h e Q t node (request_of_query q)
+query_right run h e Q t node query.Status is = tt
+query_right run h e Q t node (query.Fence generation) is = is
 
-pub queries_each : (run : VolumeRun) (h : History) (e : ℕ) (Q : SummaryData → Type 0) (t node count : ℕ) (q : Query) → AllRight run h e Q t (queries_from q node count)
-queries_each run h e Q t node zero q = tt
-queries_each run h e Q t node (suc count) q = (query_right run h e Q t node q, queries_each run h e Q t (node + 1) count q)
+pub query_one : (run : VolumeRun) (h : History) (e : ℕ) (Q : SummaryData → Type 0) (t node : ℕ) (q : Query) → RightQuery run e q → AllRight run h e Q t (query_to q node)
+query_one run h e Q t node q is = (query_right run h e Q t node q is, tt)
+
+pub queries_each : (run : VolumeRun) (h : History) (e : ℕ) (Q : SummaryData → Type 0) (t node count : ℕ) (q : Query) → RightQuery run e q → AllRight run h e Q t (queries_from q node count)
+queries_each run h e Q t node zero q is = tt
+queries_each run h e Q t node (suc count) q is = (query_right run h e Q t node q is, queries_each run h e Q t (node + 1) count q is)

@@ -1,5 +1,5 @@
 -- One step after another.
-use Rattle.std.proofs.Common.{◌≡◌, ℕ, zero, suc, ◌<◌, ◌≤◌, ◌⊎◌, ⊎_elim, inl, List, [], ◌∷◌, Bool, false, Some, None, refl, sym, ◌∙◌, subst, ap, arith}
+use Rattle.std.proofs.Common.{◌≡◌, ℕ, zero, suc, ◌<◌, ◌≤◌, ◌⊎◌, ⊎_elim, inl, inr, List, [], ◌∷◌, Bool, false, Some, None, refl, sym, ◌∙◌, subst, ap, arith}
 use Rattle.std.specs.Prelude.{replicate}
 use Rattle.std.specs.List.{Contains}
 use Rattle.std.proofs.lemmas.Bool.{ne_eqb}
@@ -9,6 +9,7 @@ use Rattle.redo_core.proofs.Members.{each}
 use Rattle.messages.specs.Summaries.{SummaryData}
 use Rattle.replica.specs.Parts.{ReplicaData}
 use Rattle.replica.specs.declared.requests.Request.TheVariants as segment
+use Rattle.guard.specs.declared.requests.Request.{Request}
 use Rattle.guard.specs.declared.requests.Request.TheVariants as request
 use Rattle.guard.specs.declared.replies.Reply.{Reply}
 use Rattle.guard.specs.declared.replies.Reply.TheVariants as reply
@@ -37,19 +38,23 @@ use Rattle.volume.specs.Turning.{Stays}
 use Rattle.volume.specs.Writing.{WritesPage, EndsTransaction, RaisesPoint}
 use Rattle.volume_theorems.specs.Nodes.{Content}
 use Rattle.volume_theorems.specs.Runs.{VolumeRun}
-use Rattle.volume_theorems.specs.Opening.{HasAsked, IsCutSent}
+use Rattle.volume_theorems.specs.Opening.{IsCutSent}
 use Rattle.volume_theorems.specs.ByMoment.{IsDurableBy}
 use Rattle.volume_theorems.proofs.Proposing.{sent_later}
+use Rattle.volume_theorems.specs.Stopping.{FollowsUntil}
+use Rattle.volume_guards.specs.Guards.{IsAllowed}
 use Rattle.volume_logs.specs.Histories.{History}
+use Rattle.volume_logs.specs.Emitting.{IsEmitted}
 use Rattle.volume_engines.specs.Lives.{Life, Guards, WasGiven, MayHappen}
 use Rattle.volume_engines.specs.Engines.{fenced_in, fenced_at, fenced_by, Gathers}
 use Rattle.volume_engines.specs.Proposed.{IsPlanOf, IsPlanIn}
 use Rattle.volume_engines.specs.Proposals.{IsLifeIn, ProposalsKeepRules}
-use Rattle.volume_engines.specs.Admitted.{AdmissionsKeepRules}
+use Rattle.volume_engines.specs.World.{HasGuards}
+use Rattle.volume_engines.specs.Admitted.{AdmissionsKeepRules, RequestsKeepRules}
 use Rattle.volume_engines.specs.Openings.{IsOpening, TakesKeepRules, OpeningsAreDurable}
 use Rattle.volume_engines.proofs.Tables.{no_birth}
 use Rattle.volume_engines.proofs.Admissions.{fresh_later, none_fresh, admits_later}
-use Rattle.volume_engines.proofs.Sending.{IsOwnProposal, HasOpenedAt, RightAction, AllRight, all_wider, queries_each}
+use Rattle.volume_engines.proofs.Sending.{IsOwnProposal, HasOpenedAt, Right, RightAction, AllRight, all_wider, queries_each}
 use Rattle.volume_engines.proofs.Knowing.{pair_at, KnowsFencing, KnowsOpening, KnowsOpen, KnowsPhase, Allowed, Leaves, LeavesTurn}
 use Rattle.volume_engines.proofs.OrderedSteps.{plans_in_order}
 use Rattle.volume_engines.proofs.Named.{NamesPlan, names_plan}
@@ -168,16 +173,16 @@ module _ (run : VolumeRun) (h : History) (stop : ℕ) (content : ReplicaData →
 
     -- ---- calls
     calls_open : (does : Writing → List Action → Writing → Type 0) (p : Phase) → old.phase ≡ p → SameBelow
-        → ((w after : Writing) → HasAsked run e (life.moments (suc n)) → does w (life.actions (suc n)) after
-        → (after.cut ≡ w.cut) × AllRight run h e (λ s. Unit {0}) (life.moments (suc n)) (life.actions (suc n)))
+        → ((w after : Writing) → KnowsOpen run e (life.moments (suc n)) w → does w (life.actions (suc n)) after
+        → (after.cut ≡ w.cut) × (after.session.generation ≡ w.session.generation) × AllRight run h e (λ s. Unit {0}) (life.moments (suc n)) (life.actions (suc n)))
         → CallsOpen does old p (life.actions (suc n)) new → Knows (suc n) new
     calls_open does (phase.Open w) from same right says =
         let known : KnowsOpen run e (life.moments (suc n)) w = open_known w from in
-        let keeps = right w says.0 known.0 says.1 in
+        let keeps = right w says.0 known says.1 in
         leads (phase.Open w) (phase.Open says.0) from says.2
         (record {
-          knows = (known.0, subst (λ (c : CutData). IsCutSent run (life.moments (suc n)) c) (sym keeps.0) known.1);
-          right = keeps.1;
+          knows = (known.0, subst (λ (c : CutData). IsCutSent run (life.moments (suc n)) c) (sym keeps.0) known.1, known.2 ∙ sym keeps.1);
+          right = keeps.2;
           wider = λ s own. tt;
         })
     calls_open does phase.Idle from same right says = only_refuses _ same says
@@ -254,7 +259,7 @@ module _ (run : VolumeRun) (h : History) (stop : ℕ) (content : ReplicaData →
       hears (phase.Open w) (phase.Open x) t node told from inside at given says turns =
           let known : KnowsOpen run e (life.moments (suc n)) w = open_known w from in
           turned (phase.Open w) (phase.Open x) t from
-          (hears_writing run h guards e life (suc n) known.0 w known.1 old.settings.quorum node told x t says) turns
+          (hears_writing run h guards e life (suc n) known.0 w known.1 known.2 old.settings.quorum node told x t says) turns
       hears (phase.Open w) phase.Idle t node told from inside at given says turns = absurd says
       hears (phase.Open w) (phase.Creating c) t node told from inside at given says turns = absurd says
       hears (phase.Open w) (phase.Fencing f) t node told from inside at given says turns = absurd says
@@ -278,7 +283,7 @@ module _ (run : VolumeRun) (h : History) (stop : ℕ) (content : ReplicaData →
       retries (phase.Open w) t node from at says turns =
           let known : KnowsOpen run e (life.moments (suc n)) w = open_known w from in
           turned (phase.Open w) (phase.Open w) t from
-          (retries_writing run h guards e life (suc n) known.0 w known.1 node (birth_at w.session.births node) t says) turns
+          (retries_writing run h guards e life (suc n) known.0 w known.1 known.2 node (birth_at w.session.births node) t says) turns
 
       -- ---- events
       below_out : (node : ℕ) (told : Reply) → old.settings.nodes ≤ node → life.events (suc n) ≡ event.Answered node told → SameBelow
@@ -307,13 +312,13 @@ module _ (run : VolumeRun) (h : History) (stop : ℕ) (content : ReplicaData →
           says
       by_event (event.Write page init patches) at may says =
           calls_open (λ w asked after. WritesPage w page init patches.items asked after) old.phase refl (λ i low. fenced_same (event.Write page init patches) at i)
-          (λ w x asked does. page_right run h guards e life (suc n) asked w x page init patches.items (life.actions (suc n)) does) says
+          (λ w x known does. page_right run h guards e life (suc n) known.0 w x page init patches.items (life.actions (suc n)) known.2 does) says
       by_event (event.Commit header) at may says =
           calls_open (λ w asked after. EndsTransaction w header.items asked after) old.phase refl (λ i low. fenced_same (event.Commit header) at i)
-          (λ w x asked does. end_right run h guards e life (suc n) asked w x header.items (life.actions (suc n)) does) says
+          (λ w x known does. end_right run h guards e life (suc n) known.0 w x header.items (life.actions (suc n)) known.2 does) says
       by_event (event.Advance reader point) at may says =
           calls_open (λ w asked after. RaisesPoint w reader point asked after) old.phase refl (λ i low. fenced_same (event.Advance reader point) at i)
-          (λ w x asked does. raise_right run h guards e life (suc n) asked w x reader point (life.actions (suc n)) does) says
+          (λ w x known does. raise_right run h guards e life (suc n) known.0 w x reader point (life.actions (suc n)) known.2 does) says
       by_event (event.Answered node told) at may says = ⊎_elim
           (λ out. unchanged [] (below_out node told out.0 at) out.1 tt out.2)
           (λ inside. hears old.phase inside.1.0 inside.1.1 node told refl inside.0 at may inside.1.2 inside.1.3)
@@ -349,7 +354,7 @@ module _ (run : VolumeRun) (h : History) (stop : ℕ) (content : ReplicaData →
       (λ up.
       let right : AllRight run h e (λ s. ⊥) (life.moments 0) (life.actions 0) =
       subst (λ (xs : List Action). AllRight run h e (λ s. ⊥) (life.moments 0) xs) (sym up.1)
-      (queries_each run h e (λ s. ⊥) (life.moments 0) 0 (life.states 0).settings.nodes (Fence life.generation)) in
+      (queries_each run h e (λ s. ⊥) (life.moments 0) 0 (life.states 0).settings.nodes (Fence life.generation) is.names.generation) in
       let knows : Knows 0 (volume_of (life.states 0).settings life.generation (phase.Fencing (new_fencing life.generation))) = record {
         settings = refl;
         generation = refl;
@@ -377,7 +382,7 @@ module _ (run : VolumeRun) (h : History) (stop : ℕ) (content : ReplicaData →
   pub proposed : (n node generation birth t : ℕ) (cut : CutData) → n < count → Contains (life.actions n) (Ask node (request.Propose generation birth cut))
       → life.moments n ≤ t → IsOwnProposal run e t cut
   proposed n node generation birth t cut within inside order =
-      proposal_later run e (life.moments n) t cut order (right_action n (Ask node (request.Propose generation birth cut)) within inside)
+      proposal_later run e (life.moments n) t cut order (right_action n (Ask node (request.Propose generation birth cut)) within inside).1
 
   pub taken : (n node generation birth t : ℕ) (cut : CutData) → n < count
       → Contains (life.actions n) (Ask node (request.As generation birth (segment.Take (Cut cut)))) → life.moments n ≤ t → IsCutSent run t cut
@@ -402,6 +407,23 @@ pub admissions_keep_rules : AdmissionsKeepRules
 admissions_keep_rules run h stop content guards e life count is n node t asked within inside order upto =
     admits_later run h stop content guards e (life.moments n) t node asked is.follows is.emitted is.guarded order upto
     (right_action run h stop content guards e life count is n (Ask node (request.Admit asked)) within inside)
+
+-- what was right to send may be executed from then on
+allowed : (run : VolumeRun) (h : History) (stop : ℕ) (content : ReplicaData → Content) (guards : Guards) (e s t node : ℕ) (Q : SummaryData → Type 0)
+    (asked : Request) → FollowsUntil run stop → IsEmitted run h stop → HasGuards run h stop content guards → s ≤ t → t ≤ stop
+    → Right run h e Q s node asked → IsAllowed run t node (guards t node) asked
+allowed run h stop content guards e s t node Q (request.Fence generation) follows emitted guarded order upto right = (e, right)
+allowed run h stop content guards e s t node Q (request.Propose generation birth cut) follows emitted guarded order upto right =
+    let own : IsOwnProposal run e t cut = proposal_later run e s t cut order right.1 in
+    record { engine = e; generation_is = right.0; cut_is = own.0; may = own.1 }
+allowed run h stop content guards e s t node Q (request.Admit asked) follows emitted guarded order upto right =
+    inr (admits_later run h stop content guards e s t node asked follows emitted guarded order upto right)
+allowed run h stop content guards e s t node Q asked follows emitted guarded order upto right = tt
+
+pub requests_keep_rules : RequestsKeepRules
+requests_keep_rules run h stop content guards e life count is n node t asked within inside order upto =
+    allowed run h stop content guards e (life.moments n) t node (Allowed (life.states (suc n)).phase) asked is.follows is.emitted is.guarded order upto
+    (right_action run h stop content guards e life count is n (Ask node asked) within inside)
 
 pub takes_keep_rules : TakesKeepRules
 takes_keep_rules run h stop content guards e life count is n node generation birth t cut within inside order =

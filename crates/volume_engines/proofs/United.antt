@@ -1,6 +1,5 @@
 -- What the union of an opening has, once all of its quorum have shown what they have.
 use Rattle.std.proofs.Common.{◌≡◌, ℕ, ◌≤◌, List, [], true, false, sym, ◌∙◌, arith}
-use Rattle.std.specs.List.{Contains}
 use Rattle.redo_core.specs.Sets.{cuts}
 use Rattle.redo_core.specs.Sound.{IsSound}
 use Rattle.redo_core.specs.declared.facts.Fact.{Fact}

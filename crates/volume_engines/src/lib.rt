@@ -2,7 +2,7 @@
 #![tactic(auto)]
 
 ghost use Rattle.volume_engines.specs.Proposed.{PlansInOrder};
-ghost use Rattle.volume_engines.specs.Admitted.{AdmissionsKeepRules};
+ghost use Rattle.volume_engines.specs.Admitted.{AdmissionsKeepRules, RequestsKeepRules};
 ghost use Rattle.volume_engines.specs.Openings.{OpeningsAreDurable, TakesKeepRules};
 ghost use Rattle.volume_engines.specs.Proposals.{ProposalsKeepRules};
 
@@ -24,6 +24,11 @@ pub fn takes_keep_rules()
 /// Which nodes such a machine admits: those that the rules let its engine admit.
 pub fn admissions_keep_rules()
     ensures { AdmissionsKeepRules }
+{}
+
+/// What such a machine asks of guards, the rules allow an engine to ask.
+pub fn requests_keep_rules()
+    ensures { RequestsKeepRules }
 {}
 
 /// What such a machine reports as open is durable.
