@@ -22,3 +22,10 @@ pub mod Heard
 pub mod HearingOpening
 pub mod HearingWriting
 pub mod Steps
+pub mod OpenSteps
+pub mod TakingSteps
+pub mod Reaching
+pub mod Emissions
+pub mod Writings
+pub mod Reporting
+pub mod Emitting

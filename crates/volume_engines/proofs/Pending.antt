@@ -11,7 +11,7 @@ use Rattle.volume_theorems.specs.Protocol.{FollowsProtocol, IsEntering}
 use Rattle.volume_theorems.specs.Stopping.{FollowsUntil, stopped}
 use Rattle.volume_theorems.proofs.Orders.{IsVoteWithin}
 use Rattle.volume_theorems.proofs.Births.{made}
-use Rattle.volume_theorems.proofs.Guards.{asked_by_union, fenced_before, raised, guarded}
+use Rattle.volume_theorems.proofs.Guards.{asked_by_union, answers_count, fenced_before, raised, guarded}
 use Rattle.volume_theorems.proofs.Lives.{next_later}
 use Rattle.volume_theorems.proofs.Seeing.{IsHandedOn, HadUnder, quorums_see, fenced_in_union}
 use Rattle.volume_theorems.proofs.Proposing.{WasProposed, IsFromProposal, votes_proposed}
@@ -88,7 +88,7 @@ pending_in run e t u v is union best next =
           let at : (run.nodes x.0 i).content.epoch ≡ p.union.epoch = x.3 in
           let has : Contains (run.nodes x.0 i).content.points v.cut.lo =
           subst (λ (c : CutData). Contains (run.nodes x.0 i).content.points c.lo) w.cut x.4 in
-          (x.0, x.2, (omega arith, λ own. has)),
+          (x.0, answers_count run w.engine x.0 i x.2, (omega arith, λ own. has)),
     ) in
     let come : HasCome u.epoch v.cut.lo u = found_in_union run u.epoch v.cut.lo is w.engine e t u many union (omega arith) in
     come.1 refl

@@ -5,3 +5,6 @@ pub mod Engines
 pub mod Proposals
 pub mod Openings
 pub mod Admitted
+pub mod Emissions
+pub mod Reporting
+pub mod Writers

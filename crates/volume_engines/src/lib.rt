@@ -5,6 +5,8 @@ ghost use Rattle.volume_engines.specs.Proposed.{PlansInOrder};
 ghost use Rattle.volume_engines.specs.Admitted.{AdmissionsKeepRules, RequestsKeepRules};
 ghost use Rattle.volume_engines.specs.Openings.{OpeningsAreDurable, TakesKeepRules};
 ghost use Rattle.volume_engines.specs.Proposals.{ProposalsKeepRules};
+ghost use Rattle.volume_engines.specs.Reporting.{ReportsAreDurable};
+ghost use Rattle.volume_engines.specs.Writers.{EmissionsKeepRules};
 
 /// Of one epoch a life proposes one truncation, pending ones before the engine's own.
 pub fn plans_in_order()
@@ -34,4 +36,14 @@ pub fn requests_keep_rules()
 /// What such a machine reports as open is durable.
 pub fn openings_are_durable()
     ensures { OpeningsAreDurable }
+{}
+
+/// What it reports as durable is durable in the run, where the run's history has what it emits.
+pub fn reports_are_durable()
+    ensures { ReportsAreDurable }
+{}
+
+/// What it emits, the rules let the writer of its epoch emit, where its writer began by going on from the epochs below.
+pub fn emissions_keep_rules()
+    ensures { EmissionsKeepRules }
 {}

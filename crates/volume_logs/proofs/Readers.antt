@@ -32,7 +32,7 @@ use Rattle.volume_logs.proofs.Epochs.{record_epoch, at_later}
 use Rattle.volume_logs.proofs.Sound.{log_is_sound}
 use Rattle.volume_logs.proofs.Durable.{has_to, cut_sent}
 
-opened_later : (run : VolumeRun) (s t e k : ℕ) → s ≤ t → HasOpenedBy run s e k → HasOpenedBy run t e k
+pub opened_later : (run : VolumeRun) (s t e k : ℕ) → s ≤ t → HasOpenedBy run s e k → HasOpenedBy run t e k
 opened_later run s t e k order opened = record {
   own = opened.own;
   accepted = (
