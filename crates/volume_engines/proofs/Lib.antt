@@ -5,6 +5,7 @@ pub mod Replies
 pub mod Ordering
 pub mod OrderedSteps
 pub mod Named
+pub mod Naming
 pub mod Knowing
 pub mod Turning
 pub mod Fencing

@@ -21,7 +21,7 @@ plan_of_stage : (st : Stage) → ((p : Plan) × IsPlanOf st p) ⊎ ((p : Plan) �
 plan_of_stage (stage.Proposing plan accepted) = inl (plan, refl)
 plan_of_stage other = inr (λ p is. absurd is)
 
-plan_in_phase : (ph : Phase) → ((p : Plan) × IsPlanIn ph p) ⊎ ((p : Plan) → IsPlanIn ph p → ⊥)
+pub plan_in_phase : (ph : Phase) → ((p : Plan) × IsPlanIn ph p) ⊎ ((p : Plan) → IsPlanIn ph p → ⊥)
 plan_in_phase (phase.Opening o) = plan_of_stage o.stage
 plan_in_phase other = inr (λ p is. absurd is)
 
@@ -29,18 +29,18 @@ one_of_stage : (st : Stage) (p q : Plan) → IsPlanOf st p → IsPlanOf st q →
 one_of_stage (stage.Proposing plan accepted) p q one two = sym one ∙ two
 one_of_stage other p q one two = absurd one
 
-one_in_phase : (ph : Phase) (p q : Plan) → IsPlanIn ph p → IsPlanIn ph q → p ≡ q
+pub one_in_phase : (ph : Phase) (p q : Plan) → IsPlanIn ph p → IsPlanIn ph q → p ≡ q
 one_in_phase (phase.Opening o) p q one two = one_of_stage o.stage p q one two
 one_in_phase other p q one two = absurd one
 
-epoch_or_not : (k : ℕ) (p : Plan) → (p.cut.epoch ≡ k) ⊎ (p.cut.epoch ≡ k → ⊥)
+pub epoch_or_not : (k : ℕ) (p : Plan) → (p.cut.epoch ≡ k) ⊎ (p.cut.epoch ≡ k → ⊥)
 epoch_or_not k p = let m : ℕ = p.cut.epoch in let way : (m ≡ k) ⊎ (m ≡ k → ⊥) = grind arith in way
 
 own_or_pending : (b : Bool) → (b ≡ false) ⊎ (b ≡ true)
 own_or_pending false = inl refl
 own_or_pending true = inr refl
 
-own_or_not : (b : Bool) → (b ≡ false) ⊎ (b ≡ false → ⊥)
+pub own_or_not : (b : Bool) → (b ≡ false) ⊎ (b ≡ false → ⊥)
 own_or_not b = ⊎_elim
     (λ (own : b ≡ false). inl own)
     (λ (pending : b ≡ true). inr (λ own. let clash : true ≡ false = sym pending ∙ own in cc))
@@ -51,10 +51,10 @@ not_own b none = ⊎_elim (λ (own : b ≡ false). absurd (none own)) (λ (pendi
 
 -- ---- the first such plan of a life
 module _ (life : Life) (IsSuch : Plan → Type 0) (test : (p : Plan) → IsSuch p ⊎ (IsSuch p → ⊥)) where
-  abbrev HasFirst : ℕ → Type 0
+  abbrev pub HasFirst : ℕ → Type 0
   HasFirst n = (m : ℕ) × (p : Plan) × (m < n) × IsFirstPlan life IsSuch m p
 
-  abbrev HasNone : ℕ → Type 0
+  abbrev pub HasNone : ℕ → Type 0
   HasNone n = (m : ℕ) (p : Plan) → m < n → ProposesAt life m p → IsSuch p → ⊥
 
   -- none before the last step, and this is one or not
@@ -74,7 +74,7 @@ module _ (life : Life) (IsSuch : Plan → Type 0) (test : (p : Plan) → IsSuch 
       (λ (without : (p : Plan) → ProposesAt life n p → ⊥). inr (with_last (λ p at such. without p at)))
       (plan_in_phase (life.states (suc n)).phase)
 
-  first_before : (n : ℕ) → HasFirst n ⊎ HasNone n
+  pub first_before : (n : ℕ) → HasFirst n ⊎ HasNone n
   first_before zero = inr (λ m p low at such. absurd (omega arith))
   first_before (suc n) = ⊎_elim
       (λ (has : HasFirst n). let m : ℕ = has.0 in let low : m < n = has.2 in inl (m, has.1, omega arith, has.3))

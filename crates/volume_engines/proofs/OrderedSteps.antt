@@ -27,7 +27,7 @@ use Rattle.volume.specs.Writing.{HearsSegment, HearsWriting, WritesPage, EndsTra
 use Rattle.volume_theorems.specs.Runs.{VolumeRun}
 use Rattle.volume_engines.specs.Lives.{Life, Guards, MayHappen, IsLife}
 use Rattle.volume_engines.specs.Proposed.{ProposesAt, PlansInOrder}
-use Rattle.volume_engines.proofs.Ordering.{OrderedStage, OrderedOpening, OrderedPhase, OrderedTurn, phase_with, up_to, on_stay, on_enter, on_stop, orders_opening}
+use Rattle.volume_engines.proofs.Ordering.{Before, IsGathered, OrderedStage, OrderedOpening, OrderedPhase, OrderedTurn, phase_with, up_to, on_stay, on_enter, on_stop, orders_opening}
 
 -- another opening is another life
 abbrev IsWithin : ℕ → Event → Type 0
@@ -38,21 +38,21 @@ within : (run : VolumeRun) (guards : Guards) (e : ℕ) (life : Life) (n : ℕ) (
 within run guards e life n (event.Open generation) may = may
 within run guards e life n other may = tt
 
-module _ (Past : Plan → Type 0) where
+module _ (Past : Before) where
   -- ---- before a quorum is fenced
-  begins : (s : SettingsData) (f : Fencing) (o : Opening) → ((p : Plan) → Past p → ⊥) → BeginsOpening s f o → OrderedOpening Past o
+  begins : (s : SettingsData) (f : Fencing) (o : Opening) → ((p : Plan) → Past.proposed p → ⊥) → BeginsOpening s f o → OrderedOpening Past o
   begins s f o none says = record {
     cuts = λ e low high.
         let none : o.union.book.complete ≡ 0 = ap (λ u. u.book.complete) says.union in absurd (omega arith);
     at = subst (λ (st : Stage). OrderedStage Past o.union o.pair st) (sym says.stage) (λ p past. absurd (none p past));
   }
 
-  module _ (s : SettingsData) (f : Fencing) (none : (p : Plan) → Past p → ⊥) where
+  module _ (s : SettingsData) (f : Fencing) (none : OrderedPhase Past (phase.Fencing f)) where
     abbrev Left : Turn → Type 0
     Left t = OrderedTurn Past (phase.Fencing f) t
 
     pulls : (new : Fencing) (t : Turn) → PullsQuorum s new t → Left t
-    pulls new (turn.Enter (phase.Opening o) actions) says = begins s new o none says.0
+    pulls new (turn.Enter (phase.Opening o) actions) says = begins s new o none.0 says.0
     pulls new (turn.Enter phase.Idle actions) says = absurd says
     pulls new (turn.Enter (phase.Creating c) actions) says = absurd says
     pulls new (turn.Enter (phase.Fencing g) actions) says = absurd says
@@ -207,10 +207,20 @@ module _ (Past : Plan → Type 0) where
         says
 
 -- ---- all steps
+-- a step that is among the first n, or the next one
+one_of : (P : ℕ → Type 0) (n : ℕ) → ((m : ℕ) × (m < suc n) × P m) → ((m : ℕ) × (m < n) × P m) ⊎ P n
+one_of P n past = ⊎_elim
+    (λ (now : past.0 ≡ n). inr (subst P now past.2))
+    (λ (early : past.0 < n). inl (past.0, early, past.2))
+    (let m : ℕ = past.0 in let low : m < suc n = past.1 in let way : (m ≡ n) ⊎ (m < n) = grind (arith, low) in way)
+
 module _ (run : VolumeRun) (guards : Guards) (e : ℕ) (life : Life) (count : ℕ) (is : IsLife run guards e life count) where
-  -- one of the first steps has proposed the plan
-  abbrev PastOf : ℕ → Plan → Type 0
-  PastOf n p = (m : ℕ) × (m < n) × ProposesAt life m p
+  -- what the first steps have proposed and gathered
+  abbrev PastOf : ℕ → Before
+  PastOf n = record {
+    proposed = λ p. (m : ℕ) × (m < n) × ProposesAt life m p;
+    gathered = (m : ℕ) × (m < n) × IsGathered (life.states (suc m)).phase;
+  }
 
   some : 0 < life.generation
   some = let above : (life.states 0).generation < life.generation = is.above in omega arith
@@ -221,10 +231,8 @@ module _ (run : VolumeRun) (guards : Guards) (e : ℕ) (life : Life) (count : �
   with_step : (n : ℕ) → After n n → After (suc n) n
   with_step n k = (
     k.0,
-    phase_with (PastOf n) (PastOf (suc n)) (life.states (suc n)).phase (λ p past. ⊎_elim
-        (λ (now : past.0 ≡ n). inr (subst (λ (m : ℕ). ProposesAt life m p) now past.2))
-        (λ (early : past.0 < n). inl (past.0, early, past.2))
-        (let m : ℕ = past.0 in let low : m < suc n = past.1 in let way : (m ≡ n) ⊎ (m < n) = grind (arith, low) in way)) k.1,
+    phase_with (PastOf n) (PastOf (suc n)) (life.states (suc n)).phase (λ p past. one_of (λ m. ProposesAt life m p) n past)
+        (λ past. one_of (λ m. IsGathered (life.states (suc m)).phase) n past) k.1,
   )
 
   first : 0 < count → After 0 0
@@ -238,8 +246,13 @@ module _ (run : VolumeRun) (guards : Guards) (e : ℕ) (life : Life) (count : �
       absurd (omega arith))
       (λ up.
       let begun : VolumeData = volume_of (life.states 0).settings life.generation (phase.Fencing (new_fencing life.generation)) in
-      subst (λ (v : VolumeData). (v.generation ≡ life.generation) × OrderedPhase (PastOf 0) v.phase) (sym up.2)
-      (refl, λ p past. let m : ℕ = past.0 in let low : m < 0 = past.1 in absurd (omega arith)))
+      subst (λ (v : VolumeData). (v.generation ≡ life.generation) × OrderedPhase (PastOf 0) v.phase) (sym up.2) (
+        refl,
+        (
+          λ p past. let m : ℕ = past.0 in let low : m < 0 = past.1 in absurd (omega arith),
+          λ past. let m : ℕ = past.0 in let low : m < 0 = past.1 in absurd (omega arith),
+        ),
+      ))
       starts
 
   ordered : (n : ℕ) → n < count → After (suc n) n
@@ -249,6 +262,29 @@ module _ (run : VolumeRun) (guards : Guards) (e : ℕ) (life : Life) (count : �
       with_step (suc n)
       (orders_step (PastOf (suc n)) life.generation some (life.states (suc n)) (life.states (suc (suc n))) (life.actions (suc n)) before.0 before.1
       (life.events (suc n)) (within run guards e life (suc n) (life.events (suc n)) (is.heard n step)) (is.steps (suc n) step))
+
+  -- before a quorum is gathered, none was
+  fences : (n : ℕ) (f : Fencing) → n < count → (life.states (suc n)).phase ≡ phase.Fencing f → (PastOf (suc n)).gathered → ⊥
+  fences n f step at past = (subst (λ (ph : Phase). OrderedPhase (PastOf (suc n)) ph) at (ordered n step).1).1 past
+
+  -- a step gathers a quorum
+  abbrev pub HasGatheredAt : ℕ → Type 0
+  HasGatheredAt n = ((f : Fencing) × ((life.states n).phase ≡ phase.Fencing f)) × ((o : Opening) × ((life.states (suc n)).phase ≡ phase.Opening o))
+
+  not_twice : (m n : ℕ) → m < n → n < count → HasGatheredAt m → HasGatheredAt n → ⊥
+  not_twice m zero early step one two = absurd (omega arith)
+  not_twice m (suc n) early step one two =
+      fences n two.0.0 (omega arith) two.0.1
+      (m, early, subst (λ (ph : Phase). IsGathered ph) (sym one.1.1) tt)
+
+  pub gathered_once : (m n : ℕ) → m < count → n < count → HasGatheredAt m → HasGatheredAt n → m ≡ n
+  gathered_once m n low step one two = ⊎_elim
+      (λ (early : m < n). absurd (not_twice m n early step one two))
+      (λ rest. ⊎_elim
+      (λ (late : n < m). absurd (not_twice n m late low two one))
+      (λ (same : m ≡ n). same)
+      rest)
+      (let way : (m < n) ⊎ ((n < m) ⊎ (m ≡ n)) = grind arith in way)
 
 pub plans_in_order : PlansInOrder
 plans_in_order run guards e life count is m n old plan early step was now =

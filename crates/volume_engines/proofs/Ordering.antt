@@ -122,39 +122,48 @@ follows u pair p plan behind is =
     is)
     behind.1
 
--- ---- what holds in each phase, where earlier steps have proposed these plans
+-- ---- what holds in each phase, by what was before
+-- the plans that earlier steps have proposed, and whether one of them has gathered a quorum
+pub record Before : Type 1 where
+  pub proposed : Plan → Type 0
+  pub gathered : Type 0
+
 -- the plan is the next one
-pub record IsLatest (Past : Plan → Type 0) (u : State) (pair : Option AcceptedCut) (plan : Plan) : Type 0 where
+pub record IsLatest (Past : Before) (u : State) (pair : Option AcceptedCut) (plan : Plan) : Type 0 where
   pub is : IsPlan u pair plan
-  pub latest : (p : Plan) → Past p → IsPlanUpTo p plan
+  pub latest : (p : Plan) → Past.proposed p → IsPlanUpTo p plan
 
-abbrev pub AreBehind : (Plan → Type 0) → State → Option AcceptedCut → Type 0
-AreBehind Past u pair = (p : Plan) → Past p → IsBehind u pair p
+abbrev pub AreBehind : Before → State → Option AcceptedCut → Type 0
+AreBehind Past u pair = (p : Plan) → Past.proposed p → IsBehind u pair p
 
-abbrev pub OrderedStage : (Plan → Type 0) → State → Option AcceptedCut → Stage → Type 0
+abbrev pub OrderedStage : Before → State → Option AcceptedCut → Stage → Type 0
 OrderedStage Past u pair (stage.Pulling left) = AreBehind Past u pair
 OrderedStage Past u pair (stage.Spreading plan known) = AreBehind Past u pair × IsPlan u pair plan
 OrderedStage Past u pair (stage.Proposing plan accepted) = IsLatest Past u pair plan
 OrderedStage Past u pair (stage.Taking plan reported) = IsLatest Past u pair plan
 
-pub record OrderedOpening (Past : Plan → Type 0) (o : Opening) : Type 0 where
+pub record OrderedOpening (Past : Before) (o : Opening) : Type 0 where
   pub cuts : HasCutsTo o.union.book.cuts o.union.book.complete
   pub at : OrderedStage Past o.union o.pair o.stage
 
-abbrev pub OrderedPhase : (Plan → Type 0) → Phase → Type 0
+abbrev pub OrderedPhase : Before → Phase → Type 0
 OrderedPhase Past phase.Idle = Unit {0}
 OrderedPhase Past (phase.Creating c) = ⊥
-OrderedPhase Past (phase.Fencing f) = (p : Plan) → Past p → ⊥
+OrderedPhase Past (phase.Fencing f) = ((p : Plan) → Past.proposed p → ⊥) × (Past.gathered → ⊥)
 OrderedPhase Past (phase.Opening o) = OrderedOpening Past o
 OrderedPhase Past (phase.Open w) = Unit {0}
 
-abbrev pub OrderedTurn : (Plan → Type 0) → Phase → Turn → Type 0
+abbrev pub OrderedTurn : Before → Phase → Turn → Type 0
 OrderedTurn Past left (turn.Stay asked) = OrderedPhase Past left
 OrderedTurn Past left (turn.Enter next asked) = OrderedPhase Past next
 OrderedTurn Past left (turn.End asked) = Unit {0}
 
 -- ---- what the step itself proposes
-stage_with : (Past More : Plan → Type 0) (u : State) (pair : Option AcceptedCut) (st : Stage) → ((p : Plan) → More p → Past p ⊎ IsPlanOf st p)
+abbrev pub IsGathered : Phase → Type 0
+IsGathered (phase.Opening o) = Unit {0}
+IsGathered other = ⊥
+
+stage_with : (Past More : Before) (u : State) (pair : Option AcceptedCut) (st : Stage) → ((p : Plan) → More.proposed p → Past.proposed p ⊎ IsPlanOf st p)
     → OrderedStage Past u pair st → OrderedStage More u pair st
 stage_with Past More u pair (stage.Pulling left) split k = λ p more. ⊎_elim (λ past. k p past) (λ no. absurd no) (split p more)
 stage_with Past More u pair (stage.Spreading plan known) split k = (λ p more. ⊎_elim (λ past. k.0 p past) (λ no. absurd no) (split p more), k.1)
@@ -163,24 +172,26 @@ stage_with Past More u pair (stage.Proposing plan accepted) split k =
 stage_with Past More u pair (stage.Taking plan reported) split k =
     record { is = k.is; latest = λ p more. ⊎_elim (λ past. k.latest p past) (λ no. absurd no) (split p more) }
 
-pub phase_with : (Past More : Plan → Type 0) (ph : Phase) → ((p : Plan) → More p → Past p ⊎ IsPlanIn ph p) → OrderedPhase Past ph → OrderedPhase More ph
-phase_with Past More phase.Idle split k = tt
-phase_with Past More (phase.Creating c) split k = k
-phase_with Past More (phase.Fencing f) split k = λ p more. ⊎_elim (λ past. k p past) (λ no. absurd no) (split p more)
-phase_with Past More (phase.Opening o) split k = record { cuts = k.cuts; at = stage_with Past More o.union o.pair o.stage split k.at }
-phase_with Past More (phase.Open w) split k = tt
+pub phase_with : (Past More : Before) (ph : Phase) → ((p : Plan) → More.proposed p → Past.proposed p ⊎ IsPlanIn ph p)
+    → (More.gathered → Past.gathered ⊎ IsGathered ph) → OrderedPhase Past ph → OrderedPhase More ph
+phase_with Past More phase.Idle split cut k = tt
+phase_with Past More (phase.Creating c) split cut k = k
+phase_with Past More (phase.Fencing f) split cut k =
+    (λ p more. ⊎_elim (λ past. k.0 p past) (λ no. absurd no) (split p more), λ more. ⊎_elim (λ past. k.1 past) (λ no. absurd no) (cut more))
+phase_with Past More (phase.Opening o) split cut k = record { cuts = k.cuts; at = stage_with Past More o.union o.pair o.stage split k.at }
+phase_with Past More (phase.Open w) split cut k = tt
 
-up_to_stage : (Past : Plan → Type 0) (u : State) (pair : Option AcceptedCut) (st : Stage) (plan : Plan) → OrderedStage Past u pair st → IsPlanOf st plan
-    → (p : Plan) → Past p → IsPlanUpTo p plan
+up_to_stage : (Past : Before) (u : State) (pair : Option AcceptedCut) (st : Stage) (plan : Plan) → OrderedStage Past u pair st → IsPlanOf st plan
+    → (p : Plan) → Past.proposed p → IsPlanUpTo p plan
 up_to_stage Past u pair (stage.Proposing own accepted) plan k is p past = subst (λ (q : Plan). IsPlanUpTo p q) is (k.latest p past)
 up_to_stage Past u pair other plan k is p past = absurd is
 
-pub up_to : (Past : Plan → Type 0) (ph : Phase) (plan : Plan) → OrderedPhase Past ph → IsPlanIn ph plan → (p : Plan) → Past p → IsPlanUpTo p plan
+pub up_to : (Past : Before) (ph : Phase) (plan : Plan) → OrderedPhase Past ph → IsPlanIn ph plan → (p : Plan) → Past.proposed p → IsPlanUpTo p plan
 up_to Past (phase.Opening o) plan k is p past = up_to_stage Past o.union o.pair o.stage plan k.at is p past
 up_to Past other plan k is p past = absurd is
 
 -- ---- turns
-module _ (Past : Plan → Type 0) (left : Phase) where
+module _ (Past : Before) (left : Phase) where
   pub on_stay : (t : Turn) (asked : List Action) → Stays t asked → OrderedPhase Past left → OrderedTurn Past left t
   on_stay (turn.Stay actions) asked says k = k
   on_stay (turn.Enter next actions) asked says k = absurd says
@@ -197,7 +208,7 @@ module _ (Past : Plan → Type 0) (left : Phase) where
   on_stop (turn.End actions) f says = tt
 
 -- ---- an opening after a quorum is fenced
-module _ (Past : Plan → Type 0) (quorum : ℕ) (old : Opening) (k : OrderedOpening Past old) where
+module _ (Past : Before) (quorum : ℕ) (old : Opening) (k : OrderedOpening Past old) where
   abbrev Left : Opening → Turn → Type 0
   Left new t = OrderedTurn Past (phase.Opening new) t
 

@@ -9,8 +9,8 @@ use Rattle.volume.specs.declared.phases.Opening.{Opening}
 use Rattle.volume.specs.declared.phases.Phase.TheVariants as phase
 use Rattle.volume.specs.declared.plans.Plan.{Plan}
 use Rattle.volume.specs.Sets.{is_marked}
-use Rattle.volume_theorems.specs.Runs.{Engine}
-use Rattle.volume_engines.specs.Lives.{Life}
+use Rattle.volume_theorems.specs.Runs.{VolumeRun, Engine}
+use Rattle.volume_engines.specs.Lives.{Life, Guards, IsLife}
 use Rattle.volume_engines.specs.Proposed.{ProposesAt}
 
 -- `at`, if the reply says that the node is fenced to the generation; else what was there before
@@ -52,3 +52,7 @@ pub record IsEngineOf (life : Life) (count : ℕ) (e : Engine) : Type 0 where
   pub cuts : (n : ℕ) (plan : Plan) → n < count → IsFirstPlan life (λ p. p.cut.epoch ≡ plan.cut.epoch) n plan → e.cuts plan.cut.epoch ≡ plan.cut
   pub opens : (n : ℕ) (plan : Plan) → n < count → IsFirstPlan life (λ p. p.is_pending ≡ false) n plan → e.opens ≡ plan.cut.epoch
   pub above : AreAllPending life count → (n : ℕ) (plan : Plan) → n < count → ProposesAt life n plan → plan.cut.epoch < e.opens
+
+-- For each life there is such an engine.
+abbrev pub LivesNameEngines : Type 0
+LivesNameEngines = (run : VolumeRun) (guards : Guards) (e : ℕ) (life : Life) (count : ℕ) → IsLife run guards e life count → (engine : Engine) × IsEngineOf life count engine

@@ -1,6 +1,7 @@
 //! An engine that only steps its machine keeps the rules of the volume protocol.
 #![tactic(auto)]
 
+ghost use Rattle.volume_engines.specs.Engines.{LivesNameEngines};
 ghost use Rattle.volume_engines.specs.Proposed.{PlansInOrder};
 ghost use Rattle.volume_engines.specs.Admitted.{AdmissionsKeepRules, RequestsKeepRules};
 ghost use Rattle.volume_engines.specs.Openings.{OpeningsAreDurable, TakesKeepRules};
@@ -11,6 +12,11 @@ ghost use Rattle.volume_engines.specs.Writers.{EmissionsKeepRules};
 /// Of one epoch a life proposes one truncation, pending ones before the engine's own.
 pub fn plans_in_order()
     ensures { PlansInOrder }
+{}
+
+/// Each life names an engine, so that to name one is no condition on lives.
+pub fn lives_name_engines()
+    ensures { LivesNameEngines }
 {}
 
 /// What a machine that only steps proposes, the rules of the protocol let its engine propose.
