@@ -30,3 +30,4 @@ pub mod Emissions
 pub mod Writings
 pub mod Reporting
 pub mod Emitting
+pub mod Resuming

@@ -8,3 +8,4 @@ pub mod Admitted
 pub mod Emissions
 pub mod Reporting
 pub mod Writers
+pub mod Resuming

@@ -8,6 +8,7 @@ ghost use Rattle.volume_engines.specs.Openings.{OpeningsAreDurable, TakesKeepRul
 ghost use Rattle.volume_engines.specs.Proposals.{ProposalsKeepRules};
 ghost use Rattle.volume_engines.specs.Reporting.{ReportsAreDurable};
 ghost use Rattle.volume_engines.specs.Writers.{EmissionsKeepRules};
+ghost use Rattle.volume_engines.specs.Resuming.{OpeningsGoOn};
 
 /// Of one epoch a life proposes one truncation, pending ones before the engine's own.
 pub fn plans_in_order()
@@ -52,4 +53,9 @@ pub fn reports_are_durable()
 /// What it emits, the rules let the writer of its epoch emit, where its writer began by going on from the epochs below.
 pub fn emissions_keep_rules()
     ensures { EmissionsKeepRules }
+{}
+
+/// The writer that it begins with, made of what the union stores, goes on from the epochs below, where the union has nothing of later ones.
+pub fn openings_go_on()
+    ensures { OpeningsGoOn }
 {}

@@ -223,7 +223,7 @@ number_after page (r ∷ rs) long all =
     number_after (write page r) rs (write_long page r long) (λ s inside. all s (there r rs s inside))
     ∙ ap (λ (n : ℕ). last_number n rs) (number_written page r long (all r (here r rs)).0 (all r (here r rs)).1)
 
-number_zeros : number_of zeros ≡ 0
+pub number_zeros : number_of zeros ≡ 0
 unfolding zeros
 number_zeros = refl
 
