@@ -29,6 +29,7 @@ test: build ## every test from outside; builds what is missing
 
 bench: build ## measure the programs: make bench PEER=PROGRAM writes bench/RESULTS.md
 	bench/measure.py $(if $(PEER),--peer $(PEER)) | tee bench/RESULTS.new
+	echo >> bench/RESULTS.new && bench/guards.py | tee -a bench/RESULTS.new
 	sed -n '/^## SQLite/,$$p' bench/RESULTS.md >> bench/RESULTS.new && mv bench/RESULTS.new bench/RESULTS.md
 
 prove: ## prove one crate and those below it: make prove CRATE=segment_core
