@@ -33,11 +33,12 @@ MUTANTS = {
         "openings_with_stopped_servers",
         "driver.rs",
         {
-            "if self.grace.is_some() || (self.opening.is_none() && !self.progress.is_waiting()) {": "if self.opening.is_none() && !self.progress.is_waiting() {",
+            "if self.grace.is_some() || (!self.is_opening() && !self.progress.is_waiting()) {": "if !self.is_opening() && !self.progress.is_waiting() {",
         },
     ),
     "keeps_to_itself_what_was_durable": ("third_server", "../c/src/known.rs", {"lock(&self.0).learn(found);": "let _ = found;"}),
     "believes_another_volume": ("another_volume", "known.rs", {"if !self.meets(found) {": "if self.births.is_empty() {"}),
+    "never_opens_again": ("replaced_one_by_one", "driver.rs", {"if is_at_rest || self.opening.is_some() {": "if is_at_rest || self.generation > 0 {"}),
 }
 
 

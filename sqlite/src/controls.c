@@ -48,9 +48,12 @@ static char *describe(struct database *database) {
     enum yieldcleat_fault fault = yieldcleat_volume_status(handle->volume, &status);
     engine_return(database->engine, handle, YIELDCLEAT_OK);
     if (fault) return sqlite3_mprintf("unknown");
-    return sqlite3_mprintf("%s, point %llu, readable from %llu on, generation %llu, %u of %u nodes answer, %u are needed",
-                           writes ? "writing" : "reading", (unsigned long long)status.newest, (unsigned long long)status.least,
-                           (unsigned long long)status.generation, status.have, status.nodes, status.need);
+    char *uncounted = status.uncounted ? sqlite3_mprintf(" (%u of them wait to be admitted)", status.uncounted) : 0;
+    char *text = sqlite3_mprintf("%s, point %llu, readable from %llu on, generation %llu, %u of %u nodes answer%s, %u are needed",
+                                 writes ? "writing" : "reading", (unsigned long long)status.newest, (unsigned long long)status.least,
+                                 (unsigned long long)status.generation, status.have, status.nodes, uncounted ? uncounted : "", status.need);
+    sqlite3_free(uncounted);
+    return text;
 }
 
 /* The words of a pragma: its answer comes first, then its name, and its value or null. */

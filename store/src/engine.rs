@@ -67,12 +67,14 @@ pub struct Engine {
     metrics: Arc<Metrics>,
     housekeeping: Housekeeping,
     next_look: Instant,
+    /// Whether the node was no member at the last look.
+    was_fresh: bool,
 }
 
 impl Engine {
     pub fn new(store: Store, queue: usize, metrics: Arc<Metrics>, housekeeping: Housekeeping) -> (Engine, Handle) {
         let (sender, messages) = sync_channel(queue);
-        (Engine { store, messages, metrics, housekeeping, next_look: Instant::now() }, Handle(sender))
+        (Engine { store, messages, metrics, housekeeping, next_look: Instant::now(), was_fresh: false }, Handle(sender))
     }
 
     /// Answers until it is stopped.
@@ -174,6 +176,10 @@ impl Engine {
         };
         let (membership, state) = (told.first().map(|it| engines::membership(it)), told.get(1).map(|it| answers::state(it)));
         if let (Some(Ok(membership)), Some(Ok(state))) = (membership, state) {
+            if self.was_fresh && membership.is_member {
+                crate::say(format_args!("admitted by the engine of generation {}", membership.generation));
+            }
+            self.was_fresh = !membership.is_member;
             self.metrics.see(Seen { membership, state, activity: self.store.activity() });
         }
         Ok(())

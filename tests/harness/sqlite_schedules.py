@@ -322,6 +322,47 @@ def outlive(pipe, place):
     ours.close()
 
 
+def check_replaced_one_by_one(world):
+    """One connection stays open while four servers lose their files, one after another, also where nobody writes: each counts again before
+    the next one goes. Then two others may go."""
+    cluster = world.cluster()
+    filled(cluster)
+    ours, rows = Engine(cluster.folder / "volume"), 3
+    for victim in range(QUORUM):
+        ours.write("all have it")
+        cluster.wipe(victim)
+        if victim % 2:
+            ours.write("five have it")
+        cluster.start(victim)
+        assert until(lambda: cluster.members() == list(range(NODES))), f"server {victim} does not count: {cluster.members()}"
+        rows += 1 + victim % 2
+        log = cluster.stores[victim].log
+        assert until(lambda: log().count("admitted by the engine of generation") == 2), log()  # also when the volume was made
+    cluster.kill(4, 5)
+    ours.write("four have it")
+    assert ours.run("pragma integrity_check") == [("ok",)]
+    assert ours.rows() == [(rows + 1,)]
+    ours.kill()
+    assert shows(cluster, rows + 1) == rows + 1
+
+
+def check_replaced_beside_two_engines(world):
+    """An engine that was fenced and does not know it leaves the newer one alone where a server has lost its files."""
+    cluster = world.cluster()
+    filled(cluster)
+    old, new = Engine(cluster.folder / "volume"), Engine(cluster.folder / "volume")
+    old.write("old")
+    new.write("new")
+    cluster.wipe(0)
+    cluster.start(0)
+    assert until(lambda: cluster.members() == list(range(NODES))), cluster.members()
+    for _ in range(20):
+        new.write("new")
+        time.sleep(0.1)
+    assert old.run("insert into t(b) values('old')").startswith("SQLITE_IOERR_LOCK")
+    assert old.rows() == new.rows() == [(25,)]
+
+
 # Recovery
 
 

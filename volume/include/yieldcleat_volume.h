@@ -8,7 +8,9 @@
  * is never visible. A volume without commits is at point 0. The point of a commit that was lost may become that of another one.
  *
  * One handle at a time writes. Opening another one for writing fences the former, wherever it is: its calls fail with YIELDCLEAT_FENCED
- * from the moment at which it learns of that, and what it had not made durable may be lost, or not. Any number of handles read.
+ * from the moment at which it learns of that, and what it had not made durable may be lost, or not. Any number of handles read. Where a
+ * node has lost its files, the writer opens the volume again by itself, once all of its commits are durable, so that the node counts;
+ * commits wait meanwhile, and yieldcleat_volume_status has another generation afterwards.
  *
  * Threads. Calls on one handle may come from several threads at once. All calls block; none waits longer for nodes than the time that the
  * handle was opened with. What one thread stages belongs to the commit of whichever thread commits next, so let one thread write at a time.
@@ -85,6 +87,7 @@ struct yieldcleat_status {
     uint64_t generation;    /* of the handle that opened the volume for writing last, as far as this one knows */
     uint32_t have, need;    /* nodes that answer, and that a commit needs */
     uint32_t nodes;         /* that the volume has */
+    uint32_t uncounted;     /* of those that answer a writer: they lost their files, and count once it has opened the volume again */
 };
 
 struct yieldcleat_volume; /* a handle */

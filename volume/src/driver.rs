@@ -4,8 +4,11 @@ use crate::errors::VolumeError;
 use crate::link::Heard;
 use crate::machine::{Action, Event, Fault, Machine};
 use crate::options::Options;
-use crate::progress::Progress;
+use crate::peer::Peer;
+use crate::progress::{Place, Progress};
+use crate::reopening::{Next, Reopening, Seen};
 use crate::volume::PageWrite;
+use std::collections::VecDeque;
 use std::sync::mpsc::{Receiver, RecvTimeoutError, Sender};
 use std::sync::Arc;
 use std::time::{Duration, Instant};
@@ -15,8 +18,27 @@ use yieldcleat_client::engines;
 pub enum Call {
     Create { done: Sender<Result<(), VolumeError>> },
     Open { generation: u64, done: Sender<Result<(), VolumeError>> },
-    Commit { writes: Vec<PageWrite>, header: Vec<u8>, done: Sender<Result<u64, VolumeError>> },
-    Advance { reader: u8, point: u64, done: Sender<Result<(), VolumeError>> },
+    Commit { writes: Vec<PageWrite>, header: Vec<u8>, deadline: Instant, done: Sender<Result<u64, VolumeError>> },
+    Advance { reader: u8, point: u64, deadline: Instant, done: Sender<Result<(), VolumeError>> },
+}
+
+impl Call {
+    /// Whether it may still wait for an opening; an opening itself does not.
+    fn may_wait(&self, now: Instant) -> bool {
+        match self {
+            Call::Commit { deadline, .. } | Call::Advance { deadline, .. } => now < *deadline,
+            Call::Create { .. } | Call::Open { .. } => false,
+        }
+    }
+
+    /// Answers a call that is not carried out.
+    fn refuse(self, error: VolumeError) {
+        // A caller that has given up does not listen.
+        let _ = match self {
+            Call::Create { done } | Call::Open { done, .. } | Call::Advance { done, .. } => done.send(Err(error)).is_ok(),
+            Call::Commit { done, .. } => done.send(Err(error)).is_ok(),
+        };
+    }
 }
 
 pub enum Input {
@@ -25,39 +47,33 @@ pub enum Input {
     Close,
 }
 
-/// A node as the driver sees it.
-struct Peer {
-    /// Nothing where the node is not connected.
-    queue: Option<Sender<Vec<u8>>>,
-    /// Whether it has answered since it was connected.
-    is_answering: bool,
-    /// How many bytes of requests are not answered.
-    pending: usize,
-    /// When it was asked or heard last.
-    active: Instant,
-}
-
-impl Peer {
-    fn new() -> Peer {
-        Peer { queue: None, is_answering: false, pending: 0, active: Instant::now() }
-    }
-
-    /// Queues a request. A node that does not keep up with what it is sent is cut off: its link connects again, and gossip brings the rest.
-    fn ask(&mut self, request: Vec<u8>, most: usize) {
-        self.pending += request.len();
-        self.active = Instant::now();
-        if self.pending > most {
-            self.queue = None;
-        }
-        if let Some(queue) = &self.queue {
-            // A link that has ended says so next.
-            let _ = queue.send(request);
-        }
-    }
-}
-
 /// How long an opening goes on when a node is gone that had answered it. It may be one that the opening waits for: then another one begins.
 const WITHOUT: Duration = Duration::from_millis(500);
+
+/// For what an opening pauses: the machine is not told the answers that would end the pause.
+#[derive(Clone, Copy, PartialEq, Eq)]
+enum Pause {
+    /// Further nodes that are connected may answer, so that an opening learns of fresh ones.
+    Fence,
+    /// Fresh nodes may become members. Once the next epoch begins, gossip may bring it to them, and then they are refused.
+    Admission,
+}
+
+impl Pause {
+    fn holds_back(self, answer: &[u8]) -> bool {
+        answer.starts_with(match self {
+            Pause::Fence => b"fenced ",
+            Pause::Admission => b"accepted ",
+        })
+    }
+
+    fn is_waiting_for(self, peer: &Peer) -> bool {
+        match self {
+            Pause::Fence => peer.queue.is_some() && peer.pending > 0,
+            Pause::Admission => peer.awaits_admission,
+        }
+    }
+}
 
 /// An answer that the machine has not been told.
 struct Held {
@@ -83,11 +99,14 @@ pub struct Driver<M> {
     generation: u64,
     /// Who waits for an opening or a creation.
     opening: Option<Sender<Result<(), VolumeError>>>,
-    /// Until when the answers of nodes that are fenced are held back, and these answers.
-    grace: Option<Instant>,
+    /// Until when answers are held back, and these answers.
+    grace: Option<(Pause, Instant)>,
     held: Vec<Held>,
     /// When an opening that has lost a node is given up.
     given_up: Option<Instant>,
+    reopening: Reopening,
+    /// Calls that wait until the volume is open again, in their order.
+    deferred: VecDeque<Call>,
     options: Options,
     most_pending: usize,
 }
@@ -105,6 +124,8 @@ impl<M: Machine> Driver<M> {
             grace: None,
             held: Vec::new(),
             given_up: None,
+            reopening: Reopening::new(options, Instant::now()),
+            deferred: VecDeque::new(),
             options: options.clone(),
             most_pending,
         }
@@ -115,13 +136,17 @@ impl<M: Machine> Driver<M> {
         loop {
             match inputs.recv_timeout(self.options.remind) {
                 Ok(Input::Heard(heard)) => self.hear(heard),
+                Ok(Input::Call(call)) if self.holds() && call.may_wait(Instant::now()) => self.deferred.push_back(call),
                 Ok(Input::Call(call)) => self.carry_out(call),
                 Err(RecvTimeoutError::Timeout) => {}
                 Ok(Input::Close) | Err(RecvTimeoutError::Disconnected) => break,
             }
             self.release_held();
             self.give_up_opening();
+            self.reopen();
+            self.go_on();
             self.remind_idle();
+            self.look_at_idle();
         }
         self.progress.fail(VolumeError::Closed);
     }
@@ -137,38 +162,59 @@ impl<M: Machine> Driver<M> {
                 let had_answered = self.peers[usize::from(node)].is_answering;
                 self.peers[usize::from(node)] = Peer::new();
                 self.report_reached();
-                if had_answered && self.opening.is_some() {
+                if had_answered && self.is_opening() {
                     self.given_up.get_or_insert(Instant::now() + WITHOUT);
                 }
             }
-            Heard::Answered { node, request, answer } => {
-                let peer = &mut self.peers[usize::from(node)];
-                peer.pending = peer.pending.saturating_sub(request.len());
-                peer.active = Instant::now();
-                if !peer.is_answering {
-                    peer.is_answering = true;
-                    self.report_reached();
-                }
-                let fenced = answer.starts_with(b"fenced ").then(|| engines::fenced(&answer)).and_then(Result::ok);
-                if let Some(fenced) = fenced {
-                    self.progress.met(fenced.birth);
-                }
-                match self.grace.is_some() && fenced.is_some() {
-                    true => self.held.push(Held { node, request, answer }),
-                    false => self.notice(Event::Answered { node, request: &request, answer: &answer }),
-                }
+            Heard::Answered { node, request, answer } => self.hear_answer(node, request, answer),
+        }
+    }
+
+    fn hear_answer(&mut self, node: u8, request: Vec<u8>, answer: Vec<u8>) {
+        let peer = &mut self.peers[usize::from(node)];
+        let has_changed = peer.hear(&request, &answer, self.generation);
+        let is_of_another = peer.is_of_another(&request, &answer, self.generation);
+        if has_changed {
+            self.report_reached();
+        }
+        if is_of_another && self.reopening.is_shut() {
+            return self.progress.fail(VolumeError::Fenced { generation: self.generation });
+        }
+        if request == engines::STATUS && self.progress.place().is_some() {
+            // An open machine asks for none. A node whose answer is no status does not count.
+            return engines::membership(&answer).map_or((), |status| self.reopening.hear(node, status));
+        }
+        let fenced = answer.starts_with(b"fenced ").then(|| engines::fenced(&answer)).and_then(Result::ok);
+        if let Some(fenced) = fenced {
+            self.progress.met(fenced.birth);
+        }
+        match self.grace.is_some_and(|(pause, _)| pause.holds_back(&answer)) {
+            true => self.held.push(Held { node, request, answer }),
+            false => self.notice(Event::Answered { node, request: &request, answer: &answer }),
+        }
+    }
+
+    /// Tells the machine what was held back, when no node has to answer any more or the time is up.
+    fn release_held(&mut self) {
+        let Some((pause, end)) = self.grace else {
+            return;
+        };
+        let is_waiting = self.peers.iter().any(|peer| pause.is_waiting_for(peer));
+        if !is_waiting || Instant::now() >= end {
+            self.grace = None;
+            self.peers.iter_mut().for_each(|peer| peer.awaits_admission = false);
+            for Held { node, request, answer } in std::mem::take(&mut self.held) {
+                self.notice(Event::Answered { node, request: &request, answer: &answer });
             }
         }
     }
 
-    /// Tells the machine which nodes are fenced, when all that are connected have answered or the time is up.
-    fn release_held(&mut self) {
-        let is_waiting = self.peers.iter().any(|peer| peer.queue.is_some() && peer.pending > 0);
-        if self.grace.is_some_and(|end| !is_waiting || Instant::now() >= end) {
-            self.grace = None;
-            for Held { node, request, answer } in std::mem::take(&mut self.held) {
-                self.notice(Event::Answered { node, request: &request, answer: &answer });
-            }
+    /// Pauses an opening that has asked fresh nodes to become members.
+    fn pause_for_admission(&mut self) {
+        if self.is_opening() && self.grace.is_none() && self.peers.iter().any(|peer| peer.awaits_admission) {
+            let long = if self.reopening.is_opening() { self.options.admission } else { self.options.grace };
+            self.grace = Some((Pause::Admission, Instant::now() + long));
+            self.reopening.prolong(long);
         }
     }
 
@@ -182,7 +228,8 @@ impl<M: Machine> Driver<M> {
 
     fn report_reached(&self) {
         let count = |is: fn(&Peer) -> bool| self.peers.iter().filter(|peer| is(peer)).count();
-        self.progress.reached(count(|peer| peer.queue.is_some()), count(|peer| peer.is_answering));
+        let (connected, answering) = (count(|peer| peer.queue.is_some()), count(|peer| peer.is_answering));
+        self.progress.reached(connected, answering, count(|peer| peer.outside.is_some()));
     }
 
     /// A step that no caller waits for. Without memory it counts as not having come, as if a message were lost.
@@ -194,7 +241,7 @@ impl<M: Machine> Driver<M> {
             self.end_opening(Ok(()));
         }
         if let Some(fault) = outcome.refused {
-            match self.opening.is_some() {
+            match self.opening.is_some() || self.reopening.is_shut() {
                 true => self.end_opening(Err(fault.into())),
                 false => self.progress.fail(fault.into()),
             }
@@ -206,22 +253,37 @@ impl<M: Machine> Driver<M> {
         if let Some(done) = self.opening.take() {
             // A caller that has given up does not listen.
             let _ = done.send(ended);
+        } else if self.reopening.is_shut() {
+            match ended {
+                Ok(()) => self.reopening.succeed(Instant::now()),
+                Err(VolumeError::Refused(Fault::NoQuorum { .. })) => self.reopening.fail(Instant::now()),
+                Err(error) => self.progress.fail(error),
+            }
         }
+    }
+
+    /// Whether an opening goes on.
+    fn is_opening(&self) -> bool {
+        self.opening.is_some() || self.reopening.is_opening()
     }
 
     /// Steps the machine, and sends what it asks.
     fn step(&mut self, event: Event<'_>) -> Result<Outcome, VolumeError> {
         let actions = self.machine.step(event).map_err(|_| VolumeError::Memory)?;
         let mut outcome = Outcome::default();
+        // An opening sends a node all that it lacks, in one request.
+        let most = if self.is_opening() { usize::MAX } else { self.most_pending };
         for action in actions {
             match action {
+                // The node has what it is to absorb, and may be admitted at once.
+                Action::Ask { node, request } if request.starts_with(b"absorb ") && self.reopening.is_helped(node) => {}
                 Action::Ask { node, request } => {
                     if let Some(peer) = self.peers.get_mut(usize::from(node)) {
-                        peer.ask(request, self.most_pending);
+                        peer.ask(request, most);
                     }
                 }
                 Action::Opened { epoch, commit_point, header } => {
-                    self.progress.open(self.generation, epoch, commit_point, header);
+                    self.opened(epoch, commit_point, header);
                     outcome.is_done = true;
                 }
                 Action::Created => outcome.is_done = true,
@@ -230,26 +292,112 @@ impl<M: Machine> Driver<M> {
                 Action::Refused(fault) => outcome.refused = Some(fault),
             }
         }
+        self.pause_for_admission();
         Ok(outcome)
+    }
+
+    /// Reports that the volume is open. Where it was open before, nothing was in flight, so a commit that this engine has not made is of
+    /// another one, which had the volume in between.
+    fn opened(&self, epoch: u16, commit_point: u64, header: Vec<u8>) {
+        match self.progress.place() {
+            Some(place) if place.committed != commit_point => {
+                self.progress.fail(VolumeError::Fenced { generation: self.generation.saturating_sub(1) });
+            }
+            _ => self.progress.open(self.generation, epoch, commit_point, header),
+        }
     }
 
     fn carry_out(&mut self, call: Call) {
         match call {
             Call::Create { done } => self.begin(Event::Create, done),
             Call::Open { generation, done } => {
-                self.generation = generation;
-                self.held.clear();
-                self.given_up = None;
-                self.grace = Some(Instant::now() + self.options.grace);
+                self.claim(generation);
                 self.begin(Event::Open { generation }, done);
             }
-            Call::Commit { writes, header, done } => {
+            Call::Commit { writes, header, done, .. } => {
                 // A caller that has given up does not listen.
                 let _ = done.send(self.commit(&writes, &header));
             }
-            Call::Advance { reader, point, done } => {
+            Call::Advance { reader, point, done, .. } => {
                 let outcome = self.step(Event::Advance { reader, point });
                 let _ = done.send(outcome.and_then(|it| it.refused.map_or(Ok(()), |fault| Err(fault.into()))));
+            }
+        }
+    }
+
+    /// Readies an opening under a generation.
+    fn claim(&mut self, generation: u64) {
+        self.generation = generation;
+        self.progress.claim(generation);
+        self.held.clear();
+        self.given_up = None;
+        self.peers.iter_mut().for_each(|peer| peer.awaits_admission = false);
+        self.grace = Some((Pause::Fence, Instant::now() + self.options.grace));
+    }
+
+    /// Whether calls wait until the volume is open again.
+    fn holds(&self) -> bool {
+        self.reopening.holds() && self.progress.place().is_some()
+    }
+
+    /// Opens an open volume again, where a node that answers does not count.
+    fn reopen(&mut self) {
+        let is_at_rest = self.reopening.is_at_rest() && self.peers.iter().all(|peer| peer.outside.is_none());
+        if is_at_rest || self.opening.is_some() {
+            return;
+        }
+        let Some(place) = self.progress.place() else {
+            return;
+        };
+        match self.reopening.next(Instant::now(), &self.seen(place)) {
+            Next::Nothing => {}
+            Next::Ask => self.peers.iter_mut().for_each(|peer| peer.ask(engines::STATUS.to_vec(), usize::MAX)),
+            Next::Open => self.open_again(),
+            Next::Fenced { generation } => self.progress.fail(VolumeError::Fenced { generation }),
+        }
+    }
+
+    fn seen(&self, place: Place) -> Seen {
+        let Place { epoch, durable, committed, is_waiting } = place;
+        let outside = self.peers.iter().filter_map(|peer| peer.outside).collect();
+        let connected = self.peers.iter().filter(|peer| peer.queue.is_some()).count();
+        Seen { outside, connected, claimed: self.generation, epoch, durable, committed, is_waiting }
+    }
+
+    /// Begins an opening that no caller waits for. Without memory the machine is as before.
+    fn open_again(&mut self) {
+        let before = self.generation;
+        let generation = before.saturating_add(1);
+        self.claim(generation);
+        self.peers.iter_mut().for_each(|peer| peer.awaits_fence = peer.queue.is_some());
+        match self.step(Event::Open { generation }) {
+            Ok(outcome) => {
+                self.reopening.begin();
+                if let Some(fault) = outcome.refused {
+                    self.end_opening(Err(fault.into()));
+                } else if outcome.is_done {
+                    self.end_opening(Ok(()));
+                }
+            }
+            Err(_) => {
+                (self.generation, self.grace) = (before, None);
+                self.reopening.refuse(Instant::now());
+            }
+        }
+    }
+
+    /// Carries out the calls that have waited, once the volume is open; those that may wait no longer are refused.
+    fn go_on(&mut self) {
+        if self.deferred.is_empty() {
+            return;
+        }
+        let (holds, now) = (self.holds(), Instant::now());
+        let quorum = self.progress.quorum(&self.options);
+        for call in std::mem::take(&mut self.deferred) {
+            match (holds, call.may_wait(now)) {
+                (false, _) => self.carry_out(call),
+                (true, true) => self.deferred.push_back(call),
+                (true, false) => call.refuse(VolumeError::NotReopened(quorum)),
             }
         }
     }
@@ -296,7 +444,7 @@ impl<M: Machine> Driver<M> {
     /// Asks nodes again that are silent while a commit or an opening waits for them: gossip may have brought them what they lacked. Nodes whose
     /// answers are held back are not silent.
     fn remind_idle(&mut self) {
-        if self.grace.is_some() || (self.opening.is_none() && !self.progress.is_waiting()) {
+        if self.grace.is_some() || (!self.is_opening() && !self.progress.is_waiting()) {
             return;
         }
         for place in 0..self.peers.len() {
@@ -306,6 +454,16 @@ impl<M: Machine> Driver<M> {
                 self.notice(Event::Failed { node: place as u8 });
             }
         }
+    }
+
+    /// Asks nodes for their status that are silent while the volume is open: one may have been started again without its files.
+    fn look_at_idle(&mut self) {
+        if self.is_opening() || self.progress.place().is_none() {
+            return;
+        }
+        let pause = self.options.admission;
+        let is_idle = |peer: &&mut Peer| peer.queue.is_some() && peer.pending == 0 && peer.active.elapsed() >= pause;
+        self.peers.iter_mut().filter(is_idle).for_each(|peer| peer.ask(engines::STATUS.to_vec(), usize::MAX));
     }
 }
 

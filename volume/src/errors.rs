@@ -7,8 +7,10 @@ use std::fmt;
 /// How many nodes there are for a write quorum.
 #[derive(Debug, Clone, Copy, PartialEq, Eq)]
 pub struct Quorum {
-    /// The nodes that answer.
+    /// The nodes that answer and count.
     pub have: usize,
+    /// Nodes that answer and do not count before the volume is opened again: they have lost their files.
+    pub uncounted: usize,
     /// How many a quorum takes.
     pub need: u8,
     /// The nodes of the volume.
@@ -17,16 +19,17 @@ pub struct Quorum {
 
 impl Quorum {
     pub(crate) fn of(have: usize, options: &Options) -> Quorum {
-        Quorum { have, need: options.quorum, nodes: options.nodes.len() }
+        Quorum { have, uncounted: 0, need: options.quorum, nodes: options.nodes.len() }
     }
 }
 
 impl fmt::Display for Quorum {
     fn fmt(&self, f: &mut fmt::Formatter<'_>) -> fmt::Result {
-        let Quorum { have, need, nodes } = self;
-        match have < &usize::from(*need) {
-            true => write!(f, "no write quorum: {have} of {nodes} nodes answer"),
-            false => write!(f, "no write quorum in time: {have} of {nodes} nodes answer"),
+        let Quorum { have, uncounted, need, nodes } = self;
+        let in_time = if have < &usize::from(*need) { "" } else { " in time" };
+        match uncounted {
+            0 => write!(f, "no write quorum{in_time}: {have} of {nodes} nodes answer"),
+            _ => write!(f, "no write quorum{in_time}: {have} of {nodes} nodes count, {uncounted} wait to be admitted"),
         }
     }
 }
@@ -58,6 +61,9 @@ pub enum VolumeError {
     },
     /// In the time allowed there was no room for another mini-transaction, or no quorum answered; it was not sent.
     Busy(Quorum),
+    /// In the time allowed the volume was not opened again, which it is where a node has to be admitted; the call was not sent, and the
+    /// volume goes on trying.
+    NotReopened(Quorum),
     /// No node has the page at the point within the time allowed.
     NotRead {
         page: u16,
@@ -106,6 +112,7 @@ impl fmt::Display for VolumeError {
                 true => write!(f, "{quorum}"),
                 false => f.write_str("too much is not durable yet"),
             },
+            VolumeError::NotReopened(quorum) => write!(f, "the volume is being opened again, to admit a node: {quorum}"),
             VolumeError::NotRead { page, point } => write!(f, "no node answers for page {page} at {point}"),
             VolumeError::Below { min } => write!(f, "the point is below the minimum read point {min}"),
             VolumeError::Above { newest } => write!(f, "the point is above the newest one that is known, {newest}"),

@@ -17,10 +17,12 @@ mod nodes;
 mod options;
 mod page_zero;
 mod panel;
+mod peer;
 mod place;
 mod progress;
 mod reader;
 mod reading;
+mod reopening;
 mod standing;
 mod volume;
 

@@ -26,6 +26,9 @@ pub struct Options {
     pub remind: Duration,
     /// How long an opening waits for further nodes when a quorum is there: it may admit a fresh node only if that has answered before.
     pub grace: Duration,
+    /// How long a node that has lost its files is left alone, so that gossip brings it the log, before an open volume is opened again to
+    /// admit it; also the least time between two such openings.
+    pub admission: Duration,
     /// The most bytes of mini-transactions that are not durable. A commit beyond that waits.
     pub in_flight: usize,
 }
@@ -65,6 +68,7 @@ impl Options {
             retry: Duration::from_millis(100),
             remind: Duration::from_millis(30),
             grace: Duration::from_millis(250),
+            admission: Duration::from_secs(2),
             in_flight: 8 << 20,
         }
     }

@@ -21,6 +21,18 @@ pub struct Standing {
     pub committed: u64,
     /// How many nodes answer.
     pub answering: usize,
+    /// How many of these count in no quorum yet: they have lost their files, and the volume opens again by itself to admit them.
+    pub uncounted: usize,
+}
+
+/// Where an open volume is, for whoever decides about it often.
+#[derive(Debug, Clone, Copy, PartialEq, Eq)]
+pub struct Place {
+    pub epoch: u16,
+    pub durable: u64,
+    pub committed: u64,
+    /// Whether a mini-transaction is not durable.
+    pub is_waiting: bool,
 }
 
 /// The bytes of a mini-transaction that is not durable.
@@ -33,12 +45,21 @@ struct InFlight {
 #[derive(Default)]
 struct State {
     standing: Option<Standing>,
+    /// The greatest generation that nodes were asked to serve.
+    claimed: u64,
     connected: usize,
     answering: usize,
     /// Of the nodes that have answered as members.
     births: BTreeSet<u64>,
+    uncounted: usize,
     in_flight: Vec<InFlight>,
     failed: Option<VolumeError>,
+}
+
+impl State {
+    fn counted(&self) -> usize {
+        self.answering.saturating_sub(self.uncounted)
+    }
 }
 
 /// What the driver reports and callers wait for.
@@ -75,18 +96,22 @@ impl Progress {
 
     pub fn open(&self, generation: u64, epoch: u16, commit_point: u64, header: Vec<u8>) {
         self.change(|state| {
-            let answering = state.answering;
-            let standing =
-                Standing { generation, epoch, opened_at: commit_point, header, durable: commit_point, committed: commit_point, answering };
-            state.standing = Some(standing);
+            let (durable, committed) = (commit_point, commit_point);
+            let (answering, uncounted) = (state.answering, state.uncounted);
+            state.standing =
+                Some(Standing { generation, epoch, opened_at: commit_point, header, durable, committed, answering, uncounted });
         });
     }
 
-    pub fn reached(&self, connected: usize, answering: usize) {
+    pub fn claim(&self, generation: u64) {
+        self.change(|state| state.claimed = state.claimed.max(generation));
+    }
+
+    pub fn reached(&self, connected: usize, answering: usize, uncounted: usize) {
         self.change(|state| {
-            (state.connected, state.answering) = (connected, answering);
+            (state.connected, state.answering, state.uncounted) = (connected, answering, uncounted);
             if let Some(standing) = &mut state.standing {
-                standing.answering = answering;
+                (standing.answering, standing.uncounted) = (answering, uncounted);
             }
         });
     }
@@ -142,8 +167,22 @@ impl Progress {
         Known::of(newest, state.births.iter().copied())
     }
 
+    /// The greatest generation that nodes were asked to serve. It is there before a node can show it.
+    pub fn claimed(&self) -> u64 {
+        self.lock().claimed
+    }
+
+    /// Where the volume is; nothing where it is not open, or has ended.
+    pub fn place(&self) -> Option<Place> {
+        let state = self.lock();
+        let standing = state.standing.as_ref().filter(|_| state.failed.is_none())?;
+        let Standing { epoch, durable, committed, .. } = *standing;
+        Some(Place { epoch, durable, committed, is_waiting: !state.in_flight.is_empty() })
+    }
+
     pub fn quorum(&self, options: &Options) -> Quorum {
-        Quorum::of(self.lock().answering, options)
+        let state = self.lock();
+        Quorum { uncounted: state.uncounted, ..Quorum::of(state.counted(), options) }
     }
 
     /// Waits until so many nodes are connected, or until the deadline.
@@ -182,7 +221,7 @@ impl Progress {
         let has_room = |state: &State| state.in_flight.iter().map(|it| it.bytes).sum::<usize>() < options.in_flight;
         self.wait(deadline, |state| match &state.failed {
             Some(error) => Some(Err(error.clone())),
-            None => (state.answering >= usize::from(options.quorum) && has_room(state)).then_some(Ok(())),
+            None => (state.counted() >= usize::from(options.quorum) && has_room(state)).then_some(Ok(())),
         })
     }
 }

@@ -2,13 +2,15 @@
 
 use crate::known::Known;
 use crate::panel::Panel;
+use std::collections::BTreeMap;
 use std::time::Instant;
 use yieldcleat_client::{engines, Calls, Connection, Membership};
 
 /// What nodes say of themselves; a node that does not answer says nothing.
 #[derive(Debug, Clone, PartialEq, Eq)]
 pub struct Statuses {
-    answered: Vec<Membership>,
+    /// The last answer of each node.
+    answered: BTreeMap<usize, Membership>,
     nodes: usize,
 }
 
@@ -18,14 +20,23 @@ fn status(connection: &mut Connection) -> Option<Membership> {
 
 /// Asks all nodes for their status. How long it waits for the next one depends on those that have answered.
 pub fn ask_standing(panel: &Panel, nodes: usize, until: impl Fn(&Statuses) -> Instant) -> Statuses {
-    let (answers, mut statuses) = (panel.ask(status), Statuses { answered: Vec::new(), nodes });
-    while let Some((_, answer)) = answers.next(until(&statuses)) {
-        statuses.answered.extend(answer);
+    let (answers, mut statuses) = (panel.ask(status), Statuses::none(nodes));
+    while let Some((node, answer)) = answers.next(until(&statuses)) {
+        answer.into_iter().for_each(|it| statuses.add(node, it));
     }
     statuses
 }
 
 impl Statuses {
+    /// Those of so many nodes, none of which has answered.
+    pub fn none(nodes: usize) -> Statuses {
+        Statuses { answered: BTreeMap::new(), nodes }
+    }
+
+    pub fn add(&mut self, node: usize, status: Membership) {
+        self.answered.insert(node, status);
+    }
+
     /// How many nodes have answered.
     pub fn count(&self) -> usize {
         self.answered.len()
@@ -33,7 +44,7 @@ impl Statuses {
 
     /// Whether all nodes have answered, and none of them is a member.
     pub fn are_all_fresh(&self) -> bool {
-        self.count() == self.nodes && self.answered.iter().all(|it| !it.is_member)
+        self.count() == self.nodes && self.answered.values().all(|it| !it.is_member)
     }
 
     /// The greatest generation of a member; 0 without any.
@@ -48,7 +59,7 @@ impl Statuses {
     }
 
     fn members(&self) -> impl Iterator<Item = &Membership> {
-        self.answered.iter().filter(|it| it.is_member)
+        self.answered.values().filter(|it| it.is_member)
     }
 
     /// A generation above this one, where a member has one.
@@ -59,6 +70,23 @@ impl Statuses {
     /// Whether members of this generation make a quorum, and no member has a later one.
     pub fn are_of(&self, generation: u64, quorum: u8) -> bool {
         self.later_than(generation).is_none() && self.members().filter(|it| it.generation == generation).count() >= usize::from(quorum)
+    }
+
+    /// Whether members make a quorum, of whatever generations.
+    pub fn have_members(&self, quorum: u8) -> bool {
+        self.members().count() >= usize::from(quorum)
+    }
+
+    /// Whether each node that is no member has all of this epoch up to a point.
+    pub fn fresh_have(&self, epoch: u16, point: u64) -> bool {
+        let mut fresh = self.answered.values().filter(|it| !it.is_member);
+        fresh.all(|it| it.front.epoch == epoch && it.front.complete >= point)
+    }
+
+    /// The nodes that are no members and have all of this epoch up to a point, with their births.
+    pub fn fresh_with(&self, epoch: u16, point: u64) -> impl Iterator<Item = (usize, u64)> + '_ {
+        let fresh = self.answered.iter().filter(|it| !it.1.is_member);
+        fresh.filter(move |it| it.1.front.epoch == epoch && it.1.front.complete >= point).map(|it| (*it.0, it.1.birth))
     }
 
     /// All points of this epoch that anybody has seen durable are at or below it: it counts nodes that say nothing as if they had all.
@@ -80,7 +108,7 @@ mod tests {
             let front = Front { epoch: 1, complete: it.2, min: 0 };
             Membership { generation: it.0, birth: 7, is_member: it.1, front, accepted: None }
         };
-        Statuses { answered: answered.iter().map(member).collect(), nodes }
+        Statuses { answered: answered.iter().map(member).enumerate().collect(), nodes }
     }
 
     #[test]

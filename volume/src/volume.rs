@@ -64,6 +64,10 @@ fn written(patch: &Patch) -> usize {
 }
 
 /// A volume that this process writes to. Its calls may come from many threads. Dropping it closes it: what is not durable then is in doubt.
+///
+/// A node that has lost its files counts in no quorum before an opening admits it. So the volume opens itself again under a later generation
+/// once such a node has the log, or does not get it from its peers (`Options::admission`), and nothing is in flight: commit points stay
+/// what they are, and calls that come meanwhile wait. Where another engine has opened the volume, it ends as `Fenced` in place of that.
 pub struct Volume {
     options: Options,
     inputs: Sender<Input>,
@@ -181,7 +185,7 @@ impl Volume {
     /// Errors: `NotAsked` after the time allowed; `Fenced`, also where the nodes have another volume; `Empty` where all have lost their files; and
     /// what else has ended this volume.
     pub fn newest(&self) -> Result<u64, VolumeError> {
-        let (own, deadline) = (self.standing()?, Instant::now() + self.options.patience);
+        let (mut own, deadline) = (self.standing()?, Instant::now() + self.options.patience);
         let mut have = 0;
         while Instant::now() < deadline {
             let end = deadline.min(Instant::now() + self.options.limits.answer);
@@ -197,7 +201,8 @@ impl Volume {
                 return Err(VolumeError::Empty);
             }
             let other = statuses.are_of_another(&self.known(), self.options.quorum).then(|| statuses.generation());
-            if let Some(generation) = statuses.later_than(own.generation).or(other) {
+            // This engine itself may be about to open the volume again.
+            if let Some(generation) = statuses.later_than(self.progress.claimed()).or(other) {
                 self.progress.fail(VolumeError::Fenced { generation });
                 return Err(VolumeError::Fenced { generation });
             }
@@ -209,14 +214,17 @@ impl Volume {
                 return Ok(self.standing()?.durable);
             }
             thread::sleep(self.options.retry.min(deadline.saturating_duration_since(Instant::now())));
+            own = self.standing()?;
         }
         Err(VolumeError::NotAsked(Quorum::of(have, &self.options)))
     }
 
     /// Writes a mini-transaction with up to 1,024 bytes of the engine's own, and returns its commit point. It is sent, and not yet
-    /// durable: `wait` says when it is. Where too much is not durable, or no quorum answers, it waits first.
+    /// durable: `wait` says when it is. Where too much is not durable, no quorum answers, or the volume is being opened again, it waits
+    /// first.
     ///
-    /// Errors: `Argument`, and `Busy` after the time allowed, where nothing was written; `Fenced` and what else has ended the volume.
+    /// Errors: `Argument`; `Busy` and `NotReopened` after the time allowed, where nothing was written; `Fenced` and what else has ended the
+    /// volume.
     pub fn write(&self, writes: Vec<PageWrite>, header: Vec<u8>) -> Result<u64, VolumeError> {
         writes.iter().try_for_each(PageWrite::check)?;
         if header.len() > MOST_HEADER {
@@ -228,7 +236,7 @@ impl Volume {
             None => return Err(VolumeError::Busy(self.progress.quorum(&self.options))),
         }
         // The driver waits for no node, so it answers. Where it does not, the mini-transaction may be sent, and nothing may follow it.
-        let written = self.call(|done| Call::Commit { writes, header, done }, deadline + self.options.patience);
+        let written = self.call(|done| Call::Commit { writes, header, deadline, done }, deadline + self.options.patience);
         written.unwrap_or_else(|| {
             self.progress.fail(VolumeError::Closed);
             Err(VolumeError::Closed)
@@ -256,16 +264,27 @@ impl Volume {
     ///
     /// Errors: `Argument`, `Below`, `NotRead`, and what has ended the volume.
     pub fn read(&self, page: u16, point: u64, offset: u16, length: u16) -> Result<Vec<u8>, VolumeError> {
-        let range = Range { at: self.at(point)?, page, offset, length };
-        range.check()?;
-        self.readers.read(range, Instant::now() + self.options.patience).map_err(|error| self.ended_by(error))
+        let at = self.at(point)?;
+        Range { at, page, offset, length }.check()?;
+        self.read_in_epoch(at, |at, end| self.readers.read(Range { at, page, offset, length }, end))
     }
 
     /// Page 0 at such a point: who committed it, and the header.
     ///
     /// Errors: those of `read`.
     pub fn page_zero(&self, point: u64) -> Result<PageZero, VolumeError> {
-        self.readers.page_zero(self.at(point)?, Instant::now() + self.options.patience).map_err(|error| self.ended_by(error))
+        self.read_in_epoch(self.at(point)?, |at, end| self.readers.page_zero(at, end))
+    }
+
+    /// Reads at a point until the time is up: the volume may be opened again meanwhile, and then nodes have it in a later epoch.
+    fn read_in_epoch<T>(&self, first: At, read: impl Fn(At, Instant) -> Result<T, VolumeError>) -> Result<T, VolumeError> {
+        let (mut at, deadline) = (first, Instant::now() + self.options.patience);
+        loop {
+            match read(at, deadline.min(Instant::now() + self.options.retry)) {
+                Err(VolumeError::NotRead { .. }) if Instant::now() < deadline => at = self.at(first.point)?,
+                other => return other.map_err(|error| self.ended_by(error)),
+            }
+        }
     }
 
     fn at(&self, point: u64) -> Result<At, VolumeError> {
@@ -280,10 +299,11 @@ impl Volume {
 
     /// Says that a reader, from 1, reads nothing below a durable commit point any more.
     ///
-    /// Errors: `Refused` with `Ahead`, and what has ended the volume.
+    /// Errors: `Refused` with `Ahead`, `NotReopened`, and what has ended the volume.
     pub fn advance(&self, reader: u8, point: u64) -> Result<(), VolumeError> {
         let deadline = Instant::now() + self.options.patience;
-        self.call(|done| Call::Advance { reader, point, done }, deadline).unwrap_or(Err(VolumeError::Closed))
+        let advanced = self.call(|done| Call::Advance { reader, point, deadline, done }, deadline + self.options.patience);
+        advanced.unwrap_or(Err(VolumeError::Closed))
     }
 }
 

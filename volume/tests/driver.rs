@@ -1,14 +1,15 @@
 //! The driver over a machine that only counts fronts, and nodes that keep one chain of records: connections that break, nodes that are
 //! away, slow or fenced. The proved machine has tests of its own; this one opens nothing again and recovers nothing.
 
+mod nodes;
+
+use nodes::Node;
 use std::collections::{BTreeMap, BTreeSet};
-use std::os::unix::net::{UnixListener, UnixStream};
-use std::path::{Path, PathBuf};
+use std::path::PathBuf;
 use std::sync::atomic::{AtomicU32, Ordering};
-use std::sync::{Arc, Mutex};
 use std::time::{Duration, Instant};
 use std::{env, fs, process, thread};
-use yieldcleat_client::{frames, Address, Limits, Patch, Record, PAGE_LEN};
+use yieldcleat_client::{Address, Limits, Patch, Record};
 use yieldcleat_volume::{Action, Event, Fault, Machine, Options, OutOfMemory, PageWrite, Quorum, Volume, VolumeError};
 
 // A machine that counts fronts
@@ -97,134 +98,6 @@ impl Machine for Counting {
     }
 }
 
-// Nodes with one chain of records
-
-#[derive(Default)]
-struct State {
-    records: BTreeMap<u64, (u16, Vec<(usize, Vec<u8>)>)>,
-    is_away: bool,
-    /// Each connection ends after so many frames.
-    frames: Option<usize>,
-    delay: Duration,
-    stale: Option<u64>,
-    connections: Vec<UnixStream>,
-}
-
-struct Node {
-    path: PathBuf,
-    state: Arc<Mutex<State>>,
-}
-
-fn number(bytes: &[u8]) -> u64 {
-    bytes.iter().fold(0, |number, byte| number << 8 | u64::from(*byte))
-}
-
-impl State {
-    fn complete(&self) -> u64 {
-        (1..).take_while(|number| self.records.contains_key(number)).last().unwrap_or(0)
-    }
-
-    /// Takes a record of plain writes.
-    fn take(&mut self, fact: &[u8]) -> Vec<u8> {
-        let (place, page) = (number(&fact[3..9]), number(&fact[15..17]) as u16);
-        let (mut rest, mut writes) = (&fact[24..], Vec::new());
-        for _ in 0..fact[23] {
-            let (offset, length) = (number(&rest[..2]) as usize, number(&rest[2..4]) as usize);
-            writes.push((offset, rest[4..4 + length].to_vec()));
-            rest = &rest[4 + length..];
-        }
-        self.records.insert(place, (page, writes));
-        b"changed".to_vec()
-    }
-
-    fn read(&self, words: &[&str]) -> Vec<u8> {
-        let [page, point, offset, length] = [1, 2, 3, 4].map(|place| words[place].parse::<usize>().unwrap());
-        if point as u64 > self.complete() {
-            return format!("above {}", self.complete()).into_bytes();
-        }
-        let mut image = vec![0; PAGE_LEN];
-        for (_, writes) in self.records.range(..=point as u64).map(|it| it.1).filter(|it| usize::from(it.0) == page) {
-            for (offset, bytes) in writes {
-                image[*offset..*offset + bytes.len()].copy_from_slice(bytes);
-            }
-        }
-        [b"page ", &image[offset..offset + length]].concat()
-    }
-
-    fn answer(&mut self, request: &[u8]) -> Vec<u8> {
-        if let Some(inside) = request.strip_prefix(b"many ") {
-            let mut answers = Vec::new();
-            for request in frames::inside(inside).unwrap() {
-                frames::append(&mut answers, &[&self.answer(request)]).unwrap();
-            }
-            return answers;
-        }
-        if let Some(generation) = self.stale {
-            return format!("stale {generation}").into_bytes();
-        }
-        if let Some(fact) = request.strip_prefix(b"take ") {
-            return self.take(fact);
-        }
-        let text = String::from_utf8_lossy(request).into_owned();
-        let words: Vec<_> = text.split(' ').collect();
-        match words[0] {
-            "front" => format!("front 0 {} 0", self.complete()).into_bytes(),
-            "status" => format!("status 2 7 1 0 {} 0", self.complete()).into_bytes(),
-            "read" => self.read(&words),
-            _ => b"bad request".to_vec(),
-        }
-    }
-}
-
-impl Node {
-    fn start(folder: &Path, place: usize) -> Node {
-        let node = Node { path: folder.join(format!("node{place}")), state: Arc::default() };
-        let (listener, state) = (UnixListener::bind(&node.path).unwrap(), node.state.clone());
-        thread::spawn(move || {
-            for stream in listener.incoming() {
-                let (stream, state) = (stream.unwrap(), state.clone());
-                thread::spawn(move || serve(stream, &state));
-            }
-        });
-        node
-    }
-
-    fn set(&self, change: impl FnOnce(&mut State)) {
-        change(&mut self.state.lock().unwrap());
-    }
-
-    fn go_away(&self) {
-        self.set(|state| {
-            state.is_away = true;
-            state.connections.drain(..).for_each(|stream| drop(stream.shutdown(std::net::Shutdown::Both)));
-        });
-    }
-}
-
-fn serve(mut stream: UnixStream, state: &Mutex<State>) {
-    let most = {
-        let mut state = state.lock().unwrap();
-        if state.is_away {
-            return;
-        }
-        state.connections.push(stream.try_clone().unwrap());
-        state.frames.unwrap_or(usize::MAX)
-    };
-    let mut frame = Vec::new();
-    for _ in 0..most {
-        if !frames::read(&mut stream, &mut frame).unwrap_or(false) {
-            return;
-        }
-        let delay = state.lock().unwrap().delay;
-        thread::sleep(delay);
-        let answer = state.lock().unwrap().answer(&frame);
-        if frames::write(&mut stream, &answer).is_err() {
-            return;
-        }
-    }
-    let _ = stream.shutdown(std::net::Shutdown::Both);
-}
-
 // A volume of three such nodes
 
 struct Three {
@@ -272,7 +145,7 @@ fn write(place: u64) -> Vec<PageWrite> {
 }
 
 fn of_three(have: usize) -> Quorum {
-    Quorum { have, need: 2, nodes: 3 }
+    Quorum { have, uncounted: 0, need: 2, nodes: 3 }
 }
 
 fn shows(volume: &Volume, place: u64, point: u64) -> bool {

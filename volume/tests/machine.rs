@@ -173,8 +173,12 @@ impl World {
     }
 
     fn create(&self) -> Engine {
+        self.create_with(self.options())
+    }
+
+    fn create_with(&self, options: Options) -> Engine {
         let (machine, child) = self.machine();
-        Engine { volume: Volume::create(machine, self.options()).unwrap(), child }
+        Engine { volume: Volume::create(machine, options).unwrap(), child }
     }
 
     fn open(&self) -> Engine {
@@ -320,6 +324,37 @@ fn a_place_that_has_another_volume() {
     assert_eq!(reader.page_zero(point).unwrap().commit_point, point);
     let point = other.volume.commit(write(2), Vec::new()).unwrap();
     assert_eq!(reader.learn(&other.volume.known()), point);
+}
+
+#[test]
+fn wiped_nodes_are_admitted_by_an_engine_that_stays_open() {
+    let Some(world) = World::new(4, 3) else {
+        return;
+    };
+    let engine = world.create_with(Options { admission: Duration::from_millis(20), ..world.options() });
+    let (mut place, mut point) = (0, 0);
+    let mut commit = |count: u64| {
+        for _ in 0..count {
+            place += 1;
+            point = engine.volume.commit(write(place), place.to_string().into()).unwrap();
+        }
+        (place, point)
+    };
+    for victim in [0, 1, 2, 3, 0] {
+        commit(4);
+        world.nodes[victim].begin_life();
+        commit(victim as u64 % 2);
+        until(|| world.nodes[victim].is_member());
+        until(|| engine.volume.standing().unwrap().uncounted == 0);
+    }
+    let generation = engine.volume.standing().unwrap().generation;
+    world.nodes[1].set_away(true);
+    let (place, point) = commit(3);
+    assert!((1..=place).all(|place| shows(&engine.volume, place, point)));
+    assert!((1..=4).all(|place| shows(&engine.volume, place, 2 * place)), "points of the first epoch are read as before");
+    assert_eq!((engine.volume.newest(), engine.volume.page_zero(point).unwrap().generation), (Ok(point), generation));
+    engine.kill();
+    assert_eq!(world.open().volume.standing().unwrap().opened_at, point);
 }
 
 #[test]

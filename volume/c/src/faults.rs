@@ -99,9 +99,10 @@ impl From<VolumeError> for Failure {
         match error {
             VolumeError::Fenced { .. } => of(Fault::Fenced),
             VolumeError::Empty => of(Fault::NotFound),
-            VolumeError::NotOpened(quorum) | VolumeError::Unproved(quorum) | VolumeError::NotAsked(quorum) | VolumeError::Busy(quorum) => {
+            VolumeError::NotOpened(quorum) | VolumeError::Unproved(quorum) | VolumeError::NotAsked(quorum) => {
                 counted(Fault::NoQuorum, quorum)
             }
+            VolumeError::Busy(quorum) | VolumeError::NotReopened(quorum) => counted(Fault::NoQuorum, quorum),
             VolumeError::Refused(Refusal::NoQuorum { have, need }) => {
                 Failure { have: have.into(), need: need.into(), ..of(Fault::NoQuorum) }
             }

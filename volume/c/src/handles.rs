@@ -46,6 +46,7 @@ pub struct Report {
     pub have: u32,
     pub need: u32,
     pub nodes: u32,
+    pub uncounted: u32,
 }
 
 fn options_at(place: &Path, milliseconds: u32) -> Result<Options, Failure> {
@@ -211,16 +212,16 @@ impl Handle {
     }
 
     pub fn report(&self) -> Result<Report, Failure> {
-        let (newest, generation, have) = match &self.side {
+        let (newest, generation, have, uncounted) = match &self.side {
             Side::Writer { volume, .. } => {
                 let standing = volume.standing()?;
-                (standing.durable, standing.generation, standing.answering)
+                (standing.durable, standing.generation, standing.answering, standing.uncounted)
             }
-            Side::Reader { reader, .. } => (self.greatest()?, reader.generation(), reader.answering()),
+            Side::Reader { reader, .. } => (self.greatest()?, reader.generation(), reader.answering(), 0),
         };
         let least = self.least.load(Ordering::Relaxed);
         let (need, nodes) = (self.options.quorum.into(), self.options.nodes.len() as u32);
-        Ok(Report { newest, least, generation, have: have as u32, need, nodes })
+        Ok(Report { newest, least, generation, have: have as u32, need, nodes, uncounted: uncounted as u32 })
     }
 }
 

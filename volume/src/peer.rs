@@ -1,0 +1,130 @@
+//! A node as the driver sees it.
+
+use crate::reopening::Outside;
+use std::sync::mpsc::Sender;
+use std::time::Instant;
+use yieldcleat_client::{engines, Declined, Error};
+
+/// How the request to become a member begins.
+const ADMIT: &[u8] = b"admit ";
+
+pub struct Peer {
+    /// Nothing where the node is not connected.
+    pub queue: Option<Sender<Vec<u8>>>,
+    /// Whether it has answered since it was connected.
+    pub is_answering: bool,
+    /// How many bytes of requests are not answered.
+    pub pending: usize,
+    /// When it was asked or heard last.
+    pub active: Instant,
+    /// Why it does not count, as far as it has said.
+    pub outside: Option<Outside>,
+    /// Whether it was connected when an open volume was opened again, and has not answered the fence.
+    pub awaits_fence: bool,
+    /// Whether it was asked to become a member, and has not answered.
+    pub awaits_admission: bool,
+}
+
+impl Peer {
+    pub fn new() -> Peer {
+        Peer {
+            queue: None,
+            is_answering: false,
+            pending: 0,
+            active: Instant::now(),
+            outside: None,
+            awaits_fence: false,
+            awaits_admission: false,
+        }
+    }
+
+    /// Queues a request. A node that does not keep up with what it is sent is cut off: its link connects again, and gossip brings the rest.
+    pub fn ask(&mut self, request: Vec<u8>, most: usize) {
+        self.pending += request.len();
+        self.active = Instant::now();
+        if self.pending > most {
+            self.queue = None;
+        }
+        if let Some(queue) = &self.queue {
+            self.awaits_admission |= request.starts_with(ADMIT);
+            // A link that has ended says so next.
+            let _ = queue.send(request);
+        }
+    }
+
+    /// Notes an answer to the engine of a generation. The result says whether it changes how many nodes answer or count.
+    pub fn hear(&mut self, request: &[u8], answer: &[u8], generation: u64) -> bool {
+        self.pending = self.pending.saturating_sub(request.len());
+        self.active = Instant::now();
+        let before = (self.is_answering, self.outside);
+        self.is_answering = true;
+        self.awaits_admission &= !request.starts_with(ADMIT);
+        if [&b"as "[..], b"fenced ", b"admitted "].iter().any(|word| answer.starts_with(word)) {
+            self.outside = None;
+        } else if let Some(birth) = fresh_birth(answer) {
+            self.outside = Some(Outside::Fresh(birth));
+        } else if is_own_fence(request, answer, generation) {
+            self.outside = Some(Outside::Unheard(generation));
+        }
+        before != (self.is_answering, self.outside)
+    }
+
+    /// Whether this answer says that another engine has the generation which this one asks for: the node has it, and no answer was lost.
+    pub fn is_of_another(&mut self, request: &[u8], answer: &[u8], generation: u64) -> bool {
+        if !self.awaits_fence || request != engines::fence(generation) {
+            return false;
+        }
+        self.awaits_fence = false;
+        is_own_fence(request, answer, generation)
+    }
+}
+
+/// The birth of a node that says that it is no member.
+fn fresh_birth(answer: &[u8]) -> Option<u64> {
+    if answer.starts_with(b"status ") {
+        return engines::membership(answer).ok().filter(|it| !it.is_member).map(|it| it.birth);
+    }
+    match answer.starts_with(b"fresh ").then(|| engines::fenced(answer)) {
+        Some(Err(Error::Declined(Declined::Fresh { birth }))) => Some(birth),
+        _ => None,
+    }
+}
+
+/// Whether a node that is asked to serve a generation has it.
+fn is_own_fence(request: &[u8], answer: &[u8], generation: u64) -> bool {
+    answer.starts_with(b"stale ") && request == engines::fence(generation) && answer == format!("stale {generation}").as_bytes()
+}
+
+#[cfg(test)]
+mod tests {
+    use super::*;
+
+    #[test]
+    fn who_does_not_count() {
+        let mut peer = Peer::new();
+        assert!(peer.hear(b"as 3 7 front", b"fresh 9", 3));
+        assert_eq!(peer.outside, Some(Outside::Fresh(9)));
+        assert!(!peer.hear(b"as 3 7 front", b"fresh 9", 3));
+        assert!(!peer.hear(b"admit 3 9 1 5", b"behind 1 4", 3));
+        assert!(peer.hear(b"admit 3 9 1 5", b"admitted 3 9", 3));
+        assert_eq!(peer.outside, None);
+        assert!(!peer.hear(b"as 3 9 front", b"stale 3", 3) && !peer.hear(b"fence 3", b"stale 4", 3));
+        assert!(peer.hear(b"fence 3", b"stale 3", 3));
+        assert_eq!(peer.outside, Some(Outside::Unheard(3)));
+        assert!(peer.hear(b"fence 4", b"fenced 4 9", 4));
+        assert_eq!(peer.outside, None);
+        assert!(!peer.hear(b"status", b"status 4 9 1 0 0 0", 4) && peer.hear(b"status", b"status 0 10 0 0 0 0", 4));
+        assert_eq!(peer.outside, Some(Outside::Fresh(10)));
+    }
+
+    #[test]
+    fn a_generation_of_another_engine() {
+        let mut peer = Peer { awaits_fence: true, ..Peer::new() };
+        assert!(!peer.is_of_another(b"fence 3", b"stale 3", 4));
+        assert!(peer.is_of_another(b"fence 4", b"stale 4", 4));
+        assert!(!peer.is_of_another(b"fence 4", b"stale 4", 4));
+        let mut peer = Peer { awaits_fence: true, ..Peer::new() };
+        assert!(!peer.is_of_another(b"fence 4", b"fenced 4 9", 4));
+        assert!(!peer.is_of_another(b"fence 4", b"stale 4", 4));
+    }
+}
