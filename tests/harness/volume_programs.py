@@ -164,7 +164,7 @@ class Play:
         node, kind, rest = self.world.nodes[i], answer and answer[0], answer and answer[1:]
         if kind is None:
             return b"absorbed"
-        if kind == "status" and rest[2] == 1:
+        if kind == "status" and rest[-1] == 1:
             return self.status_of(node)
         if kind == "status":
             return words("stale", node.generation) if node.is_member else words("fresh", node.birth)

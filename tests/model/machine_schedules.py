@@ -52,6 +52,14 @@ def creation_of_a_wiped_node(s):
     s.give(0, [0, 1, 2], "status")
 
 
+def creation_over_facts(s):
+    """A fresh node that gossip has brought facts is asked to begin another volume."""
+    s.committed()
+    s.gossip_all([2])
+    s.do("create")
+    s.give(1, [2], "status")
+
+
 def two_truncations_of_one_epoch(s):
     """A's transaction is at node 2 alone. Node 0 accepted B's truncation, which annuls it, nodes 1 and 2 then C's, which keeps it."""
     a = s.opened()
@@ -137,12 +145,18 @@ DIRECTED = {
     **SCHEDULES,
     "creation": creation,
     "creation_of_a_wiped_node": creation_of_a_wiped_node,
+    "creation_over_facts": creation_over_facts,
     "two_truncations_of_one_epoch": two_truncations_of_one_epoch,
     "overlapping_numbers": overlapping_numbers,
     "read_points": read_points,
     "broken_connections": broken_connections,
 }
-WORLDS = {**OPTIONS, "creation": {"created": ()}, "creation_of_a_wiped_node": {"created": ()}}
+WORLDS = {
+    **OPTIONS,
+    "creation": {"created": ()},
+    "creation_of_a_wiped_node": {"created": ()},
+    "creation_over_facts": {"created": (0, 1)},
+}
 
 # The schedules in which a machine with this fault would differ, where that is not the model's own one.
 SHOWN_BY = {

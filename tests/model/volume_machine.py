@@ -144,9 +144,9 @@ class Machines(World):
             if len(founders) == self.n:
                 self.say(engine, "created")
 
-    def hear_status(self, engine, i, birth, is_member, is_empty, asked):
+    def hear_status(self, engine, i, *status):
         before = len(self.did)
-        super().hear_status(engine, i, birth, is_member, is_empty, asked)
+        super().hear_status(engine, i, *status)
         if engine.phase == "dead" and len(self.did) == before:
             self.say(engine, "not fresh")
         elif engine.phase == "dead":
