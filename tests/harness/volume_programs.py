@@ -6,7 +6,7 @@ never. The model's side is `model.volume_machine`, which makes the machine's cho
 | Compared | The program's | The model's |
 |---|---|---|
 | answer | the frame of the node's answer | the answer, with the minimum read point, which the model's fronts lack |
-| node | `status` of each; `ask`, and pages at the complete point, of the one that was asked | the guard; what the node's facts mean |
+| node | `status` of each; `ask`, and pages at the complete point, of the one that is asked | the guard; what its facts mean |
 | engine | the requests that it makes, byte by byte and in order for each node | the letters of the model's requests |
 | engine | `created`, `opened`, `committed`, `durable`, a fault | the same words |
 
@@ -14,17 +14,22 @@ never. The model's side is `model.volume_machine`, which makes the machine's cho
 place; whether it has, its base point tells. What an engine makes of its union for a node is not compared, but what the node then means.
 
 Of a take without a question for the front, the network repeats an earlier one, so that each take is answered by a front as in the model.
-The second round of a creation is `fence 0`, and its answer that of a status.
+The second round of a creation is `fence 0`, and its answer that of a status. Requests that reach a node together come in one frame or each
+in its own, by turns. A node that restarts is a new process of the same birth, to which its requests come again that changed it.
 """
 
 import select
 import subprocess
 
 from harness import SECONDS
-from harness.volume_bytes import NOTHING, PAGES, delta_of, fact_of, header_of, meaning_of, pair_of, request_bytes, summary_of, under, words, write_bytes
+from harness.volume_bytes import NOTHING, PAGES, delta_of, fact_of, header_of, meaning_of, pair_of, request_bytes, summary_of, under, words
+from harness.volume_bytes import write_bytes
 from model import wire
 from model.volume import Violation
 from model.volume_machine import Machines, letters_of
+
+# The answers to requests that changed a node, which its owner keeps.
+CHANGES = {b"changed", b"absorbed", b"opened", b"fenced", b"accepted", b"admitted"}
 
 
 class Mismatch(Exception):
@@ -77,6 +82,34 @@ class Process:
         self.process.stdout.close()
 
 
+class Node(Process):
+    """A node, and the requests that changed it, with their answers."""
+
+    def __init__(self, *command):
+        super().__init__(*command)
+        self.kept, self.turns = [], 0
+
+    def ask_all(self, frames):
+        return self.keep(frames, super().ask_all(frames))
+
+    def ask_together(self, frames):
+        """In one frame or each in its own, by turns."""
+        self.turns += 1
+        if len(frames) == 1 or self.turns % 2:
+            return self.ask_all(frames)
+        self.send([b"many " + wire.framed(frames)])
+        return self.keep(frames, frames_in(self.receive()))
+
+    def keep(self, frames, answers):
+        self.kept += [it for it in zip(frames, answers) if has_changed(it[1])]
+        return answers
+
+
+def has_changed(answer):
+    parts = answer.split(b" ")
+    return (parts[3] if parts[0] == b"as" and len(parts) > 3 else parts[0]) in CHANGES
+
+
 def frames_in(text):
     """The frames of an answer that has whole ones."""
     frames = []
@@ -96,7 +129,7 @@ class Programs:
         self.node, self.engine = node, engine
 
     def new_node(self, birth):
-        return Process(self.node, "--frames", "--birth", str(birth))
+        return Node(self.node, "--frames", "--birth", str(birth))
 
     def new_engine(self, nodes, quorum):
         return Process(self.engine, str(nodes), str(quorum))
@@ -231,7 +264,7 @@ class Play:
         elif request[0] == "push":
             self.push(i, request, fate)
         else:
-            answers = self.nodes[i].ask_all(self.frames_of(i, request))
+            answers = self.nodes[i].ask_together(self.frames_of(i, request))
             self.follow()
             self.pass_on(i, request, fate, answers)
         self.compare_node(i)
@@ -269,7 +302,7 @@ class Play:
                 self.made[i, request] = [frame.split(b" ", 2)[2] for frame in told]
                 begin = under(*head, "absorb", len(shown)) + b" " + shown
                 need_same(f"engine {number} asks of node {i}", self.made[i, request][0][: len(begin)], begin)
-            answers = [] if way == "void" else self.nodes[i].ask_all(self.made[i, request])
+            answers = [] if way == "void" else self.nodes[i].ask_together(self.made[i, request])
             need_same(f"node {i} answers absorb", answers[:1], [under(*head, "absorbed")][: len(answers)])
         self.follow()
         if answers:
@@ -323,6 +356,14 @@ class Play:
         self.follow()
         self.nodes[i].close()
         self.nodes[i] = self.programs.new_node(self.world.nodes[i].birth)
+
+    def do_restart(self, i):
+        kept = self.nodes[i].kept
+        self.nodes[i].close()
+        self.nodes[i] = self.programs.new_node(self.world.nodes[i].birth)
+        need_same(f"node {i} after a restart", self.nodes[i].ask_all([asked for asked, _ in kept]), [answer for _, answer in kept])
+        self.follow()
+        self.compare_node(i)
 
     def do_open_plainly(self, i):
         wanted = b"member" if self.world.nodes[i].is_member else b"opened"

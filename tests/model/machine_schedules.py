@@ -13,7 +13,7 @@ class DoubledMachineSchedule(Doubled):
 
 
 class RandomMachines(Random):
-    """Random schedules with broken connections, and nodes that discard."""
+    """Random schedules with broken connections, and nodes that discard or restart."""
 
     kind = Machines
     scripts = {3: MachineSchedule, 6: DoubledMachineSchedule}
@@ -23,7 +23,7 @@ class RandomMachines(Random):
         if world.engines and rng.random() < 0.03:
             self.do("fail", rng.randrange(len(world.engines)), rng.randrange(world.n))
         elif rng.random() < 0.03:
-            self.do("discard", rng.randrange(world.n))
+            self.do(rng.choice(("discard", "restart")), rng.randrange(world.n))
         else:
             super().blow()
 
@@ -115,6 +115,22 @@ def read_points(s):
     s.transaction(c, [1, 2])
 
 
+def restarted_nodes(s):
+    """Nodes come back with their files between the steps of an opening, and after a commit."""
+    a = s.committed()
+    b = s.start(3)
+    for kind in ("fence", "pull", "push", "propose", "take"):
+        s.give(b, [0, 1], kind)
+        for i in 0, 1, 2:
+            s.do("restart", i)
+    s.transaction(b, [0, 1])
+    s.do("restart", 0)
+    s.give(a, [0], "take")
+    s.do("wipe", 1)
+    s.do("copy", 1, 0)
+    s.do("restart", 1)
+
+
 def broken_connections(s):
     """Connections break in each phase, and what was asked comes again; an engine that finds no quorum stops, and one that is fenced."""
     a = s.start(2)
@@ -149,6 +165,7 @@ DIRECTED = {
     "two_truncations_of_one_epoch": two_truncations_of_one_epoch,
     "overlapping_numbers": overlapping_numbers,
     "read_points": read_points,
+    "restarted_nodes": restarted_nodes,
     "broken_connections": broken_connections,
 }
 WORLDS = {

@@ -210,7 +210,7 @@ class Machines(World):
         return "repeated" if (i, request) in self.filled else "void"
 
     def do(self, move):
-        """The moves of the model, ("fail", engine, node), and ("discard", node), after which a node means what it meant."""
+        """The moves of the model, ("fail", engine, node), and ("discard", node) and ("restart", node), after which a node is what it was."""
         self.did, self.answer = [], None
         kind, *rest = move
         if kind == "fail":
@@ -218,7 +218,7 @@ class Machines(World):
                 self.fail(*rest)
         elif kind == "deliver" and rest[1][0] == "push" and tuple(rest[:2]) in self.sent:
             self.push(*rest)
-        elif kind != "discard":
+        elif kind not in ("discard", "restart"):
             super().do(move)
 
     def push(self, i, request, fate):

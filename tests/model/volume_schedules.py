@@ -121,7 +121,7 @@ class Doubled(Schedule):
 
     def do(self, *move):
         kind, *rest = move
-        if kind in ("wipe", "open_plainly", "read", "fact", "discard"):
+        if kind in ("wipe", "open_plainly", "read", "fact", "discard", "restart"):
             moves = [(kind, j, *rest[1:]) for j in both(rest[0])]
         elif kind in ("plain_front", "fail"):
             moves = [(kind, rest[0], j) for j in both(rest[1])]
