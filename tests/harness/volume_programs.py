@@ -380,13 +380,15 @@ class Play:
         self.compare_node(i)
 
     def do_fact(self, i, fact):
-        if fact in self.world.gossip:
-            before = self.meaning(i).parts()
-            answer = self.nodes[i].ask(b"take " + wire.fact_bytes(fact_of(fact, self.world.writers)))
+        if fact not in self.world.gossip:
             self.follow()
-            is_new = self.meaning(i).parts() != before
-            need_same(f"node {i} answers a plain take", answer, b"changed" if is_new else b"unchanged")
-            self.compare_node(i)
+            return
+        before = self.meaning(i).parts()
+        answer = self.nodes[i].ask(b"take " + wire.fact_bytes(fact_of(fact, self.world.writers)))
+        self.follow()
+        is_new = self.meaning(i).parts() != before
+        need_same(f"node {i} answers a plain take", answer, b"changed" if is_new else b"unchanged")
+        self.compare_node(i)
 
     def do_plain_front(self, number, i):
         if number < len(self.engines):

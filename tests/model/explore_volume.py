@@ -27,10 +27,11 @@ def main():
     parser.add_argument("--quorum", type=int, default=2)
     parser.add_argument("--seed", type=int, default=secrets.randbits(32))
     parser.add_argument("--mutant", action="append", default=[], choices=sorted(volume.MUTANTS | volume.HARMLESS), metavar="NAME", help=", ".join(volume.MUTANTS | volume.HARMLESS))
+    parser.add_argument("--created", type=lambda text: tuple(int(it) for it in text.split(",") if it), help="the nodes that are members at first, as 0,1")
     parser.add_argument("--replay", type=Path, help="a schedule as this prints it")
     parser.add_argument("--programs", type=Path, help="the folder of the programs")
     args = parser.parse_args()
-    world = {"nodes": args.nodes, "quorum": args.quorum, "mutants": tuple(args.mutant)}
+    world = {"nodes": args.nodes, "quorum": args.quorum, "mutants": tuple(args.mutant), "created": args.created}
     if args.replay and args.programs:
         programs = Programs(args.programs / "fleet_node", args.programs / "volume_node")
         print(difference(programs, volume_schedules.moves_of(args.replay.read_text()), **world) or "no difference")
