@@ -29,7 +29,7 @@ use Rattle.volume.specs.Fencing.{new_fencing}
 use Rattle.volume.specs.Opening.{TakesPlan}
 use Rattle.volume.specs.Resuming.{BeginsWriting}
 use Rattle.volume.specs.Stepping.{IsVolumeStep, CallsOpen, Hears, Retries, Turns}
-use Rattle.volume.specs.Writing.{WritesRecord, record_of_page, RaisesDurably, WritesPage, EndsTransaction, RaisesPoint, LicensesDurable}
+use Rattle.volume.specs.Writing.{WritesRecord, record_of_page, RaisesDurably, WritesPage, EndsTransaction, RaisesPoint, IsLastReached}
 use Rattle.volume_theorems.specs.Nodes.{Content}
 use Rattle.volume_theorems.specs.Runs.{VolumeRun}
 use Rattle.volume_theorems.specs.ByMoment.{HasOpenedBy, IsReportedBy, IsDurableBy}
@@ -427,8 +427,8 @@ module _ (run : VolumeRun) (h : History) (stop : ℕ) (content : ReplicaData →
         durable_heard x to cut said = ⊎_elim
             (λ none. subst (λ (p : ℕ). IsDurableBy run (life.moments (suc m)) e (suc k) p) (sym none.0) durable_now)
             (λ some.
-            let licensed : LicensesDurable run.quorum w.backlog x.reached some.0 =
-            subst (λ (q : ℕ). LicensesDurable q w.backlog x.reached some.0) (quorum_is run h stop content guards e life count is m step) some.1 in
+            let licensed : IsLastReached run.quorum w.backlog x.reached some.0 =
+            subst (λ (q : ℕ). IsLastReached q w.backlog x.reached some.0) (quorum_is run h stop content guards e life count is m step) some.1 in
             let of : IsDurableBy run (life.moments (suc m)) e w.cut.epoch some.0 =
             reported run h stop content guards e life count is m some.0 w x step k_now (writing_at (suc m) x step to) cut
             (subst (λ (j : ℕ). HasEmissions h life count stop j) (sym on.cut) until) licensed in

@@ -31,3 +31,4 @@ pub mod Writings
 pub mod Reporting
 pub mod Emitting
 pub mod Resuming
+pub mod Following

@@ -10,9 +10,9 @@ use Rattle.volume.specs.Sets.{is_marked}
 use Rattle.volume_theorems.specs.Runs.{VolumeRun, Engine}
 use Rattle.volume_engines.specs.Lives.{Life, Guards, IsLife}
 use Rattle.volume_engines.specs.Proposed.{ProposesAt}
-use Rattle.volume_engines.specs.Engines.{fenced_by, Gathers, IsFirstPlan, AreAllPending, IsEngineOf, LivesNameEngines}
-use Rattle.volume_engines.proofs.OrderedSteps.{HasGatheredAt, gathered_once}
-use Rattle.volume_engines.proofs.Named.{HasFirst, HasNone, first_before, epoch_or_not, own_or_not, one_in_phase, plan_in_phase}
+use Rattle.volume_engines.specs.Engines.{fenced_by, Gathers, IsFirstPlan, AreAllPending, IsEngineOf, LivesNameEngines, NamesHoldBefore}
+use Rattle.volume_engines.proofs.OrderedSteps.{HasGatheredAt, gathered_once, plans_in_order}
+use Rattle.volume_engines.proofs.Named.{HasFirst, HasNone, first_before, epoch_or_not, own_or_not, one_in_phase, plan_in_phase, names_plan}
 
 -- ---- the step that gathers a quorum
 fencing_or_not : (ph : Phase) → ((f : Fencing) × (ph ≡ phase.Fencing f)) ⊎ ((f : Fencing) → ph ≡ phase.Fencing f → ⊥)
@@ -185,3 +185,14 @@ module _ (run : VolumeRun) (guards : Guards) (e : ℕ) (life : Life) (count : �
 
 pub lives_name_engines : LivesNameEngines
 lives_name_engines run guards e life count is = engine_named run guards e life count is (find_gathering run guards e life count is count)
+
+pub names_hold_before : NamesHoldBefore
+names_hold_before run guards e life count fewer engine is names low = record {
+  generation = names.generation;
+  gathers = λ n f o step. names.gathers n f o (let within : n < count = omega (arith, step, low) in within);
+  cuts = λ n plan step first. names.cuts n plan (let within : n < count = omega (arith, step, low) in within) first;
+  opens = λ n plan step first. names.opens n plan (let within : n < count = omega (arith, step, low) in within) first;
+  above = λ pending n plan step at.
+      (names_plan life count engine names (plans_in_order run guards e life count is) n plan
+      (let within : n < count = omega (arith, step, low) in within) at).pending (pending n plan step at);
+}

@@ -32,7 +32,7 @@ use Rattle.volume.specs.Sessions.{IsOwn}
 use Rattle.volume.specs.Sets.{birth_at}
 use Rattle.volume.specs.Stepping.{IsVolumeStep, Turns, Retries, CallsOpen, Hears}
 use Rattle.volume.specs.Turning.{Stays, StopsWith}
-use Rattle.volume.specs.Writing.{sends_record, to_members, WritesRecord, AddsRecord, RefusesCall, IsUsersWrite, record_of_page, WritesPage, EndsTransaction, RaisesDurably, RaisesPoint, LicensesDurable, with_reached, records_above, SameWriter, HearsPoint, HearsSegment, HearsWriting, BringsLate, brings, stores_of}
+use Rattle.volume.specs.Writing.{sends_record, to_members, WritesRecord, AddsRecord, RefusesCall, IsUsersWrite, record_of_page, WritesPage, EndsTransaction, RaisesDurably, RaisesPoint, IsLastReached, with_reached, records_above, SameWriter, HearsPoint, HearsSegment, HearsWriting, BringsLate, brings, stores_of}
 use Rattle.volume_engines.specs.Emissions.{is_refused, new_records, emitted}
 use Rattle.volume_engines.proofs.Sending.{all_append}
 
@@ -125,7 +125,7 @@ ReportsNone w x actions = (x.durable ≡ w.durable) × (x.backlog ≡ w.backlog)
 
 abbrev pub ReportsPoint : ℕ → Writing → Writing → List Action → Type 0
 ReportsPoint quorum w x actions =
-    (point : ℕ) × LicensesDurable quorum w.backlog x.reached point × (x.durable ≡ point) × (x.backlog ≡ records_above point w.backlog)
+    (point : ℕ) × IsLastReached quorum w.backlog x.reached point × (x.durable ≡ point) × (x.backlog ≡ records_above point w.backlog)
     × (actions ≡ Durable point ∷ [])
 
 pub data OpenStep (nodes quorum : ℕ) (w : Writing) (happens : Event) (actions : List Action) (next : Phase) : Type 0 where

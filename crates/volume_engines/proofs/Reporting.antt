@@ -37,7 +37,7 @@ use Rattle.volume.specs.Sets.{is_marked, count_marked}
 use Rattle.volume.specs.Settings.{SettingsData}
 use Rattle.volume.specs.Stepping.{IsVolumeStep, StartsOpening, CallsOpen, Hears, Retries, Turns}
 use Rattle.volume.specs.Turning.{Stays, Enters, StopsWith}
-use Rattle.volume.specs.Writing.{WritesPage, EndsTransaction, RaisesPoint, LicensesDurable}
+use Rattle.volume.specs.Writing.{WritesPage, EndsTransaction, RaisesPoint, IsLastReached}
 use Rattle.volume_theorems.specs.Nodes.{Content}
 use Rattle.volume_theorems.specs.Runs.{VolumeRun, MakesMove, Many}
 use Rattle.volume_theorems.specs.Runs.Move.{Accepts}
@@ -191,8 +191,8 @@ module _ (run : VolumeRun) (h : History) (stop : ℕ) (content : ReplicaData →
 
     -- ---- an open volume
     module _ (w : Writing) (at : Old.phase ≡ phase.Open w) (k : KnowsWriting run h e life n w) where
-      sent : (m : ℕ) → m < suc n → AllRight run e (λ s. Unit {0}) (life.moments m) (life.actions m)
-      sent = subst (λ (p : Phase). (m : ℕ) → m < suc n → AllRight run e (Allowed p) (life.moments m) (life.actions m)) at knows.sent
+      sent : (m : ℕ) → m < suc n → AllRight run h e (λ s. Unit {0}) (life.moments m) (life.actions m)
+      sent = subst (λ (p : Phase). (m : ℕ) → m < suc n → AllRight run h e (Allowed p) (life.moments m) (life.actions m)) at knows.sent
 
       front_heard : (node point : ℕ) → IsFrontHeard Old.settings.nodes w (life.events (suc n)) node point
           → HasReported run h e (life.moments (suc n)) w.cut.epoch point node
@@ -200,7 +200,7 @@ module _ (run : VolumeRun) (h : History) (stop : ℕ) (content : ReplicaData →
           let given : WasGiven run guards e life (suc n) node (reply.Headed x.generation x.birth (told.Front x.front)) =
           subst (λ (ev : Event). MayHappen run guards e life (suc n) ev) x.heard (is.lives.heard n step) in
           let one : IsHeard run guards e life (suc n) (λ s. Unit {0}) node x.generation x.birth (told.Front x.front) =
-          heard run guards e life (suc n) (λ s. Unit {0}) node x.generation x.birth (told.Front x.front) sent given in
+          heard run h guards e life (suc n) (λ s. Unit {0}) node x.generation x.birth (told.Front x.front) sent given in
           let front : HasReported run h e (life.moments (suc n)) x.front.epoch x.front.complete node =
           own_front run h stop content guards e life count is (suc n) step (λ s. Unit {0}) node x.generation x.birth x.front (x.own.0 ∙ k.generation) one in
           subst (λ (m : ℕ). HasReported run h e (life.moments (suc n)) w.cut.epoch m node) x.complete
@@ -247,7 +247,7 @@ module _ (run : VolumeRun) (h : History) (stop : ℕ) (content : ReplicaData →
           record {
             below = stage_at.1.1.union.epoch;
             epoch = stage_at.1.1.next;
-            named = is.names.plans n o plan accepted (omega arith) at proposing;
+            named = stage_at.3;
             accepted = many_marked run after (λ i. (s : ℕ) × (s < T) × MakesMove run s i (Accepts e k))
                 (subst (λ (m : ℕ). m ≤ count_marked after) quorum_is enough) all;
           }
@@ -391,7 +391,7 @@ module _ (run : VolumeRun) (h : History) (stop : ℕ) (content : ReplicaData →
   silent_not actions point silent inside = each IsSilent actions (Durable point) silent inside
 
   pub reported : (n point : ℕ) (w x : Writing) (step : suc n < count) → KnowsWriting run h e life n w → KnowsWriting run h e life (suc n) x → x.cut ≡ w.cut
-      → HasEmissions h life count stop w.cut.epoch → LicensesDurable run.quorum w.backlog x.reached point → IsDurableBy run (life.moments (suc n)) e w.cut.epoch point
+      → HasEmissions h life count stop w.cut.epoch → IsLastReached run.quorum w.backlog x.reached point → IsDurableBy run (life.moments (suc n)) e w.cut.epoch point
   reported n point w x step before after same has licensed =
       let r : RecordData = licensed.0 in
       let T : ℕ = life.moments (suc n) in
@@ -432,7 +432,7 @@ module _ (run : VolumeRun) (h : History) (stop : ℕ) (content : ReplicaData →
           let itself : some.0 ≡ point = cc in
           subst (λ (q : ℕ). IsDurableBy run (life.moments (suc n)) e w.cut.epoch q) itself
           (reported n some.0 w x step k (subst (Has (suc n)) to after) counts.same.1 has
-          (subst (λ (q : ℕ). LicensesDurable q w.backlog x.reached some.0) (quorum_is n step) some.1)))
+          (subst (λ (q : ℕ). IsLastReached q w.backlog x.reached some.0) (quorum_is n step) some.1)))
           said
 
 pub reports_are_durable : ReportsAreDurable

@@ -134,7 +134,7 @@ module _ (P : Plan → Type 0) (W : Writing → Type 0) (quorum node : ℕ) (old
   opens_volume plan u new (turn.Enter phase.Idle actions) is own taken says same = tt
   opens_volume plan u new (turn.Enter (phase.Creating c) actions) is own taken says same = tt
   opens_volume plan u new (turn.Enter (phase.Fencing f) actions) is own taken says same = tt
-  opens_volume plan u new (turn.Enter (phase.Opening o) actions) is own taken says same = absurd says
+  opens_volume plan u new (turn.Enter (phase.Opening o) actions) is own taken says same = absurd says.0
   opens_volume plan u new (turn.Stay actions) is own taken says same = subst (λ (x : Opening). TakingHas P x.stage) (sym same) has
   opens_volume plan u new (turn.End actions) is own taken says same = tt
 

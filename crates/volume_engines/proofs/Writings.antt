@@ -20,8 +20,8 @@ use Rattle.volume_theorems.specs.ByMoment.{HasOpenedBy}
 use Rattle.volume_logs.specs.Histories.{History}
 use Rattle.volume_logs.proofs.Readers.{opened_later}
 use Rattle.volume_engines.specs.Lives.{Life}
-use Rattle.volume_engines.specs.Engines.{Plans}
 use Rattle.volume_engines.specs.Emissions.{emitted, emitted_by}
+use Rattle.volume_engines.proofs.Named.{NamesPlan}
 use Rattle.volume_engines.proofs.Emissions.{emitted_more, emits_open}
 use Rattle.volume_engines.proofs.OpenSteps.{Keeps, IsFormed, Counts, ReportsNone, ReportsPoint}
 use Rattle.volume_engines.proofs.Reaching.{HasReported, HaveReported, have_later, have_more}
@@ -31,7 +31,7 @@ use Rattle.volume_engines.proofs.Reaching.{HasReported, HaveReported, have_later
 pub record IsAgreed (run : VolumeRun) (e t : ℕ) (plan : Plan) : Type 0 where
   pub below : ℕ
   pub epoch : plan.cut.epoch ≡ suc below
-  pub named : Plans plan (run.engines e)
+  pub named : NamesPlan plan (run.engines e)
   pub accepted : Many run (λ i. (s : ℕ) × (s < t) × MakesMove run s i (Accepts e plan.cut.epoch))
 
 many_earlier : (run : VolumeRun) (e s t k : ℕ) → s ≤ t → Many run (λ i. (p : ℕ) × (p < s) × MakesMove run p i (Accepts e k))

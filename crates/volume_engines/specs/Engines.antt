@@ -1,5 +1,5 @@
 -- Which engine of a run a life is.
-use Rattle.std.specs.Prelude.{◌≡◌, ℕ, zero, suc, ◌<◌, Bool, true, false, ◌==◌, if◌then◌else◌}
+use Rattle.std.specs.Prelude.{◌≡◌, ℕ, zero, suc, ◌<◌, ◌≤◌, Bool, true, false, ◌==◌, if◌then◌else◌}
 use Rattle.guard.specs.declared.replies.Reply.{Reply}
 use Rattle.guard.specs.declared.replies.Reply.TheVariants as reply
 use Rattle.volume.specs.declared.events.Event.{Event}
@@ -56,3 +56,9 @@ pub record IsEngineOf (life : Life) (count : ℕ) (e : Engine) : Type 0 where
 -- For each life there is such an engine.
 abbrev pub LivesNameEngines : Type 0
 LivesNameEngines = (run : VolumeRun) (guards : Guards) (e : ℕ) (life : Life) (count : ℕ) → IsLife run guards e life count → (engine : Engine) × IsEngineOf life count engine
+
+-- It has that name after fewer steps, too.
+abbrev pub NamesHoldBefore : Type 0
+NamesHoldBefore =
+    (run : VolumeRun) (guards : Guards) (e : ℕ) (life : Life) (count fewer : ℕ) (engine : Engine) → IsLife run guards e life count
+    → IsEngineOf life count engine → fewer ≤ count → IsEngineOf life fewer engine

@@ -3,9 +3,10 @@ pub mod World
 pub mod Proposed
 pub mod Engines
 pub mod Proposals
-pub mod Openings
-pub mod Admitted
 pub mod Emissions
 pub mod Reporting
 pub mod Writers
 pub mod Resuming
+pub mod Openings
+pub mod Admitted
+pub mod Following

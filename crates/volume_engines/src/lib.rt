@@ -1,9 +1,10 @@
 //! An engine that only steps its machine keeps the rules of the volume protocol.
 #![tactic(auto)]
 
-ghost use Rattle.volume_engines.specs.Engines.{LivesNameEngines};
+ghost use Rattle.volume_engines.specs.Engines.{LivesNameEngines, NamesHoldBefore};
 ghost use Rattle.volume_engines.specs.Proposed.{PlansInOrder};
 ghost use Rattle.volume_engines.specs.Admitted.{AdmissionsKeepRules, RequestsKeepRules};
+ghost use Rattle.volume_engines.specs.Following.{LivesFollowOn};
 ghost use Rattle.volume_engines.specs.Openings.{OpeningsAreDurable, TakesKeepRules};
 ghost use Rattle.volume_engines.specs.Proposals.{ProposalsKeepRules};
 ghost use Rattle.volume_engines.specs.Reporting.{ReportsAreDurable};
@@ -20,9 +21,29 @@ pub fn lives_name_engines()
     ensures { LivesNameEngines }
 {}
 
+/// An engine that has the name of a life has it after each number of its steps.
+pub fn names_hold_before()
+    ensures { NamesHoldBefore }
+{}
+
 /// What a machine that only steps proposes, the rules of the protocol let its engine propose.
 pub fn proposals_keep_rules()
     ensures { ProposalsKeepRules }
+{}
+
+/// What it reports as durable is durable in the run, where the run's history has what it emits.
+pub fn reports_are_durable()
+    ensures { ReportsAreDurable }
+{}
+
+/// What it emits, the rules let the writer of its epoch emit, where its writer began by going on from the epochs below.
+pub fn emissions_keep_rules()
+    ensures { EmissionsKeepRules }
+{}
+
+/// The writer that it begins with, made of what the union stores, goes on from the epochs below, where the union has nothing of later ones.
+pub fn openings_go_on()
+    ensures { OpeningsGoOn }
 {}
 
 /// Which truncations such a machine has nodes take: those that a quorum has accepted.
@@ -40,22 +61,12 @@ pub fn requests_keep_rules()
     ensures { RequestsKeepRules }
 {}
 
+/// A guard that executes what such a machine asks makes a move with which the run goes on by the rules.
+pub fn lives_follow_on()
+    ensures { LivesFollowOn }
+{}
+
 /// What such a machine reports as open is durable.
 pub fn openings_are_durable()
     ensures { OpeningsAreDurable }
-{}
-
-/// What it reports as durable is durable in the run, where the run's history has what it emits.
-pub fn reports_are_durable()
-    ensures { ReportsAreDurable }
-{}
-
-/// What it emits, the rules let the writer of its epoch emit, where its writer began by going on from the epochs below.
-pub fn emissions_keep_rules()
-    ensures { EmissionsKeepRules }
-{}
-
-/// The writer that it begins with, made of what the union stores, goes on from the epochs below, where the union has nothing of later ones.
-pub fn openings_go_on()
-    ensures { OpeningsGoOn }
 {}

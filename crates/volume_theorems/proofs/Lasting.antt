@@ -49,7 +49,7 @@ only_higher run e g k l s t is opens own p above = ⊎_elim
     ⊎ (((run.engines g).generation < (run.engines e).generation) ⊎ ((run.engines e).generation ≡ (run.engines g).generation)) = grind arith in which)
 
 -- what an engine has sent was proposed before
-sent_proposed : (run : VolumeRun) (t : ℕ) (c : CutData) → FollowsProtocol run → (sent : IsCutSent run t c)
+pub sent_proposed : (run : VolumeRun) (t : ℕ) (c : CutData) → FollowsProtocol run → (sent : IsCutSent run t c)
     → (s : ℕ) × (s < t) × MayPropose run sent.0 c.epoch s
 sent_proposed run t c is sent =
     let Votes : ℕ → Type 0 = λ i. (s : ℕ) × (s < t) × MakesMove run s i (Accepts sent.0 c.epoch) in

@@ -13,3 +13,4 @@ pub mod Sample
 pub mod Contents
 pub mod Stopping
 pub mod ByMoment
+pub mod OpeningFirst

@@ -59,3 +59,13 @@ EpochsInOrder =
     (run : VolumeRun) (t : ℕ) (c : CutData) (k : ℕ) → FollowsUntil run t
     → ((s i : ℕ) → s < t → HasCutsTo (run.nodes s i).content.cuts (run.nodes s i).content.epoch)
     → IsCutSent run t c → 1 ≤ k → k ≤ c.epoch → (d : CutData) × IsCutSent run t d × (d.epoch ≡ k)
+
+-- a quorum accepts the engine's truncation of the epoch from the moment u on, before the moment t
+abbrev pub AcceptFrom : VolumeRun → ℕ → ℕ → ℕ → ℕ → Type 0
+AcceptFrom run e epoch u t = Many run (λ i. (s : ℕ) × (u ≤ s) × (s < t) × MakesMove run s i (Accepts e epoch))
+
+-- Where a quorum accepts an engine's own truncation from a moment on, none but that one was sent before for its epoch or a later one.
+abbrev pub NoneOvertakes : Type 0
+NoneOvertakes =
+    (run : VolumeRun) (e epoch u t : ℕ) (c : CutData) → FollowsUntil run t → u ≤ t → (run.engines e).opens ≡ epoch
+    → AcceptFrom run e epoch u t → IsCutSent run u c → epoch ≤ c.epoch → c ≡ (run.engines e).cuts epoch

@@ -21,7 +21,7 @@ ghost use Rattle.volume_theorems.specs.Contents.{PartsGrow, FrontsReach};
 ghost use Rattle.volume_theorems.specs.Sample.{SomeRun};
 ghost use Rattle.volume_theorems.specs.Lasting.{DurableLasts, OpensAbove, LoRises, LoIsPoint};
 ghost use Rattle.volume_theorems.specs.Stopping.{StoppedFollows, FollowsEach, FollowsOn, FollowsAll};
-ghost use Rattle.volume_theorems.specs.ByMoment.{OneSentBy, LoRisesBy, LoIsHeld, OneWriterBy, DurableLastsBy, EpochsInOrder};
+ghost use Rattle.volume_theorems.specs.ByMoment.{OneSentBy, LoRisesBy, LoIsHeld, OneWriterBy, DurableLastsBy, EpochsInOrder, NoneOvertakes};
 
 /// In one birth a member stays one, its generation does not fall, and its accepted truncation and its facts only rise.
 pub fn one_birth()
@@ -147,6 +147,11 @@ pub fn durable_lasts_by()
 /// Truncations are sent for all epochs in order, where nodes have the truncations of the epochs that they have reached.
 pub fn epochs_in_order()
     ensures { EpochsInOrder }
+{}
+
+/// An engine whose own truncation a quorum accepts from a moment on was not overtaken before: no other one of its epoch or a later one was sent.
+pub fn none_overtakes()
+    ensures { NoneOvertakes }
 {}
 
 /// There is a run that follows the rules, with a commit point that is durable.
