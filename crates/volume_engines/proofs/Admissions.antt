@@ -149,7 +149,7 @@ module _ (run : VolumeRun) (h : History) (stop : ℕ) (content : ReplicaData →
         fronts_reach h.readers (log_at h t) hold.part is.facts hold.means.0 (run.nodes t i).content is.union p sound hold.means.1.part
         (λ x among. at_later run h stop emitted s t order upto x (is.part x among)) hold.means.1.position content_is is.has same_epoch inside (omega arith)
 
-    may_admit : MayAdmit run e i t (vote_of asked.accepted)
+    pub may_admit : MayAdmit run e i t (vote_of asked.accepted)
     may_admit = record {
       union = is.union;
       unites = unites_later run e s t is.union order is.unites;

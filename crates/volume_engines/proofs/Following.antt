@@ -14,7 +14,7 @@ use Rattle.volume_engines.specs.Lives.{Guards}
 use Rattle.volume_engines.specs.Following.{Executes, LivesFollowOn}
 use Rattle.volume_engines.proofs.Steps.{requests_keep_rules}
 
-goes_on : (run : VolumeRun) (t : ℕ) (content : ReplicaData → Content) (guards : Guards) (node : ℕ) (asked : Request) (told : Reply) (move : Move)
+pub goes_on : (run : VolumeRun) (t : ℕ) (content : ReplicaData → Content) (guards : Guards) (node : ℕ) (asked : Request) (told : Reply) (move : Move)
     → FollowsUntil run t → run.nodes t node ≡ as_node content (guards t node) → Executes run content guards t node asked told
     → Moves run t node move (as_node content (guards t node)) (as_node content (guards (suc t) node)) → run.moves t ≡ move → FollowsUntil run (suc t)
 goes_on run t content guards node asked told move follows was ex made same =

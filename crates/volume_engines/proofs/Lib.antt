@@ -31,4 +31,6 @@ pub mod Writings
 pub mod Reporting
 pub mod Emitting
 pub mod Resuming
+pub mod Openings
 pub mod Following
+pub mod Running

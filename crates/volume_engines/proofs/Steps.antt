@@ -39,7 +39,6 @@ use Rattle.volume.specs.Writing.{WritesPage, EndsTransaction, RaisesPoint}
 use Rattle.volume_theorems.specs.Nodes.{Content}
 use Rattle.volume_theorems.specs.Runs.{VolumeRun}
 use Rattle.volume_theorems.specs.Opening.{IsCutSent}
-use Rattle.volume_theorems.specs.ByMoment.{IsDurableBy}
 use Rattle.volume_theorems.proofs.Proposing.{sent_later}
 use Rattle.volume_theorems.specs.Stopping.{FollowsUntil}
 use Rattle.volume_guards.specs.Guards.{IsAllowed}
@@ -373,7 +372,7 @@ module _ (run : VolumeRun) (h : History) (stop : ℕ) (content : ReplicaData →
       (is.lives.heard n step) (is.lives.steps (suc n) step)
 
   -- what holds of an action of a step
-  right_action : (n : ℕ) (a : Action) → n < count → Contains (life.actions n) a → RightAction run h e (Allowed (life.states (suc n)).phase) (life.moments n) a
+  pub right_action : (n : ℕ) (a : Action) → n < count → Contains (life.actions n) a → RightAction run h e (Allowed (life.states (suc n)).phase) (life.moments n) a
   right_action n a within inside =
       let k : Knows n (life.states (suc n)) = known n within in
       let Q : SummaryData → Type 0 = Allowed (life.states (suc n)).phase in
@@ -396,12 +395,10 @@ module _ (run : VolumeRun) (h : History) (stop : ℕ) (content : ReplicaData →
   opening_right Q t other epoch point right is = absurd is
 
   pub opened : (n epoch point t : ℕ) (a : Action) → n < count → Contains (life.actions n) a → IsOpening a epoch point → life.moments n ≤ t
-      → IsDurableBy run t e epoch point
+      → HasOpenedAt run e t epoch point
   opened n epoch point t a within inside is_opening order =
       let Q : SummaryData → Type 0 = Allowed (life.states (suc n)).phase in
-      let at : HasOpenedAt run e t epoch point =
-      opened_later run e (life.moments n) t epoch point order (opening_right Q (life.moments n) a epoch point (right_action n a within inside) is_opening) in
-      (at.0, inl at.1)
+      opened_later run e (life.moments n) t epoch point order (opening_right Q (life.moments n) a epoch point (right_action n a within inside) is_opening)
 
 pub admissions_keep_rules : AdmissionsKeepRules
 admissions_keep_rules run h stop content guards e life count is n node t asked within inside order upto =
@@ -431,7 +428,8 @@ takes_keep_rules run h stop content guards e life count is n node generation bir
 
 pub openings_are_durable : OpeningsAreDurable
 openings_are_durable run h stop content guards e life count is n epoch point t a within inside opening order =
-    opened run h stop content guards e life count is n epoch point t a within inside opening order
+    let at : HasOpenedAt run e t epoch point = opened run h stop content guards e life count is n epoch point t a within inside opening order in
+    (at.0, inl at.1)
 
 pub proposals_keep_rules : ProposalsKeepRules
 proposals_keep_rules run h stop content guards e life count is n node generation birth t cut within inside order =

@@ -10,3 +10,4 @@ pub mod Resuming
 pub mod Openings
 pub mod Admitted
 pub mod Following
+pub mod Running

@@ -36,3 +36,20 @@ OpeningsAreDurable =
     → IsLifeIn run h stop content guards e life count
     → (n epoch point t : ℕ) (a : Action) → n < count → Contains (life.actions n) a → IsOpening a epoch point → life.moments n ≤ t
     → IsDurableBy run t e epoch point
+
+-- Two lives that report one epoch as open are of one engine, and report one point.
+abbrev pub OneLifeOpens : Type 0
+OneLifeOpens =
+    (run : VolumeRun) (h : History) (stop : ℕ) (content : ReplicaData → Content) (guards : Guards) (e f : ℕ) (life other : Life) (count more : ℕ)
+    → IsLifeIn run h stop content guards e life count → IsLifeIn run h stop content guards f other more
+    → (m n epoch one two : ℕ) (a b : Action) → m < count → n < more → Contains (life.actions m) a → Contains (other.actions n) b
+    → IsOpening a epoch one → IsOpening b epoch two → (e ≡ f) × (one ≡ two)
+
+-- What one life reports as open, no truncation of a later epoch annuls that another life has nodes take.
+abbrev pub OpeningsLast : Type 0
+OpeningsLast =
+    (run : VolumeRun) (h : History) (stop : ℕ) (content : ReplicaData → Content) (guards : Guards) (e f : ℕ) (life other : Life) (count more : ℕ)
+    → IsLifeIn run h stop content guards e life count → IsLifeIn run h stop content guards f other more
+    → (m n epoch point node generation birth : ℕ) (a : Action) (cut : CutData) → m < count → n < more → Contains (life.actions m) a
+    → IsOpening a epoch point → Contains (other.actions n) (Ask node (request.As generation birth (segment.Take (Cut cut)))) → epoch < cut.epoch
+    → point ≤ cut.lo

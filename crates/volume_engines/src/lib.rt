@@ -5,7 +5,8 @@ ghost use Rattle.volume_engines.specs.Engines.{LivesNameEngines, NamesHoldBefore
 ghost use Rattle.volume_engines.specs.Proposed.{PlansInOrder};
 ghost use Rattle.volume_engines.specs.Admitted.{AdmissionsKeepRules, RequestsKeepRules};
 ghost use Rattle.volume_engines.specs.Following.{LivesFollowOn};
-ghost use Rattle.volume_engines.specs.Openings.{OpeningsAreDurable, TakesKeepRules};
+ghost use Rattle.volume_engines.specs.Openings.{OneLifeOpens, OpeningsAreDurable, OpeningsLast, TakesKeepRules};
+ghost use Rattle.volume_engines.specs.Running.{MachinesKeepRules};
 ghost use Rattle.volume_engines.specs.Proposals.{ProposalsKeepRules};
 ghost use Rattle.volume_engines.specs.Reporting.{ReportsAreDurable};
 ghost use Rattle.volume_engines.specs.Writers.{EmissionsKeepRules};
@@ -66,7 +67,22 @@ pub fn lives_follow_on()
     ensures { LivesFollowOn }
 {}
 
+/// A run of such machines and of guards keeps the rules of the protocol.
+pub fn machines_keep_rules()
+    ensures { MachinesKeepRules }
+{}
+
 /// What such a machine reports as open is durable.
 pub fn openings_are_durable()
     ensures { OpeningsAreDurable }
+{}
+
+/// One engine at most reports an epoch as open.
+pub fn one_life_opens()
+    ensures { OneLifeOpens }
+{}
+
+/// What one such machine reports as open, no later truncation of another one annuls.
+pub fn openings_last()
+    ensures { OpeningsLast }
 {}

@@ -36,7 +36,7 @@ fences run content t i e generation old new of member above is = (
   },
 )
 
-not_later : (accepted : Option AcceptedCut) (generation own epoch : ℕ) → own ≡ generation → ¬ (HasLater accepted generation epoch)
+pub not_later : (accepted : Option AcceptedCut) (generation own epoch : ℕ) → own ≡ generation → ¬ (HasLater accepted generation epoch)
     → ¬ (IsLaterVote (vote_of accepted) own epoch)
 not_later None generation own epoch same none later = later
 not_later (Some pair) generation own epoch same none later = none (later.0 ∙ same, later.1)
