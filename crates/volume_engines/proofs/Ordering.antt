@@ -293,11 +293,11 @@ module _ (Past : Before) (quorum : ℕ) (old : Opening) (k : OrderedOpening Past
   -- ---- fronts, while the plan is taken
   opens : (u : State) (cut : CutData) (new : Opening) (t : Turn) → OpensVolume old.session u cut t → Left new t
   opens u cut new (turn.Enter (phase.Open w) actions) says = tt
-  opens u cut new (turn.Enter phase.Idle actions) says = absurd says
-  opens u cut new (turn.Enter (phase.Creating c) actions) says = absurd says
-  opens u cut new (turn.Enter (phase.Fencing f) actions) says = absurd says
-  opens u cut new (turn.Enter (phase.Opening o) actions) says = absurd says
-  opens u cut new (turn.Stay actions) says = absurd says
+  opens u cut new (turn.Enter phase.Idle actions) says = absurd says.0
+  opens u cut new (turn.Enter (phase.Creating c) actions) says = absurd says.0
+  opens u cut new (turn.Enter (phase.Fencing f) actions) says = absurd says.0
+  opens u cut new (turn.Enter (phase.Opening o) actions) says = absurd says.0
+  opens u cut new (turn.Stay actions) says = absurd says.0
   opens u cut new (turn.End actions) says = tt
 
   -- after a pending plan, each plan so far is behind the union
