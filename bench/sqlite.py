@@ -23,6 +23,7 @@ sys.path.insert(0, str(ROOT / "tests"))
 from harness.sqlite_cluster import NODES, Cluster, kill_process  # noqa: E402
 from harness.sqlite_crashes import Child  # noqa: E402
 from harness.sqlite_rounds import connect, load  # noqa: E402
+from harness.store_files import HEAD, HEADER  # noqa: E402
 
 TABLE = "create table t(a integer primary key, b)"
 MANY = "with recursive c(n) as (select 1 union all select n + 1 from c where n < {}) insert into t(b) select hex(randomblob({})) from c"
@@ -33,28 +34,32 @@ LOADS = {
     "100 rows a commit": MANY.format(100, 20),
 }
 NO_SNAPSHOTS = ("--snapshot-after", 1 << 40)  # so that a log has all that a server was sent
+GOSSIP = 200  # milliseconds between two rounds, as a server has it
 LEAST = 20  # commits of a measurement
-STARTING = 30  # seconds until a server counts as not started
+STARTING = 60  # seconds until a server counts as not started
+PATIENCE = 60_000  # milliseconds of an opening
 
 
 class Measured(NamedTuple):
-    """Commits a second, the median and the 99th percentile of their milliseconds, and bytes that a commit writes."""
+    """Commits a second, the median and the 99th percentile of their milliseconds, bytes that a commit writes, and bytes that follow it."""
 
     rate: float
     half: float
     most: float
-    written: float = 0
+    written: float
+    later: float
 
 
 def measure(connection, sql, seconds, written):
-    """Commits for so long; `written` says how many bytes were written so far."""
+    """Commits for so long; `written` says how many bytes were written so far, and how many more in the background."""
     times, end, before = [], time.monotonic() + seconds, written()
     while time.monotonic() < end or len(times) < LEAST:
         begun = time.monotonic()
         connection.execute(sql)
         times.append(time.monotonic() - begun)
     cuts = statistics.quantiles(times, n=100)
-    return Measured(len(times) / sum(times), 1000 * cuts[49], 1000 * cuts[98], (written() - before) / len(times))
+    each = [(now - then) / len(times) for now, then in zip(written(), before)]
+    return Measured(len(times) / sum(times), 1000 * cuts[49], 1000 * cuts[98], *each)
 
 
 def span(values, form="{:,.0f}"):
@@ -78,12 +83,32 @@ def fill(connection):
 
 def bytes_of_process():
     """What this process has written, by whatever call."""
-    return int(next(line for line in Path("/proc/self/io").read_text().splitlines() if line.startswith("wchar")).split()[1])
+    return int(next(line for line in Path("/proc/self/io").read_text().splitlines() if line.startswith("wchar")).split()[1]), 0
 
 
-def bytes_of_logs(cluster):
-    """The mean length of the logs of the servers that run."""
-    return statistics.mean(it.metrics()["yieldcleat_log_bytes"] for it in cluster.stores if it.process.poll() is None)
+class Sent:
+    """What the logs of the servers have: the bytes of facts from engines, and of gossip, on average."""
+
+    def __init__(self, cluster):
+        self.logs, self.sums = {store.file("log"): HEADER for store in cluster.stores}, [0, 0]
+
+    def __call__(self):
+        for log, at in self.logs.items():
+            with open(log, "rb") as it:
+                it.seek(at)
+                text, end = it.read(), 0
+            while end + HEAD <= len(text) and (stop := end + HEAD + int.from_bytes(text[end + 8 : end + 12], "big")) <= len(text):
+                self.add(text[end + HEAD : stop])
+                end = stop
+            self.logs[log] = at + end
+        return [it / len(self.logs) for it in self.sums]
+
+    def add(self, requests):
+        at = 0
+        while at < len(requests):
+            size = 4 + int.from_bytes(requests[at : at + 4], "big")
+            self.sums[requests[at + 4 : at + 11] == b"absorb "] += size
+            at += size
 
 
 def plain(folder, mode, sql, seconds):
@@ -100,10 +125,10 @@ def plain(folder, mode, sql, seconds):
 
 def engine(pipe, cluster, sql, seconds):
     """In a process of its own: fills the database, and measures as often as it is asked."""
-    connection = connect(cluster.folder / "volume")
+    connection, sent = connect(cluster.folder / "volume"), Sent(cluster)
     fill(connection)
     while pipe.recv():
-        pipe.send(measure(connection, sql, seconds, lambda: bytes_of_logs(cluster)))
+        pipe.send(measure(connection, sql, seconds, sent))
     connection.close()
 
 
@@ -130,11 +155,12 @@ def commits(cluster, folder, seconds, runs):
         ratios = [span([one.rate / other.rate for one, other in zip(ours, others)], "{:.2f}") for others in (journal, wal)]
         print(f"| {name} | {shown(journal)} | {shown(wal)} | {shown(ours)} | {ratios[0]} | {ratios[1]} |", flush=True)
         sizes.append((name, ours, journal, wal))
-    print("\nBytes that a commit writes: to the log of each server, beside pages and journal, and beside pages and WAL.\n")
-    print("| Load | log of a server | pages and journal | pages and WAL | ratio to the journal | to the WAL |\n|---|---|---|---|---|---|")
-    for name, *kinds in sizes:
-        ratios = [span([one.written / other.written for one, other in zip(kinds[0], others)], "{:.3f}") for others in kinds[1:]]
-        print(f"| {name} | {' | '.join(span([it.written for it in kind]) for kind in kinds)} | {ratios[0]} | {ratios[1]} |")
+    print("\nBytes a commit: the redo that each server is sent and what gossip brings it too, beside pages with their journal or WAL.\n")
+    print("| Load | redo | gossip | pages and journal | pages and WAL | redo to the journal | to the WAL |\n|---|---|---|---|---|---|---|")
+    for name, ours, journal, wal in sizes:
+        ratios = [span([one.written / other.written for one, other in zip(ours, others)], "{:.3f}") for others in (journal, wal)]
+        cells = [span([it.written for it in ours]), span([it.later for it in ours]), *(span([it.written for it in kind]) for kind in (journal, wal))]
+        print(f"| {name} | {' | '.join([*cells, *ratios])} |")
 
 
 def killed(cluster, seconds, runs):
@@ -156,7 +182,7 @@ def killed(cluster, seconds, runs):
 
 def write(pipe, place):
     """Commits until it is killed."""
-    connection = connect(place)
+    connection = connect(place, timeout=PATIENCE)
     connection.execute(ONE_ROW)
     pipe.send("writing")
     while True:
@@ -166,7 +192,7 @@ def write(pipe, place):
 def open_to_write(pipe, place):
     """Sends after how many milliseconds a database may be written."""
     begun = time.monotonic()
-    connection = connect(place)
+    connection = connect(place, timeout=PATIENCE)
     connection.execute("begin immediate")
     pipe.send(1000 * (time.monotonic() - begun))
     connection.execute("commit")
@@ -194,21 +220,29 @@ def whole(cluster):
     return 1000 * (time.monotonic() - begun)
 
 
-def grow(_, cluster, megabytes):
-    connection = connect(cluster.folder / "volume", keep=10)
+def grow(_, cluster, megabytes, keep):
+    """Makes a database of this size, of which so many commits stay readable; a commit has 100 kB."""
+    connection = connect(cluster.folder / "volume", keep=keep)
     connection.execute("drop table if exists t")
     connection.execute(TABLE)
     while connection.execute("pragma page_count").fetchone()[0] * 4096 < megabytes * 1e6:
-        connection.execute(MANY.format(1000, 500))
+        connection.execute(MANY.format(100, 500))
     connection.close()
 
 
-def recovery(cluster, megabytes, runs):
-    assert Child(grow, cluster, megabytes).said() == []
-    times = [recovered(cluster) for _ in range(2 * runs)]
-    print(f"\n| Of a database of {megabytes:.0f} MB | ms |\n|---|---|")
-    print(f"| open for writing after the engine was killed | {span(times)} |")
-    print(f"| a server that lost its files has all again | {span([whole(cluster) for _ in range(runs)])} |", flush=True)
+def recovery(program, folder, megabytes, runs):
+    """Databases of which little and much can be read in the past: an opening brings its servers all of that."""
+    print("\n| MB | readable in the past | ms until open for writing after the engine was killed | ms until a server without files has all |\n|---|---|---|---|")
+    for size, keep, much in ((megabytes, 10, "10 commits, 1 MB"), (megabytes / 4, 0, "all")):
+        cluster = Cluster(program, folder / f"keep{keep}", None, GOSSIP, NO_SNAPSHOTS)
+        try:
+            cluster.start()
+            assert Child(grow, cluster, size, keep).said() == []
+            assert cluster.settled(), cluster.fronts()
+            times = [span([it(cluster) for _ in range(runs)]) for it in (recovered, whole)]
+            print(f"| {size:.0f} | {much} | {times[0]} | {times[1]} |", flush=True)
+        finally:
+            cluster.close()
 
 
 def main():
@@ -222,13 +256,14 @@ def main():
     args = parser.parse_args()
     folder = Path(tempfile.mkdtemp(prefix="yieldcleat-bench-", dir=args.folder))
     load(args.extension)
-    cluster = Cluster(args.store, folder / "nodes", None, words=NO_SNAPSHOTS)
+    cluster = Cluster(args.store, folder / "nodes", None, GOSSIP, NO_SNAPSHOTS)
     try:
         cluster.start()
         print(f"{os.cpu_count()} processors, load {os.getloadavg()[0]:.1f} at the beginning.\n")
         commits(cluster, folder, args.seconds, args.runs)
         killed(cluster, args.seconds, args.runs)
-        recovery(cluster, args.megabytes, args.runs)
+        cluster.close()
+        recovery(args.store, folder, args.megabytes, args.runs)
         print(f"\nLoad {os.getloadavg()[0]:.1f} at the end.")
     finally:
         cluster.close()

@@ -19,7 +19,7 @@ from harness.store_checks import advance, take, takes, told
 from harness.stores import Store, until
 
 pytestmark = [pytest.mark.xdist_group("sqlite_suites"), *test_sqlite.pytestmark[1:]]
-VALGRIND = ["valgrind", "--quiet", "--error-exitcode=99", "--leak-check=full", "--errors-for-leak-kinds=definite"]
+VALGRIND = ["valgrind", "--quiet", "--error-exitcode=99", "--leak-check=full", "--show-leak-kinds=definite", "--errors-for-leak-kinds=definite"]
 needs_valgrind = pytest.mark.skipif(not shutil.which("valgrind"), reason="no valgrind is on the path")
 
 
