@@ -75,6 +75,22 @@ impl Pause {
     }
 }
 
+/// Until when answers are held back.
+#[derive(Clone, Copy)]
+struct Grace {
+    pause: Pause,
+    end: Instant,
+    /// The same for nodes that are to be admitted: an opening which is for them alone waits longer.
+    last: Instant,
+}
+
+impl Grace {
+    fn is_over(&self, now: Instant, peers: &[Peer]) -> bool {
+        let end = |peer: &Peer| if peer.outside.is_some() { self.last } else { self.end };
+        !peers.iter().any(|peer| self.pause.is_waiting_for(peer) && now < end(peer))
+    }
+}
+
 /// An answer that the machine has not been told.
 struct Held {
     node: u8,
@@ -100,7 +116,7 @@ pub struct Driver<M> {
     /// Who waits for an opening or a creation.
     opening: Option<Sender<Result<(), VolumeError>>>,
     /// Until when answers are held back, and these answers.
-    grace: Option<(Pause, Instant)>,
+    grace: Option<Grace>,
     held: Vec<Held>,
     /// When an opening that has lost a node is given up.
     given_up: Option<Instant>,
@@ -188,7 +204,7 @@ impl<M: Machine> Driver<M> {
         if let Some(fenced) = fenced {
             self.progress.met(fenced.birth);
         }
-        match self.grace.is_some_and(|(pause, _)| pause.holds_back(&answer)) {
+        match self.grace.is_some_and(|grace| grace.pause.holds_back(&answer)) {
             true => self.held.push(Held { node, request, answer }),
             false => self.notice(Event::Answered { node, request: &request, answer: &answer }),
         }
@@ -196,11 +212,7 @@ impl<M: Machine> Driver<M> {
 
     /// Tells the machine what was held back, when no node has to answer any more or the time is up.
     fn release_held(&mut self) {
-        let Some((pause, end)) = self.grace else {
-            return;
-        };
-        let is_waiting = self.peers.iter().any(|peer| pause.is_waiting_for(peer));
-        if !is_waiting || Instant::now() >= end {
+        if self.grace.is_some_and(|grace| grace.is_over(Instant::now(), &self.peers)) {
             self.grace = None;
             self.peers.iter_mut().for_each(|peer| peer.awaits_admission = false);
             for Held { node, request, answer } in std::mem::take(&mut self.held) {
@@ -212,10 +224,14 @@ impl<M: Machine> Driver<M> {
     /// Pauses an opening that has asked fresh nodes to become members.
     fn pause_for_admission(&mut self) {
         if self.is_opening() && self.grace.is_none() && self.peers.iter().any(|peer| peer.awaits_admission) {
-            let long = if self.reopening.is_opening() { self.options.admission } else { self.options.grace };
-            self.grace = Some((Pause::Admission, Instant::now() + long));
-            self.reopening.prolong(long);
+            self.pause(Pause::Admission);
         }
+    }
+
+    fn pause(&mut self, pause: Pause) {
+        let (now, grace) = (Instant::now(), self.options.grace);
+        let last = if self.reopening.is_opening() { self.options.limits.answer } else { grace };
+        self.grace = Some(Grace { pause, end: now + grace, last: now + last });
     }
 
     /// Ends an opening that has lost a node and has not gone on without it: the machine waits for each node of the quorum that it has fenced.
@@ -332,7 +348,7 @@ impl<M: Machine> Driver<M> {
         self.held.clear();
         self.given_up = None;
         self.peers.iter_mut().for_each(|peer| peer.awaits_admission = false);
-        self.grace = Some((Pause::Fence, Instant::now() + self.options.grace));
+        self.pause(Pause::Fence);
     }
 
     /// Whether calls wait until the volume is open again.

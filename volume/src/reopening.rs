@@ -69,8 +69,9 @@ struct Noticed {
 const UNHELPED: u32 = 10;
 /// The longest pause where nodes were not admitted by the attempts before: an opening spends epochs.
 const LONGEST_WAIT: Duration = Duration::from_secs(3600);
-/// The longest attempt: nobody waits for its end, and it takes longer the more the volume has.
-const LONGEST_ATTEMPT: Duration = Duration::from_secs(60);
+/// The longest attempt. It takes longer the more the volume has, and another one would begin from nothing; one that has lost a node is given
+/// up before.
+const ATTEMPT: Duration = Duration::from_secs(60);
 /// From here on, epochs are left for openings after a crash.
 const LAST_EPOCH: u16 = 65_000;
 
@@ -90,8 +91,7 @@ pub struct Reopening {
     /// The nodes outside at the last attempt, and the pause before another one where there are no others.
     tried: Vec<Outside>,
     wait: Duration,
-    /// How long the next attempt may take, and the pause after it where it fails.
-    attempt: Duration,
+    /// The pause after an attempt that fails.
     retry: Duration,
 }
 
@@ -106,7 +106,6 @@ impl Reopening {
             helped: Vec::new(),
             tried: Vec::new(),
             wait: options.admission,
-            attempt: options.patience / 8,
             retry: options.retry,
             options: options.clone(),
         }
@@ -130,13 +129,6 @@ impl Reopening {
     /// admitted. Where that fails all the same, the next attempt sends it.
     pub fn is_helped(&self, node: u8) -> bool {
         self.is_opening() && self.helped.contains(&node.into())
-    }
-
-    /// The attempt may take so much longer.
-    pub fn prolong(&mut self, by: Duration) {
-        if let Stage::Opening { until } = &mut self.stage {
-            *until += by;
-        }
     }
 
     /// Whether there is nothing to decide while no node is outside.
@@ -260,7 +252,7 @@ impl Reopening {
             };
             self.tried.clone_from(&seen.outside);
         }
-        self.stage = Stage::Opening { until: now + self.attempt };
+        self.stage = Stage::Opening { until: now + ATTEMPT };
         Next::Open
     }
 
@@ -280,7 +272,6 @@ impl Reopening {
     /// An attempt has failed; another one follows.
     pub fn fail(&mut self, now: Instant) {
         (self.stage, self.next) = (Stage::Resting, now + self.retry);
-        self.attempt = (self.attempt * 2).min(LONGEST_ATTEMPT);
         self.retry = (self.retry * 2).min(self.options.admission);
     }
 
@@ -433,7 +424,7 @@ mod tests {
         assert_eq!(case.hear(&[5, 6], 40), Next::Open);
         case.reopening.begin();
         case.seen.claimed += 1;
-        assert_eq!(case.after(Duration::from_secs(20)), Next::Nothing);
+        assert_eq!(case.after(ATTEMPT), Next::Nothing);
         assert!(!case.reopening.is_opening());
         assert_eq!((case.after(PAUSE), case.hear(&[8, 6], 40)), (Next::Ask, Next::Fenced { generation: 8 }));
     }
