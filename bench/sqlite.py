@@ -174,7 +174,7 @@ def killed(cluster, seconds, runs):
         child.close()
         cluster.start()
         assert cluster.settled(), cluster.fronts()
-    print("\n| Servers | commits a second; p50; p99 | ratio |\n|---|---|---|")
+    print("\nTwo servers killed.\n\n| Servers | commits a second; p50; p99 | ratio |\n|---|---|---|")
     print(f"| six | {shown(all_of_them)} | |")
     ratio = span([one.rate / other.rate for one, other in zip(without, all_of_them)], "{:.2f}")
     print(f"| four, two killed | {shown(without)} | {ratio} |", flush=True)
@@ -231,8 +231,8 @@ def grow(_, cluster, megabytes, keep):
 
 
 def recovery(program, folder, megabytes, runs):
-    """Databases of which little and much can be read in the past: an opening brings its servers all of that."""
-    print("\n| MB | readable in the past | ms until open for writing after the engine was killed | ms until a server without files has all |\n|---|---|---|---|")
+    """Databases of two sizes, of which little and all can be read in the past. An opening moves the whole volume, whatever is readable."""
+    print("\nRecovery.\n\n| MB | readable in the past | ms until open for writing after the engine was killed | ms until a server without files has all |\n|---|---|---|---|")
     for size, keep, much in ((megabytes, 10, "10 commits, 1 MB"), (megabytes / 4, 0, "all")):
         cluster = Cluster(program, folder / f"keep{keep}", None, GOSSIP, NO_SNAPSHOTS)
         try:

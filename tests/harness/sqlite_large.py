@@ -17,6 +17,7 @@ from harness.sqlite_worlds import is_whole, one
 KEPT = 20  # commits that stay readable, so that servers fold and discard
 ROWS = 100  # of a commit
 SNAPSHOTS = 2  # of each server, at least
+PATIENCE = 120_000  # milliseconds of an opening, which moves the whole volume
 TABLES = """
 create table t(a integer primary key, b blob);
 create table total(rows integer, bytes integer, last integer);
@@ -33,7 +34,7 @@ def body(seed, number):
 
 def fill(pipe, place, seed, size):
     """Inserts rows until the database has its size, and deletes some; sends the size after each commit."""
-    ours = connect(place, keep=KEPT)
+    ours = connect(place, keep=KEPT, timeout=PATIENCE)
     ours.executescript(f"begin; {TABLES} commit")
     last, old = 0, "from t where a % 37 = ? and a > ?"
     while (has := one(ours, "pragma page_count") * 4096) < size:
@@ -52,7 +53,7 @@ def fill(pipe, place, seed, size):
 
 def watch(pipe, place):
     """Looks again and again, and sends how often all was of one commit, or what was not."""
-    ours, looks = connect(place, mode="ro"), 0
+    ours, looks = connect(place, mode="ro", timeout=PATIENCE), 0
     while not pipe.poll():
         ours.execute("begin")
         there, noted = ours.execute("select count(*), sum(length(b)) from t").fetchone(), ours.execute("select rows, bytes from total").fetchone()
@@ -67,7 +68,7 @@ def watch(pipe, place):
 def check(pipe, place, seed):
     """Sends how many rows there are where all of them are as they were made, or what is wrong."""
     try:
-        ours = connect(place, timeout=20000)
+        ours = connect(place, timeout=PATIENCE)
         ours.execute("begin immediate")
         wrong = [a for a, b in ours.execute("select a, b from t") if b != body(seed, a)]
         there, noted = ours.execute("select count(*), sum(length(b)) from t").fetchone(), ours.execute("select rows, bytes from total").fetchone()
@@ -78,7 +79,7 @@ def check(pipe, place, seed):
 
 
 def open_to_write(pipe, place):
-    connect(place, timeout=20000).execute("begin immediate").execute("commit")
+    connect(place, timeout=PATIENCE).execute("begin immediate").execute("commit")
     pipe.poll(2)  # as long as an admission may take
 
 
