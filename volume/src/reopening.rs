@@ -86,7 +86,7 @@ pub struct Reopening {
     held: Option<Instant>,
     /// Whether the machine was asked to open the volume again and has not said that it is open.
     is_shut: bool,
-    /// The nodes that have the log, of those that are admitted for the first time.
+    /// The fresh nodes that have the log.
     helped: Vec<usize>,
     /// The nodes outside at the last attempt, and the pause before another one where there are no others.
     tried: Vec<Outside>,
@@ -126,7 +126,7 @@ impl Reopening {
     }
 
     /// Whether a fresh node has what the engine sends it before it is admitted. It need not be sent then: no node that lacks any of it is
-    /// admitted. Where that fails all the same, the next attempt sends it.
+    /// admitted.
     pub fn is_helped(&self, node: u8) -> bool {
         self.is_opening() && self.helped.contains(&node.into())
     }
@@ -209,9 +209,11 @@ impl Reopening {
             return self.released(now);
         }
         match self.held {
-            Some(held) if statuses.fresh_have(seen.epoch, seen.committed) || now >= held + 2 * self.options.grace => {
-                self.open(now, seen, &statuses)
-            }
+            Some(_) if statuses.fresh_have(seen.epoch, seen.committed) => self.open(now, seen, &statuses),
+            Some(held) if now >= held + 2 * self.options.grace => match self.is_overdue(now, seen) {
+                true => self.open(now, seen, &statuses),
+                false => self.released(now),
+            },
             Some(_) => {
                 (self.stage, self.next) = (Stage::Draining, now + self.options.retry / 10);
                 Next::Nothing
@@ -226,8 +228,11 @@ impl Reopening {
 
     /// Whether commits may be held: gossip has brought the fresh nodes what was durable when they were seen first, or does not.
     fn may_hold(&self, now: Instant, seen: &Seen, statuses: &Statuses) -> bool {
-        let is_overdue = |noticed: Noticed| now >= noticed.at + self.pause(seen) + self.options.admission * UNHELPED;
-        self.noticed.is_some_and(|noticed| statuses.fresh_have(seen.epoch, noticed.durable) || is_overdue(noticed))
+        self.noticed.is_some_and(|noticed| statuses.fresh_have(seen.epoch, noticed.durable)) || self.is_overdue(now, seen)
+    }
+
+    fn is_overdue(&self, now: Instant, seen: &Seen) -> bool {
+        self.noticed.is_some_and(|noticed| now >= noticed.at + self.pause(seen) + self.options.admission * UNHELPED)
     }
 
     /// Asks again, once nothing is in flight.
@@ -244,8 +249,7 @@ impl Reopening {
     fn open(&mut self, now: Instant, seen: &Seen, statuses: &Statuses) -> Next {
         self.helped.clear();
         if !self.is_shut {
-            let is_new = |birth: &u64| !self.tried.contains(&Outside::Fresh(*birth));
-            self.helped = statuses.fresh_with(seen.epoch, seen.committed).filter(|it| is_new(&it.1)).map(|it| it.0).collect();
+            self.helped = statuses.fresh_with(seen.epoch, seen.committed).collect();
             self.wait = match seen.outside.iter().all(|it| self.tried.contains(it)) {
                 true => (self.wait * 2).min(LONGEST_WAIT),
                 false => self.options.admission * 2,

@@ -83,10 +83,10 @@ impl Statuses {
         fresh.all(|it| it.front.epoch == epoch && it.front.complete >= point)
     }
 
-    /// The nodes that are no members and have all of this epoch up to a point, with their births.
-    pub fn fresh_with(&self, epoch: u16, point: u64) -> impl Iterator<Item = (usize, u64)> + '_ {
+    /// The nodes that are no members and have all of this epoch up to a point.
+    pub fn fresh_with(&self, epoch: u16, point: u64) -> impl Iterator<Item = usize> + '_ {
         let fresh = self.answered.iter().filter(|it| !it.1.is_member);
-        fresh.filter(move |it| it.1.front.epoch == epoch && it.1.front.complete >= point).map(|it| (*it.0, it.1.birth))
+        fresh.filter(move |it| it.1.front.epoch == epoch && it.1.front.complete >= point).map(|it| *it.0)
     }
 
     /// All points of this epoch that anybody has seen durable are at or below it: it counts nodes that say nothing as if they had all.

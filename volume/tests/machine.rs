@@ -347,9 +347,9 @@ fn wiped_nodes_are_admitted_by_an_engine_that_stays_open() {
         until(|| world.nodes[victim].is_member());
         until(|| engine.volume.standing().unwrap().uncounted == 0);
     }
-    let generation = engine.volume.standing().unwrap().generation;
     world.nodes[1].set_away(true);
     let (place, point) = commit(3);
+    let generation = engine.volume.standing().unwrap().generation;
     assert!((1..=place).all(|place| shows(&engine.volume, place, point)));
     assert!((1..=4).all(|place| shows(&engine.volume, place, 2 * place)), "points of the first epoch are read as before");
     assert_eq!((engine.volume.newest(), engine.volume.page_zero(point).unwrap().generation), (Ok(point), generation));

@@ -322,12 +322,12 @@ fn nodes_that_lose_their_files_one_after_another_count_again() {
         until(|| world.is_member(victim));
         until(|| volume.standing().unwrap().uncounted == 0);
     }
-    assert!(volume.standing().unwrap().generation >= 3 + 4);
     world.nodes[4].go_away();
     world.nodes[5].go_away();
     let (place, point) = commit(5);
     assert!((1..=place).all(|place| shows(&volume, place, point)));
     assert_eq!(volume.newest(), Ok(point));
+    assert!(volume.standing().unwrap().generation >= 3 + 4);
 }
 
 #[test]
