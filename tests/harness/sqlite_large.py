@@ -3,6 +3,7 @@
 By hand: python3 -m harness.sqlite_large EXTENSION STORE DISK FOLDER SEED MEGABYTES
 """
 
+import contextlib
 import random
 import sqlite3
 import sys
@@ -12,12 +13,12 @@ from pathlib import Path
 from harness.sqlite_cluster import NODES, Cluster, kill_process
 from harness.sqlite_crashes import Child
 from harness.sqlite_rounds import connect, load, told
-from harness.sqlite_worlds import is_whole, one
+from harness.sqlite_worlds import is_whole, last_message, one
 
 KEPT = 20  # commits that stay readable, so that servers fold and discard
 ROWS = 100  # of a commit
 SNAPSHOTS = 2  # of each server, at least
-PATIENCE = 120_000  # milliseconds of an opening, which moves the whole volume
+PATIENCE = 20_000  # milliseconds of an opening, which moves the whole volume
 TABLES = """
 create table t(a integer primary key, b blob);
 create table total(rows integer, bytes integer, last integer);
@@ -52,12 +53,18 @@ def fill(pipe, place, seed, size):
 
 
 def watch(pipe, place):
-    """Looks again and again, and sends how often all was of one commit, or what was not."""
+    """Looks again and again, and sends how often all was of one commit, or what was not. A look may outlast the commits that stay readable."""
     ours, looks = connect(place, mode="ro", timeout=PATIENCE), 0
     while not pipe.poll():
-        ours.execute("begin")
-        there, noted = ours.execute("select count(*), sum(length(b)) from t").fetchone(), ours.execute("select rows, bytes from total").fetchone()
-        ours.execute("commit")
+        try:
+            ours.execute("begin")
+            there, noted = ours.execute("select count(*), sum(length(b)) from t").fetchone(), ours.execute("select rows, bytes from total").fetchone()
+            ours.execute("commit")
+        except sqlite3.Error as error:
+            if "minimum read point" not in (said := last_message(ours)):
+                return pipe.send(f"{told(error)} {said}")
+            ours.execute("rollback")
+            continue
         if there != noted and noted != (0, 0):
             return pipe.send(f"{there} is there, and {noted} is noted")
         looks += 1
@@ -122,7 +129,8 @@ def fill_and_kill(cluster, seed, size):
         writer.process.join()
         assert writer.process.exitcode == 0
         cluster.start()
-        watcher.pipe.send("end")
+        with contextlib.suppress(BrokenPipeError):  # one that has ended says why
+            watcher.pipe.send("end")
         [looks] = watcher.said()
         assert isinstance(looks, int), looks
         return looks
