@@ -1,4 +1,5 @@
 pub mod Keys
+pub mod Capped
 pub mod Views
 pub mod Chain
 pub mod Maps

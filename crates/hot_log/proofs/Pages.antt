@@ -56,6 +56,3 @@ none_between b held page from to low high xs above up apart is =
   where
     rise : (a b c d e n : ℕ) → PairBefore a b e n → (PairBefore c d e n → ⊥) → a ≤ c
     rise a b c d e n p q = grind arith
-
-pub key_rises : (e n f m : ℕ) → e ≤ f → n < m → PairBefore e n f m
-key_rises e n f m le lt = grind arith

@@ -1,15 +1,15 @@
 -- Keys that a walk scans beside a chain.
-use Rattle.std.specs.Prelude.{◌≡◌, ℕ, ◌<◌, List, ◌∷◌, ◌++◌, Option, Some, None}
+use Rattle.std.specs.Prelude.{◌≡◌, ℕ, ◌<◌, Bool, List, ◌∷◌, ◌++◌, Option, Some, None}
 use Rattle.std.specs.List.{Contains}
 use Rattle.std.specs.declared.cmp.Ordering.TheVariants.{Less}
 use Rattle.redo_core.specs.Data.{RecordData}
-use Rattle.redo_core.specs.Keys.{key_of, key_cmp}
+use Rattle.redo_core.specs.Keys.{key_in, key_of, key_cmp}
 use Rattle.redo_core.specs.declared.keys.Key.{Key}
 use Rattle.redo_core.specs.Order.{IsRising}
 use Rattle.redo_core.specs.Standing.{IsAlive}
 use Rattle.epoch_book.specs.Book.{BookData}
 use Rattle.hot_log.specs.Held.{HasKey}
-use Rattle.hot_log.specs.Alive.{IsHeldAlive}
+use Rattle.hot_log.specs.Alive.{IsAliveOfBack, IsHeldAlive, HasSecond}
 
 -- the keys of the alive records above an LSN are among these, and no other alive ones; they rise
 pub record AreOnward (book : BookData) (held : List RecordData) (number : ℕ) (left : List (Key × ℕ)) : Type 0 where
@@ -27,3 +27,8 @@ PassesToAlive book old None new = NoneAlive book old
 PassesToAlive book old (Some key) new =
     IsAlive book.cuts book.complete key.epoch key.number
     × ((passed : List (Key × ℕ)) × (page : ℕ) × (old ≡ passed ++ (key, page) ∷ new) × NoneAlive book passed)
+
+-- the least key of the alive records with this segment backlink, and whether another one has it; or none has it
+abbrev pub IsNextOfBack : BookData → List RecordData → ℕ → Option (Key × Bool) → Type 0
+IsNextOfBack book held back None = IsAliveOfBack book held back (key_in 0 0) None
+IsNextOfBack book held back (Some t) = IsAliveOfBack book held back (key_in 0 0) (Some t.0) × HasSecond book held back t.0 t.1

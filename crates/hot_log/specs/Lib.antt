@@ -5,6 +5,7 @@ pub mod Ahead
 pub mod Found
 pub mod Removing
 pub mod Indexing
+pub mod Packed
 pub mod Paged
 pub mod Anew
 pub mod Missing

@@ -5,7 +5,8 @@ ghost use Rattle.redo_core.specs.Data.{RecordData};
 ghost use Rattle.redo_core.specs.Order.{IsRising};
 ghost use Rattle.hot_log.specs.Paged.{PlaceBefore, records_in};
 
-use redo_core::{Key, Record};
+use crate::packed::PackedKey;
+use redo_core::Record;
 use sorted_runs::Entries;
 use std::marker::Model;
 
@@ -13,7 +14,7 @@ use std::marker::Model;
 #[derive(Drop)]
 pub struct Ahead<'a> {
     next: Option<&'a Record>,
-    rest: Entries<'a, (u16, Key), Record>,
+    rest: Entries<'a, (u16, PackedKey), Record>,
 }
 
 impl<'a> Model for Ahead<'a> {
@@ -32,7 +33,7 @@ impl<'a> Model for Ahead<'a> {
 
 impl<'a> Ahead<'a> {
     /// An iterator before its first record.
-    pub fn new(mut rest: Entries<'a, (u16, Key), Record>) -> Ahead<'a>
+    pub fn new(mut rest: Entries<'a, (u16, PackedKey), Record>) -> Ahead<'a>
         requires { IsRising PlaceBefore (records_in rest) }
         ensures { result ≡ records_in rest.entry }
     {
@@ -65,7 +66,7 @@ impl<'a> Ahead<'a> {
 }
 
 /// The record of the next entry.
-fn next_of<'a>(rest: &mut Entries<'a, (u16, Key), Record>) -> Option<&'a Record>
+fn next_of<'a>(rest: &mut Entries<'a, (u16, PackedKey), Record>) -> Option<&'a Record>
     ensures { TakesFirst deref (records_in rest.old) result (records_in rest.new) }
 {
     let (_, redo) = rest.next()?;

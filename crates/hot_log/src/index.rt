@@ -1,7 +1,7 @@
 ghost use Rattle.std.specs.Prelude.{◌≡◌, ◌⊎◌, [], Some, None, IfOk, IfSome, IsNone, OnOk, OnErr};
 ghost use Rattle.hot_log.specs.Indexing.{IsNextKey, GainsKey, LosesKey};
 
-use redo_core::Key;
+use crate::packed::PackedKey;
 use sorted_runs::SortedRuns;
 use std::alloc::{AllocError, Global};
 use std::marker::Model;
@@ -9,7 +9,7 @@ use std::marker::Model;
 /// Keys of records in groups, by their segment backlink.
 #[derive(Drop)]
 pub struct KeyIndex {
-    keys: SortedRuns<(u64, Key), ()>,
+    keys: SortedRuns<(u64, PackedKey), ()>,
 }
 
 impl Model for KeyIndex {
@@ -42,7 +42,7 @@ impl KeyIndex {
     }
 
     /// Adds a key to a group. The only error is an allocation failure, which leaves the index unchanged.
-    pub fn insert(&mut self, group: u64, key: Key) -> Result<(), AllocError>
+    pub fn insert(&mut self, group: u64, key: PackedKey) -> Result<(), AllocError>
         ensures gains { OnOk result (GainsKey self.old group key self.new) }
         ensures unchanged { OnErr result (self.new ≡ self.old) }
     {
@@ -51,14 +51,14 @@ impl KeyIndex {
     }
 
     /// Removes a key from a group.
-    pub fn remove(&mut self, group: u64, key: Key)
+    pub fn remove(&mut self, group: u64, key: PackedKey)
         ensures { LosesKey self.old group key self.new }
     {
         let _ = self.keys.remove(&(group, key));
     }
 
     /// The least key of a group above the one given, and the least of it above that one.
-    pub fn next_two(&self, group: u64, after: Key) -> Option<(Key, Option<Key>)>
+    pub fn next_two(&self, group: u64, after: PackedKey) -> Option<(PackedKey, Option<PackedKey>)>
         ensures none { IsNone result → IsNextKey self.now group after None }
         ensures some { IfSome result (λ t. IsNextKey self.now group after (Some t.0) × IsNextKey self.now group t.0 t.1) }
     {
@@ -74,7 +74,7 @@ impl KeyIndex {
     }
 
     /// The least key of a group above the one given.
-    pub fn next(&self, group: u64, after: Key) -> Option<Key>
+    pub fn next(&self, group: u64, after: PackedKey) -> Option<PackedKey>
         ensures { IsNextKey self.now group after result }
     {
         let (place, _) = self.keys.above((group, after)).next()?;

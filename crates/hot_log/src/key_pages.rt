@@ -9,6 +9,7 @@ ghost use Rattle.redo_core.specs.Order.{Lists};
 ghost use Rattle.redo_core.specs.Keys.{KeyBefore};
 ghost use Rattle.std.specs.List.{Contains};
 
+use crate::packed::PackedKey;
 use crate::search::is_kept;
 use epoch_book::EpochBook;
 use redo_core::Key;
@@ -19,7 +20,7 @@ use std::marker::Model;
 /// The page of each key.
 #[derive(Drop)]
 pub struct KeyPages {
-    map: SortedRuns<Key, u16>,
+    map: SortedRuns<PackedKey, u16>,
 }
 
 impl Model for KeyPages {
@@ -56,7 +57,7 @@ impl KeyPages {
     }
 
     /// The page of a key, or None where it has none.
-    pub fn page_of(&self, key: Key) -> Option<u16>
+    pub fn page_of(&self, key: PackedKey) -> Option<u16>
         ensures { IsPageOf self.now key result }
     {
         self.map.get(&key).copied()
@@ -64,7 +65,7 @@ impl KeyPages {
 
     /// Sets the page of a key that has none, and returns the page that it had. The only error is an allocation failure, which leaves the
     /// keys unchanged, without this one.
-    pub fn add(&mut self, key: Key, page: u16) -> Result<Option<u16>, AllocError>
+    pub fn add(&mut self, key: PackedKey, page: u16) -> Result<Option<u16>, AllocError>
         ensures adds { IfOk result (AddsPage self.old key page self.new) }
         ensures absent { OnErr result (IsPageOf self.old key None) }
         ensures unchanged { OnErr result (self.new ≡ self.old) }
@@ -73,7 +74,7 @@ impl KeyPages {
     }
 
     /// Removes a key, and returns the page that it had.
-    pub fn remove(&mut self, key: Key) -> Option<u16>
+    pub fn remove(&mut self, key: PackedKey) -> Option<u16>
         ensures had { IsPageOf self.old key result }
         ensures loses { LosesPage self.old key self.new }
         ensures unchanged { IsNone result → self.new ≡ self.old }
@@ -82,7 +83,7 @@ impl KeyPages {
     }
 
     /// The least key above the one given, or the least of all for None.
-    pub fn key_after(&self, after: Option<Key>) -> Option<Key>
+    pub fn key_after(&self, after: Option<PackedKey>) -> Option<PackedKey>
         ensures { IsLeastKey self.now after result }
     {
         match after {
@@ -92,21 +93,21 @@ impl KeyPages {
     }
 
     /// The greatest key, or None where there is none.
-    pub fn greatest_key(&self) -> Option<Key>
+    pub fn greatest_key(&self) -> Option<PackedKey>
         ensures { IsGreatestOf self.now result }
     {
         let (key, _) = self.map.iter().next_back()?;
         Some(*key)
     }
 
-    fn first_key(&self) -> Option<Key>
+    fn first_key(&self) -> Option<PackedKey>
         ensures { IsLeastKey self.now None result }
     {
         let (key, _) = self.map.iter().next()?;
         Some(*key)
     }
 
-    fn key_above(&self, after: Key) -> Option<Key>
+    fn key_above(&self, after: PackedKey) -> Option<PackedKey>
         ensures { IsLeastKey self.now (Some after) result }
     {
         let (key, _) = self.map.above(after).next()?;
@@ -114,14 +115,14 @@ impl KeyPages {
     }
 
     /// The keys above the one given with their pages, rising.
-    pub fn above(&self, after: Key) -> Entries<'_, Key, u16>
+    pub fn above(&self, after: PackedKey) -> Entries<'_, PackedKey, u16>
         ensures { AreAbove self.now after result }
     {
         self.map.above(after)
     }
 
     /// The greatest key at or below the one given.
-    pub fn key_to(&self, to: Key) -> Option<Key>
+    pub fn key_to(&self, to: PackedKey) -> Option<PackedKey>
         ensures { IsGreatestKey self.now to result }
     {
         let (key, _) = self.map.up_to(to).next_back()?;
@@ -133,15 +134,16 @@ impl KeyPages {
         &self,
         alloc: Global,
         book: &EpochBook,
-        above: Key,
+        above: PackedKey,
         point: u64,
     ) -> Result<Vec<Key>, AllocError>
         ensures { IfOk result (λ v. Lists KeyBefore (IsKeyKept book.now self.now above point) v.items) }
     {
         let mut kept = Vec::new(alloc);
         for (key, _) in self.map.above(above) {
-            if is_kept(book, *key, point) {
-                kept.push(*key)?;
+            let key = key.key();
+            if is_kept(book, key, point) {
+                kept.push(key)?;
             }
         }
         Ok(kept)

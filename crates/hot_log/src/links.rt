@@ -4,12 +4,13 @@ ghost use Rattle.std.specs.Option.{option_copied};
 ghost use Rattle.redo_core.specs.Data.{RecordData};
 ghost use Rattle.redo_core.specs.Order.{Lists, RecordBefore};
 ghost use Rattle.hot_log.specs.Held.{IsHeld};
-ghost use Rattle.hot_log.specs.Ahead.{AreOnward, PassesToAlive};
+ghost use Rattle.hot_log.specs.Ahead.{AreOnward, IsNextOfBack, PassesToAlive};
 ghost use Rattle.hot_log.specs.Alive.{HasNoneEarlier, IsAliveOfBack, IsLinkedFrom, IsLinkedHeld, IsReached, IsContiguous, IsStraightEnd};
 ghost use Rattle.hot_log.specs.Found.{IsGreatestRecord, IsOnlyRecord};
 ghost use Rattle.hot_log.specs.Gaps.{IsGapAbove};
 ghost use Rattle.hot_log.specs.Seen.{seen_in};
 
+use crate::packed::PackedKey;
 use crate::search::{is_alive, start_above};
 use crate::steps::Steps;
 use crate::view::View;
@@ -135,20 +136,38 @@ impl<'a> View<'a> {
         ensures some { IfSome result (seen_in self.now IsStraightEnd from) }
         ensures none { IsNone result → (n : ℕ) → seen_in self.now IsStraightEnd from n → ⊥ }
     {
+        // The stored keys above the LSN are searched only where an alive record goes on from it.
+        match self.first_of_back(from, since) {
+            Some(first) => self.straight_walk(from, since, first),
+            None => Some(from),
+        }
+    }
+
+    /// The same, given the key of a record that goes on from the LSN, and whether another record goes on from there too.
+    fn straight_walk(&self, from: u64, since: u16, first: (Key, bool)) -> Option<u64>
+        requires later { seen_in self.now HasNoneEarlier from since }
+        requires first { IsNextOfBack self.now.book.now self.now.held.now from (Some first) }
+        ensures some { IfSome result (seen_in self.now IsStraightEnd from) }
+        ensures none { IsNone result → (n : ℕ) → seen_in self.now IsStraightEnd from n → ⊥ }
+    {
+        self.held.opens_form();
+        self.book.opens_form();
         let mut top = from;
         let mut left = self.keys_on(from, since);
-        while let Some((key, is_fork)) = self.first_of_back(top, since) {
+        let mut next = Some(first);
+        while let Some((key, is_fork)) = next {
             if is_fork || !is_at(next_alive(self.book, &mut left), key) {
                 return None;
             }
             top = key.number;
+            next = self.first_of_back(top, since);
         }
         Some(top)
     }
 
     /// The stored keys from the alive ones above an LSN on, with the pages of their records, rising, where no alive one is of an epoch
     /// before the one given.
-    fn keys_on(&self, number: u64, since: u16) -> Entries<'a, Key, u16>
+    fn keys_on(&self, number: u64, since: u16) -> Entries<'a, PackedKey, u16>
         requires { seen_in self.now HasNoneEarlier number since }
         ensures { seen_in self.now AreOnward number result }
     {
@@ -183,12 +202,13 @@ impl<'a> View<'a> {
 }
 
 /// The next of some keys that is alive; the walk skips those before it, and it.
-fn next_alive(book: &EpochBook, left: &mut Entries<'_, Key, u16>) -> Option<Key>
+fn next_alive(book: &EpochBook, left: &mut Entries<'_, PackedKey, u16>) -> Option<Key>
     ensures { PassesToAlive book.now left.old result left.new }
 {
     while let Some((key, _)) = left.next() {
+        let key = key.key();
         if is_alive(book, key.epoch, key.number) {
-            return Some(*key);
+            return Some(key);
         }
     }
     None

@@ -16,6 +16,7 @@ ghost use Rattle.std.specs.List.{Contains};
 
 use crate::index::KeyIndex;
 use crate::key_pages::KeyPages;
+use crate::packed::{PackedKey, unpacked};
 use crate::records::PagedRecords;
 use crate::removal;
 use epoch_book::EpochBook;
@@ -113,15 +114,21 @@ impl HotLog {
     pub fn get(&self, key: Key) -> Option<&Record>
         ensures { IsRecordAt self.now key (option_copied result) }
     {
-        let page = self.by_key.page_of(key)?;
-        self.records.get(page, key)
+        self.opens_form();
+        let packed = PackedKey::exact(key)?;
+        let page = self.by_key.page_of(packed)?;
+        self.records.get(page, packed)
     }
 
     /// Whether a record of a key is stored.
     pub fn holds_key(&self, key: Key) -> bool
         ensures { IsTrue result ↔ HoldsKey self.now key }
     {
-        match self.by_key.page_of(key) {
+        self.opens_form();
+        let Some(packed) = PackedKey::exact(key) else {
+            return false;
+        };
+        match self.by_key.page_of(packed) {
             Some(_) => true,
             None => false,
         }
@@ -131,7 +138,10 @@ impl HotLog {
     pub fn key_after(&self, after: Option<Key>) -> Option<Key>
         ensures { IsKeyAfter self.now after result }
     {
-        self.by_key.key_after(after)
+        match after {
+            Some(key) => self.next_key(key),
+            None => unpacked(self.by_key.key_after(None)),
+        }
     }
 
     /// Stores one more record. Each error returns the record and leaves the log unchanged.
@@ -142,7 +152,7 @@ impl HotLog {
         ensures form { IsHeld self.new }
     {
         self.opens_form();
-        let key = redo.key();
+        let key = PackedKey::of(&redo);
         let Ok(page) = self.by_key.add(key, redo.page()) else {
             return Err(Refused {
                 value: redo,
@@ -172,13 +182,17 @@ impl HotLog {
         ensures removes { Removes (HasKey key) self.old self.new }
         ensures form { IsHeld self.new }
     {
-        let Some(page) = self.by_key.remove(key) else {
+        self.opens_form();
+        let Some(packed) = PackedKey::exact(key) else {
             return;
         };
-        let Some(redo) = self.records.remove(page, key) else {
+        let Some(page) = self.by_key.remove(packed) else {
             return;
         };
-        self.by_back.remove(redo.back(), key);
+        let Some(redo) = self.records.remove(page, packed) else {
+            return;
+        };
+        self.by_back.remove(redo.back(), packed);
     }
 
     // Removes the first run of alive records of a page between two keys, and returns its last key.
@@ -192,11 +206,12 @@ impl HotLog {
         ensures { RemovesRow book.now page above to self.old self.new result }
     {
         let (by_key, by_back) = (&mut self.by_key, &mut self.by_back);
+        let (above, to) = (PackedKey::capped(above), PackedKey::capped(to));
         let row = self
             .records
             .unlist_row(by_key, by_back, book, page, above, to)?;
         self.records.remove_between(page, row.0, row.1);
-        Some(row.1)
+        Some(row.1.key())
     }
 
     // The record of a page with the least key above the one given.
@@ -204,7 +219,7 @@ impl HotLog {
         ensures next { IsNextRecord self.now page after (option_copied result) }
         ensures form { IsHeld self.now }
     {
-        self.records.next(page, after)
+        self.records.next(page, PackedKey::capped(after))
     }
 
     // The record of a page with the greatest key at or below the one given.
@@ -212,7 +227,7 @@ impl HotLog {
         ensures last { IsLastRecord self.now page to (option_copied result) }
         ensures form { IsHeld self.now }
     {
-        self.records.last(page, to)
+        self.records.last(page, PackedKey::capped(to))
     }
 
     // The least key above the one given.
@@ -220,22 +235,24 @@ impl HotLog {
         ensures next { IsKeyAfter self.now (Some after) result }
         ensures form { IsHeld self.now }
     {
-        self.by_key.key_after(Some(after))
+        unpacked(self.by_key.key_after(Some(PackedKey::capped(after))))
     }
 
     // The keys above the one given with the pages of their records, rising.
-    pub(crate) fn keys_above(&self, after: Key) -> Entries<'_, Key, u16>
+    pub(crate) fn keys_above(&self, after: Key) -> Entries<'_, PackedKey, u16>
         ensures above { AreHeldAbove self.now after result }
         ensures form { IsHeld self.now }
     {
-        self.by_key.above(after)
+        self.by_key.above(PackedKey::capped(after))
     }
 
     // The record of a page and a key, or None where there is none.
     pub(crate) fn record_of(&self, page: u16, key: Key) -> Option<&Record>
         ensures { IsRecordOf self.now page key (option_copied result) }
     {
-        self.records.get(page, key)
+        self.opens_form();
+        let packed = PackedKey::exact(key)?;
+        self.records.get(page, packed)
     }
 
     // The least key above the one given of the records with a segment backlink.
@@ -243,7 +260,7 @@ impl HotLog {
         ensures next { IsNextHeld (λ r. r.back) self.now back after result }
         ensures form { IsHeld self.now }
     {
-        self.by_back.next(back, after)
+        unpacked(self.by_back.next(back, PackedKey::capped(after)))
     }
 
     // The same, and the least key above that one.
@@ -252,7 +269,8 @@ impl HotLog {
         ensures some { IfSome result (λ t. IsNextHeld (λ r. r.back) self.now back after (Some t.0) × IsNextHeld (λ r. r.back) self.now back t.0 t.1) }
         ensures form { IsHeld self.now }
     {
-        self.by_back.next_two(back, after)
+        let (first, second) = self.by_back.next_two(back, PackedKey::capped(after))?;
+        Some((first.key(), unpacked(second)))
     }
 
     /// The least page above the one given that a stored record writes, whatever its standing; the least of all for None.
@@ -295,7 +313,7 @@ impl HotLog {
         ensures greatest { IsGreatestHeld self.now result }
         ensures form { IsHeld self.now }
     {
-        self.by_key.greatest_key()
+        unpacked(self.by_key.greatest_key())
     }
 
     // The greatest key at or below the one given.
@@ -303,7 +321,7 @@ impl HotLog {
         ensures last { IsKeyTo self.now to result }
         ensures form { IsHeld self.now }
     {
-        self.by_key.key_to(to)
+        unpacked(self.by_key.key_to(PackedKey::capped(to)))
     }
 }
 
@@ -331,7 +349,7 @@ fn hold(
     ensures form { IsHeld records.new }
 {
     records.opens_form();
-    let key = redo.key();
+    let key = PackedKey::of(&redo);
     let back = redo.back();
     if by_back.insert(back, key).is_err() {
         return Err(Refused {

@@ -16,9 +16,10 @@ ghost use Rattle.hot_log.specs.Removing.{IsBetween, Removes, UnlistsRow};
 use crate::ahead::Ahead;
 use crate::index::KeyIndex;
 use crate::key_pages::KeyPages;
+use crate::packed::PackedKey;
 use crate::search::is_alive;
 use epoch_book::EpochBook;
-use redo_core::{Key, Record, Refused};
+use redo_core::{Record, Refused};
 use sorted_runs::SortedRuns;
 use std::alloc::{AllocError, Global};
 use std::marker::Model;
@@ -27,7 +28,7 @@ use std::ops::Bound;
 /// Records by page and, within a page, by key: epoch, then LSN. No two have one key.
 #[derive(Drop)]
 pub struct PagedRecords {
-    map: SortedRuns<(u16, Key), Record>,
+    map: SortedRuns<(u16, PackedKey), Record>,
 }
 
 impl Model for PagedRecords {
@@ -77,7 +78,7 @@ impl PagedRecords {
     }
 
     /// The record of a page and a key, or None where there is none.
-    pub fn get(&self, page: u16, key: Key) -> Option<&Record>
+    pub fn get(&self, page: u16, key: PackedKey) -> Option<&Record>
         ensures { IsRecordOf self.now page key (option_copied result) }
     {
         self.map.get(&(page, key))
@@ -88,7 +89,7 @@ impl PagedRecords {
         ensures { IsTrue result ↔ Contains self.now redo.now }
     {
         self.opens_form();
-        match self.get(redo.page(), redo.key()) {
+        match self.get(redo.page(), PackedKey::of(redo)) {
             Some(held) => held.is_same(redo),
             None => false,
         }
@@ -102,7 +103,7 @@ impl PagedRecords {
         ensures unchanged { OnErr result (self.new ≡ self.old) }
         ensures form { IsHeld self.new }
     {
-        let place = (redo.page(), redo.key());
+        let place = (redo.page(), PackedKey::of(&redo));
         match self.map.insert(place, redo) {
             Ok(_) => Ok(()),
             Err(failed) => Err(Refused {
@@ -113,7 +114,7 @@ impl PagedRecords {
     }
 
     /// Removes the record of a page and a key, if there is one.
-    pub fn remove(&mut self, page: u16, key: Key) -> Option<Record>
+    pub fn remove(&mut self, page: u16, key: PackedKey) -> Option<Record>
         ensures value { IsRecordOf self.old page key result }
         ensures removes { Removes (λ r. (r.page ≡ page) × HasKey key r) self.old self.new }
         ensures form { IsHeld self.new }
@@ -122,7 +123,7 @@ impl PagedRecords {
     }
 
     /// Removes the records of a page with keys above one and up to another.
-    pub fn remove_between(&mut self, page: u16, above: Key, to: Key)
+    pub fn remove_between(&mut self, page: u16, above: PackedKey, to: PackedKey)
         ensures removes { Removes (IsBetween page above to) self.old self.new }
         ensures form { IsHeld self.new }
     {
@@ -131,7 +132,7 @@ impl PagedRecords {
     }
 
     /// The record of a page with the least key above the one given.
-    pub fn next(&self, page: u16, after: Key) -> Option<&Record>
+    pub fn next(&self, page: u16, after: PackedKey) -> Option<&Record>
         ensures next { IsNextRecord self.now page after (option_copied result) }
         ensures form { IsHeld self.now }
     {
@@ -140,7 +141,7 @@ impl PagedRecords {
     }
 
     /// The record of a page with the greatest key at or below the one given.
-    pub fn last(&self, page: u16, to: Key) -> Option<&Record>
+    pub fn last(&self, page: u16, to: PackedKey) -> Option<&Record>
         ensures last { IsLastRecord self.now page to (option_copied result) }
         ensures form { IsHeld self.now }
     {
@@ -157,13 +158,7 @@ impl PagedRecords {
             Some(page) => page.checked_add(1)?,
             None => 0,
         };
-        let start = Bound::Included((
-            from,
-            Key {
-                epoch: 0,
-                number: 0,
-            },
-        ));
+        let start = Bound::Included((from, PackedKey::least()));
         let (place, _) = map.range(start, Bound::Unbounded).next()?;
         Some(place.0)
     }
@@ -174,10 +169,9 @@ impl PagedRecords {
         alloc: Global,
         book: &EpochBook,
         page: u16,
-        above: Key,
-        to: Key,
+        above: PackedKey,
+        to: PackedKey,
     ) -> Result<Vec<&Record>, AllocError>
-        requires { KeyBefore above to }
         ensures { IfOk result (λ v. Lists BeforeByNumber (IsAliveBetween book.now self.now page above to) (map (λ x. x.now) v.items)) }
     {
         let mut found = Vec::new(alloc);
@@ -196,10 +190,9 @@ impl PagedRecords {
         alloc: Global,
         book: &EpochBook,
         page: u16,
-        above: Key,
-        to: Key,
+        above: PackedKey,
+        to: PackedKey,
     ) -> Result<Vec<&Record>, AllocError>
-        requires { KeyBefore above to }
         ensures { IfOk result (λ v. ListsAnew (IsAliveBetween book.now self.now page above to) (map (λ x. x.now) v.items)) }
     {
         let mut found = Vec::new(alloc);
@@ -248,9 +241,9 @@ impl PagedRecords {
         by_back: &mut KeyIndex,
         book: &EpochBook,
         page: u16,
-        above: Key,
-        to: Key,
-    ) -> Option<(Key, Key)>
+        above: PackedKey,
+        to: PackedKey,
+    ) -> Option<(PackedKey, PackedKey)>
         requires { IsIndexed self.now by_key.old by_back.old }
         ensures { UnlistsRow book.now self.now page above to by_key.new by_back.new result }
     {
@@ -258,15 +251,16 @@ impl PagedRecords {
         let mut start = above;
         let mut last = None;
         for (_, redo) in self.map.range(from, end) {
+            let packed = PackedKey::of(redo);
             let key = redo.key();
             if is_alive(book, key.epoch, key.number) {
-                let _ = by_key.remove(key);
-                by_back.remove(redo.back(), key);
-                last = Some(key);
+                let _ = by_key.remove(packed);
+                by_back.remove(redo.back(), packed);
+                last = Some(packed);
             } else if let Some(last) = last {
                 return Some((start, last));
             } else {
-                start = key;
+                start = packed;
             }
         }
         Some((start, last?))

@@ -315,10 +315,11 @@ impl<'a> View<'a> {
             number: u64::MAX,
         });
         while let Some((key, page)) = left.next() {
+            let key = key.key();
             if key.epoch > complete {
                 return false;
             }
-            if self.is_below(*page, *key, number) {
+            if self.is_below(*page, key, number) {
                 return true;
             }
         }

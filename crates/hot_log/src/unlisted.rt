@@ -34,8 +34,9 @@ impl<'a> View<'a> {
             number: point,
         });
         while let Some((key, page)) = left.next() {
-            place = reach(keys, place, *key);
-            if let Some(redo) = self.unlisted_at(point, keys, place, *page, *key) {
+            let key = key.key();
+            place = reach(keys, place, key);
+            if let Some(redo) = self.unlisted_at(point, keys, place, *page, key) {
                 found.push(redo)?;
             }
         }

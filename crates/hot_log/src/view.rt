@@ -10,6 +10,7 @@ ghost use Rattle.hot_log.specs.Kept.{IsKeptAbove, ListsKeysOf};
 ghost use Rattle.hot_log.specs.Seen.{seen_in};
 
 use crate::log::HotLog;
+use crate::packed::PackedKey;
 use crate::search::{epoch_above, last_key_to};
 use epoch_book::EpochBook;
 use redo_core::{Key, Record};
@@ -68,6 +69,7 @@ impl<'a> View<'a> {
         if above.epoch > to.epoch || from >= to.number {
             return Ok(Vec::new(alloc));
         }
+        let (above, to) = (PackedKey::capped(above), PackedKey::capped(to));
         held.records.alive_between(alloc, book, page, above, to)
     }
 
@@ -91,6 +93,7 @@ impl<'a> View<'a> {
         if above.epoch > to.epoch || from >= to.number {
             return Ok(Vec::new(alloc));
         }
+        let (above, to) = (PackedKey::capped(above), PackedKey::capped(to));
         held.records.alive_since_init(alloc, book, page, above, to)
     }
 
@@ -100,10 +103,10 @@ impl<'a> View<'a> {
     {
         let (book, held) = (self.book, self.held);
         // A record that waits, or is alive above the LSN, has a key above this one.
-        let above = Key {
+        let above = PackedKey::capped(Key {
             epoch: epoch_above(book, point),
             number: point,
-        };
+        });
         held.by_key.kept_keys(alloc, book, above, point)
     }
 

@@ -14,19 +14,19 @@ returns-then-is_err-clause-still_listed c =
 
 pub returns-in-Ok-clause-still_listed : goal.returns-in-Ok-clause-still_listed
 returns-in-Ok-clause-still_listed c =
-    let keys = c.args.by_back.now in let back = c.back-back.result in let e = c.key-key.result.epoch in let n = c.key-key.result.number in
+    let keys = c.args.by_back.now in let back = c.back-back.result in let e = c.of-key.result.epoch in let n = c.of-key.result.number in
     let gains = on_ok c.insert.result c.is_err.result (GainsKey keys back (key_in e n) c.insert.new.self) c.is_err.ensures.value c.if-is_err.false c.insert.ensures.gains in
     index_grows (λ r. r.back) c.args.records.now c.insert-2.new.self keys c.insert.new.self c.args.redo back e n c.requires.listed c.in-Ok.ensures.gains c.back-back.ensures.value
-    (same_epoch c.key-key.ensures.value) (same_number c.key-key.ensures.value) gains
+    (same_epoch c.of-key.ensures.value) (same_number c.of-key.ensures.value) gains
 
 pub returns-in-Err-clause-still_listed : goal.returns-in-Err-clause-still_listed
 returns-in-Err-clause-still_listed c =
-    let keys = c.args.by_back.now in let back = c.back-back.result in let e = c.key-key.result.epoch in let n = c.key-key.result.number in
+    let keys = c.args.by_back.now in let back = c.back-back.result in let e = c.of-key.result.epoch in let n = c.of-key.result.number in
     let gains = on_ok c.insert.result c.is_err.result (GainsKey keys back (key_in e n) c.insert.new.self) c.is_err.ensures.value c.if-is_err.false c.insert.ensures.gains in
     let same : c.insert-2.new.self ≡ c.args.records.now = c.in-Err.ensures.unchanged in
     subst (λ (l : List RecordData). IsIndexBy (λ r. r.back) l c.remove.new.self) (sym same)
-    (index_undone (λ r. r.back) c.args.records.now keys c.insert.new.self c.remove.new.self c.args.redo back e n c.requires.listed c.requires.free (same_epoch c.key-key.ensures.value)
-    (same_number c.key-key.ensures.value) gains c.remove.ensures)
+    (index_undone (λ r. r.back) c.args.records.now keys c.insert.new.self c.remove.new.self c.args.redo back e n c.requires.listed c.requires.free (same_epoch c.of-key.ensures.value)
+    (same_number c.of-key.ensures.value) gains c.remove.ensures)
 
 pub insert-requires-2 : goal.insert-requires-2
 insert-requires-2 c = c.requires.free

@@ -20,10 +20,11 @@ loop-key-preserved-in-Continue-1 c =
     let start : c.into_iter-key-iterator.result ≡ es = c.into_iter-key-iterator.ensures.into_iter_gives in
     let split : es ≡ xs ++ x ∷ c.next.new.self =
     sym start ∙ rest_so_far deref_pair c.loop-key.yielded c.into_iter-key-iterator.result c.loop-key.key-iterator c.loop-key.yielded_by ∙ ap (λ (l : List Entry). xs ++ l) c.in-Some.ensures.steps in
-    let more = kept_more b c.args.point m c.args.above es xs c.next.new.self x c.loop-key.kept.items c.self.invariant (sym c.above-key-items.ensures.above) split c.loop-key.invariant (c.is_kept.ensures.0 c.if-is_kept.true) in
+    let more = kept_more b c.args.point m c.args.above es xs c.next.new.self x c.loop-key.kept.items c.self.invariant (sym c.above-key-items.ensures.above) split c.loop-key.invariant (subst (KeepsKey b c.args.point) c.key-key.ensures (c.is_kept.ensures.0 c.if-is_kept.true)) in
     let joined : map deref_pair (c.loop-key.yielded ++ (c.in-Some.key, c.in-Some.field-0-1) ∷ []) ≡ xs ++ x ∷ [] = rw map-append in
     subst (λ (l : List Entry). ListsKept b c.args.point l c.push.new.self.items) (sym joined)
-    (subst (ListsKept b c.args.point (xs ++ x ∷ [])) (sym c.in_ok-push.ensures.items) more)
+    (subst (ListsKept b c.args.point (xs ++ x ∷ [])) (sym c.in_ok-push.ensures.items)
+    (subst (λ (k : Key). ListsKept b c.args.point (xs ++ x ∷ []) (c.loop-key.kept.items ++ k ∷ [])) (sym c.key-key.ensures) more))
 
 pub loop-key-preserved : goal.loop-key-preserved
 loop-key-preserved c =
@@ -32,7 +33,7 @@ loop-key-preserved c =
     let x : Entry = (c.in-Some.key.now, c.in-Some.field-0-1.now) in
     let joined : map deref_pair (c.loop-key.yielded ++ (c.in-Some.key, c.in-Some.field-0-1) ∷ []) ≡ xs ++ x ∷ [] = rw map-append in
     subst (λ (l : List Entry). ListsKept b c.args.point l c.loop-key.kept.items) (sym joined)
-    (kept_left b c.args.point xs x c.loop-key.kept.items c.loop-key.invariant (λ (keeps : KeepsKey b c.args.point x.0). let yes = c.is_kept.ensures.1 keeps in absurd (false≢true (sym c.if-is_kept.false ∙ yes))))
+    (kept_left b c.args.point xs x c.loop-key.kept.items c.loop-key.invariant (λ (keeps : KeepsKey b c.args.point x.0). let yes = c.is_kept.ensures.1 (subst (KeepsKey b c.args.point) (sym c.key-key.ensures) keeps) in absurd (false≢true (sym c.if-is_kept.false ∙ yes))))
 
 pub returns : goal.returns
 returns c =

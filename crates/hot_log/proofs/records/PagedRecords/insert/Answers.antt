@@ -12,14 +12,14 @@ use Rattle.hot_log.proofs.records.PagedRecords.insert.Goals as goal
 
 grows : (c : goal.Joined-insert-2) → Grows c.self.inside.map c.insert.new.self c.args.redo
 grows c =
-    let key : (c.page.result, c.key.result) ≡ place_of c.args.redo =
-    place_as c.page.result c.key.result.epoch c.key.result.number c.args.redo.page c.args.redo.epoch c.args.redo.number c.page.ensures (same_epoch c.key.ensures.value) (same_number c.key.ensures.value) in
+    let key : (c.page.result, c.of.result) ≡ place_of c.args.redo =
+    place_as c.page.result c.of.result.epoch c.of.result.number c.args.redo.page c.args.redo.epoch c.args.redo.number c.page.ensures (same_epoch c.of.ensures.value) (same_number c.of.ensures.value) in
     let P : Place → Type 0 = λ k. c.insert.new.self ≡ insert_entry place_cmp c.self.inside.map k c.args.redo in
     record {
       was = c.self.invariant;
       ordered = c.in-Ok.ensures.ordered;
       free = subst (λ (l : List RecordData). IsRecordAt l (key_of c.args.redo) None) (sym c.self.view_is) c.requires;
-      shaped = c.key.ensures.shape;
+      shaped = c.of.ensures.shape;
       fits = omega (arith, c.page.type_inv, c.page.ensures);
       at = subst P key c.in-Ok.ensures.gains;
     }

@@ -1,6 +1,11 @@
 use Rattle.std.proofs.Common.{◌≡◌, ℕ, ◌+◌, ◌<◌, ◌≤◌, sym, ◌∙◌, subst, arith, List, Option, Some, None}
 use Rattle.redo_core.specs.Data.{RecordData}
+use Rattle.std.specs.List.{filter}
+use Rattle.std.specs.BTreeMap.Range.{range_contains}
+use Rattle.std.specs.declared.ops.Bound.TheVariants.{Included, Unbounded}
+use Rattle.redo_core.specs.declared.keys.Key.{Key}
 use Rattle.hot_log.specs.Found.{IsPageAfter}
+use Rattle.hot_log.specs.Paged.{place_cmp}
 use Rattle.hot_log.proofs.Paged.{Entry}
 use Rattle.hot_log.proofs.Ranges.{Above_from, no_page, page_is, past_pages}
 use Rattle.hot_log.proofs.records.PagedRecords.page_after.Goals as goal
@@ -25,9 +30,10 @@ returns-in_err-place c =
       | in-Some+in_ok-from-in-Some w ↦ subst (λ (o : Option ℕ). Above_from o c.match-after.from) (sym w.in-Some.is) (some_from w.in-Some.page c.match-after.from (w.from-is ∙ w.in_ok-from-in-Some.ensures.1))
       | in-None w ↦ subst (λ (o : Option ℕ). Above_from o c.match-after.from) (sym w.in-None.is) (none_from c.match-after.from w.from-is)
     ] in
+    let between = subst (λ (k : Key). filter (λ (e : Entry). range_contains place_cmp (Included (c.match-after.from, k)) Unbounded e.0) c.self.inside.map ≡ c.range.result) c.least.ensures c.range.ensures.between in
     let P : List RecordData → Type 0 = λ l. IsPageAfter l c.args.after None in
     subst (λ o. IsPageAfter c.args.self.now c.args.after o) (sym c.from_residual-in_err-place.ensures)
-    (subst P c.self.view_is (no_page c.self.inside.map c.args.after c.match-after.from c.self.invariant from (c.range.ensures.between ∙ c.in_err-place.ensures.steps.0)))
+    (subst P c.self.view_is (no_page c.self.inside.map c.args.after c.match-after.from c.self.invariant from (between ∙ c.in_err-place.ensures.steps.0)))
 
 pub returns : goal.returns
 returns c =
@@ -35,6 +41,7 @@ returns c =
       | in-Some+in_ok-from-in-Some w ↦ subst (λ (o : Option ℕ). Above_from o c.match-after.from) (sym w.in-Some.is) (some_from w.in-Some.page c.match-after.from (w.from-is ∙ w.in_ok-from-in-Some.ensures.1))
       | in-None w ↦ subst (λ (o : Option ℕ). Above_from o c.match-after.from) (sym w.in-None.is) (none_from c.match-after.from w.from-is)
     ] in
+    let between = subst (λ (k : Key). filter (λ (e : Entry). range_contains place_cmp (Included (c.match-after.from, k)) Unbounded e.0) c.self.inside.map ≡ c.range.result) c.least.ensures c.range.ensures.between in
     let x : Entry = (c.in_ok-place.place.now, c.in_ok-place.field-0-1.now) in
     let P : List RecordData → Type 0 = λ l. IsPageAfter l c.args.after (Some x.0.0) in
-    subst P c.self.view_is (page_is c.self.inside.map c.args.after c.match-after.from x c.next.new.self c.self.invariant from (c.range.ensures.between ∙ c.in_ok-place.ensures.steps))
+    subst P c.self.view_is (page_is c.self.inside.map c.args.after c.match-after.from x c.next.new.self c.self.invariant from (between ∙ c.in_ok-place.ensures.steps))

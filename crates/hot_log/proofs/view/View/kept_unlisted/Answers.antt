@@ -1,9 +1,11 @@
-use Rattle.std.proofs.Common.{◌≡◌, [], ◌∷◌, ◌++◌, length, map, ap, sym, subst, arith}
+use Rattle.std.proofs.Common.{◌≡◌, [], ◌∷◌, ◌++◌, Some, None, length, map, ap, sym, subst, arith}
 use Rattle.std.proofs.lemmas.List.{map-append}
 use Rattle.redo_core.specs.Data.{RecordData}
 use Rattle.redo_core.specs.Keys.{key_in, key_of}
 use Rattle.redo_core.specs.declared.keys.Key.{Key}
 use Rattle.redo_core.specs.Order.{Lists, RecordBefore}
+use Rattle.hot_log.specs.Found.{IsOnlyRecord}
+use Rattle.hot_log.specs.Held.{HasKey}
 use Rattle.hot_log.specs.Kept.{IsKeptUnlisted}
 use Rattle.hot_log.proofs.Keyed.{Entry}
 use Rattle.hot_log.proofs.Kept.{past_parts}
@@ -30,7 +32,8 @@ loop-key-preserved c =
     let x : Entry = (c.in-Some.key.now, c.in-Some.page.now) in (
       c.in-Some.key.now,
       on_from held w.0 x c.loop-key.left c.next.new.self c.in-Some.ensures.steps w.1,
-      none_more held w.0 x c.loop-key.left c.next.new.self c.in-Some.ensures.steps w.1 (IsKeptUnlisted c.args.self.now.book.now held c.args.point c.args.keys.now) _ c.keys_above-left.ensures.form (λ r h. h.0.0) w.2 c.in_default-unlisted_at.ensures,
+      none_more held w.0 x c.loop-key.left c.next.new.self c.in-Some.ensures.steps w.1 (IsKeptUnlisted c.args.self.now.book.now held c.args.point c.args.keys.now) _ c.keys_above-left.ensures.form (λ r h. h.0.0) w.2
+          (subst (λ (k : Key). IsOnlyRecord (λ r. IsKeptUnlisted c.args.self.now.book.now held c.args.point c.args.keys.now r × (r.page ≡ c.in-Some.page.now) × HasKey k r) None) c.key-key.ensures c.in_default-unlisted_at.ensures),
     )
 
 pub returns : goal.returns
@@ -49,7 +52,8 @@ loop-key-preserved-in-Continue-1 c =
       c.in-Some.key.now,
       on_from held w.0 x c.loop-key.left c.next.new.self c.in-Some.ensures.steps w.1,
       subst (Lists RecordBefore (IsPassedBy P x.0)) (sym items)
-          (one_more held w.0 x c.loop-key.left c.next.new.self c.in-Some.ensures.steps w.1 P _ c.keys_above-left.ensures.form (λ r h. h.0.0) w.2 c.in-Some-unlisted_at.redo.now c.in-Some-unlisted_at.ensures),
+          (one_more held w.0 x c.loop-key.left c.next.new.self c.in-Some.ensures.steps w.1 P _ c.keys_above-left.ensures.form (λ r h. h.0.0) w.2 c.in-Some-unlisted_at.redo.now
+          (subst (λ (k : Key). IsOnlyRecord (λ r. P r × (r.page ≡ c.in-Some.page.now) × HasKey k r) (Some c.in-Some-unlisted_at.redo.now)) c.key-key.ensures c.in-Some-unlisted_at.ensures)),
     )
 
 pub loop-key-smaller-in-Continue-1 : goal.loop-key-smaller-in-Continue-1
