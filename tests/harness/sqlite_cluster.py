@@ -57,12 +57,15 @@ class Cluster:
         return ()
 
     def start(self, *numbers, delay=0):
-        """Starts those of the servers that do not run; each flush takes so many microseconds."""
-        for store in (self.stores[number] for number in numbers or range(NODES)):
-            if not store.process or store.process.poll() is not None:
-                store.settings["DISK_DELAY"] = delay
-                store.full.unlink(missing_ok=True)
-                store.start()
+        """Starts those of the servers that do not run, at once; each flush takes so many microseconds."""
+        stores = [self.stores[number] for number in numbers or range(NODES)]
+        started = [store for store in stores if not store.process or store.process.poll() is not None]
+        for store in started:
+            store.settings["DISK_DELAY"] = delay
+            store.full.unlink(missing_ok=True)
+            store.run()
+        for store in started:
+            store.wait()
 
     def kill(self, *numbers):
         for number in numbers:

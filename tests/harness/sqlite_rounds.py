@@ -1,7 +1,7 @@
 """What is left of a database over six servers whose engine was killed, while servers are killed, stopped, wiped, slow or full.
 
-By hand, for many rounds: python3 -m harness.sqlite_rounds EXTENSION STORE DISK FOLDER SEED SECONDS [FLEET]. With the program `fleet` the
-servers make no snapshots, and in the end the facts that engines have sent must be a sound log.
+By hand: python3 -m harness.sqlite_rounds EXTENSION STORE DISK FOLDER SEED SECONDS [FLEET]. With the program `fleet` the servers make no
+snapshots, and in the end the facts that engines have sent must be a sound log. `harness.many_rounds` plays many rounds in several processes.
 """
 
 import ctypes
@@ -11,6 +11,7 @@ import sqlite3
 import sys
 import time
 from pathlib import Path
+from typing import NamedTuple
 
 if __name__ == "__main__":
     sys.path.insert(0, str(Path(__file__).resolve().parents[1]))
@@ -226,25 +227,45 @@ class Rounds:
         self.cluster.close()
 
 
+class Parts(NamedTuple):
+    """What rounds are played with. With the program `fleet` the servers make no snapshots, and their log is checked in the end."""
+
+    extension: Path
+    store: Path
+    disk: Path
+    fleet: Path | None = None
+
+
+def play_cluster(kind, parts, folder, seed, first, goes_on):
+    """Rounds from one on over a new cluster, as long as `goes_on` says of their counts, and one at least. Returns the counts, the next round and
+    what is wrong. The files stay where something is."""
+    here = kind(Path(parts.store), Path(folder) / f"c{first}", parts.disk, f"{seed} {first}", NEVER if parts.fleet else OFTEN)
+    place, wrong = first, ""
+    try:
+        while not wrong and (place == first or (place < first + ROUNDS and goes_on(here.counts))):
+            wrong = here.play(place)
+            place += 1
+    finally:
+        here.close()
+    wrong = wrong or (here.cluster.unsound(parts.fleet) if parts.fleet else "")
+    if not wrong:
+        shutil.rmtree(here.folder)
+    return here.counts, place, wrong
+
+
+def add(one, other):
+    """The sums of counts by their names."""
+    return {name: one.get(name, 0) + other.get(name, 0) for name in {**one, **other}}
+
+
 def run(extension, store, disk, folder, seed, seconds, fleet=None, kind=Rounds):
     """Rounds until the time is up, over a new cluster now and then. Returns the counts, and what is wrong."""
     load(extension)
-    end, place, total = time.monotonic() + seconds, 0, {}
-    while place == 0 or time.monotonic() < end:
-        here, wrong = kind(Path(store), Path(folder) / f"c{place}", disk, f"{seed} {place}", NEVER if fleet else OFTEN), ""
-        try:
-            first = place
-            while not wrong and (place == first or (time.monotonic() < end and place < first + ROUNDS)):
-                wrong = here.play(place)
-                place += 1
-        finally:
-            here.close()
-            total = {name: total.get(name, 0) + count for name, count in here.counts.items()}
-        wrong = wrong or (here.cluster.unsound(fleet) if fleet else "")
-        if wrong:
-            return total, wrong
-        shutil.rmtree(here.folder)
-    return total, ""
+    end, place, total, wrong = time.monotonic() + seconds, 0, {}, ""
+    while not wrong and (place == 0 or time.monotonic() < end):
+        counts, place, wrong = play_cluster(kind, Parts(extension, store, disk, fleet), folder, seed, place, lambda _: time.monotonic() < end)
+        total = add(total, counts)
+    return total, wrong
 
 
 if __name__ == "__main__":

@@ -83,7 +83,7 @@ class Store:
         self.flushed, self.full = self.folder / "flushed", self.folder / "full"
         if shim:
             self.settings |= {"LD_PRELOAD": shim, "DISK_FLUSHED": self.flushed, "DISK_FULL": self.full}
-        self.process = None
+        self.process, self.starts = None, 0  # how often it had taken connections before the last start
 
     @property
     def address(self):
@@ -92,16 +92,19 @@ class Store:
     def run(self):
         """Starts the process, and waits for nothing."""
         command = [self.program, "--data", self.data, "--listen", self.address, *map(str, self.words)]
+        self.starts = self.log().count("ready\n")
         with open(self.said, "ab") as said:
             self.process = subprocess.Popen(command, stderr=said, env=environment(**self.settings))
         return self
 
     def start(self):
         """Starts it, and waits until it takes connections."""
-        before = self.log().count("ready\n")
-        self.run()
+        return self.run().wait()
+
+    def wait(self):
+        """Waits until it takes connections."""
         end = time.monotonic() + SECONDS
-        while self.log().count("ready\n") == before:
+        while self.log().count("ready\n") == self.starts:
             assert self.process.poll() is None, self.log()
             assert time.monotonic() < end, self.log()
             time.sleep(0.005)
@@ -131,9 +134,8 @@ class Store:
 
     def refused(self):
         """The status of a start that is to fail, and the last line of its log."""
-        before = self.log().count("ready\n")
         self.run()
-        assert until(lambda: self.process.poll() is not None or self.log().count("ready\n") > before)
+        assert until(lambda: self.process.poll() is not None or self.log().count("ready\n") > self.starts)
         assert self.process.poll() is not None, "it serves"
         assert "panicked" not in self.log()
         return self.process.returncode, self.log().splitlines()[-1]
