@@ -5,7 +5,7 @@ use crate::calls::Calls;
 use crate::errors::Error;
 use crate::frames::{self, Next};
 use crate::stream::Stream;
-use std::io::{self, BufReader, ErrorKind, Write};
+use std::io::{self, BufReader, ErrorKind, Read, Write};
 use std::time::Duration;
 
 /// How long a connection waits, and what it takes.
@@ -80,10 +80,18 @@ impl Connection {
     ///
     /// Errors: `TimedOut`, `Lost`, and `LongAnswer` where it exceeds the limit.
     pub fn receive(&mut self) -> Result<&[u8], Error> {
+        self.receive_with(|_| ())
+    }
+
+    /// The same. It calls a function with the number of bytes whenever some of the answer have come, which may take long.
+    ///
+    /// Errors: those of `receive`.
+    pub fn receive_with(&mut self, came: impl FnMut(usize)) -> Result<&[u8], Error> {
         if !self.is_open {
             return Err(Error::Lost(ErrorKind::NotConnected));
         }
-        match frames::read_within(&mut self.reader, &mut self.answer, self.longest) {
+        let mut reader = Counted { reader: &mut self.reader, came };
+        match frames::read_within(&mut reader, &mut self.answer, self.longest) {
             Ok(Next::Frame) => Ok(&self.answer),
             Ok(Next::End) => Err(self.close(ErrorKind::UnexpectedEof)),
             Ok(Next::TooLong(_)) => {
@@ -106,6 +114,20 @@ impl Connection {
     }
 }
 
+/// A reader that reports each number of bytes it has read.
+struct Counted<'a, F> {
+    reader: &'a mut BufReader<Stream>,
+    came: F,
+}
+
+impl<F: FnMut(usize)> Read for Counted<'_, F> {
+    fn read(&mut self, bytes: &mut [u8]) -> io::Result<usize> {
+        let count = self.reader.read(bytes)?;
+        (self.came)(count);
+        Ok(count)
+    }
+}
+
 impl Calls for Connection {
     fn ask_parts(&mut self, parts: &[&[u8]]) -> Result<&[u8], Error> {
         self.send(parts)?;
@@ -117,7 +139,6 @@ impl Calls for Connection {
 mod tests {
     use super::*;
     use crate::answers::Front;
-    use std::io::Read;
     use std::os::unix::net::UnixStream;
     use std::thread;
 
@@ -146,6 +167,22 @@ mod tests {
         assert_eq!(connection.receive(), Ok(&b"front 1 2 3"[..]));
         assert_eq!(connection.receive(), Ok(&b"front 1 2 3"[..]));
         drop(connection);
+        served.join().unwrap();
+    }
+
+    #[test]
+    fn a_long_answer_is_reported_while_it_comes() {
+        let (mut connection, mut other) = pair(Limits::default());
+        let served = thread::spawn(move || {
+            let mut frame = Vec::new();
+            assert!(frames::read(&mut other, &mut frame).unwrap());
+            frames::write(&mut other, &vec![7; 1 << 20]).unwrap();
+        });
+        let (mut total, mut parts) = (0, 0);
+        connection.send(&[b"front"]).unwrap();
+        let answer = connection.receive_with(|count| (total, parts) = (total + count, parts + 1));
+        assert_eq!(answer.map(<[u8]>::len), Ok(1 << 20));
+        assert!(total == (1 << 20) + 4 && parts > 2, "{total} {parts}");
         served.join().unwrap();
     }
 

@@ -203,13 +203,13 @@ def prepared(parser, given, kind):
     if given.folder.exists() and any(given.folder.iterdir()):
         parser.error(f"{given.folder} is not empty")
     given.folder = given.folder.resolve()
-    given.folder.mkdir(parents=True, exist_ok=True)
     given.seed = secrets.randbits(32) if given.seed is None else given.seed
     given.parts = Parts(given.extension, given.store, None, given.fleet)
     if kind:
         return kind
     if missing := [it for it in (given.extension, given.store, given.fleet) if it and not it.exists()]:
         parser.error(f"{missing[0]} is not there; `make sqlite` builds the extension and the server")
+    given.folder.mkdir(parents=True, exist_ok=True)
     given.extension, given.store, given.fleet = (it and it.resolve() for it in (given.extension, given.store, given.fleet))
     given.parts = Parts(given.extension, given.store, stores.disk(given.folder), given.fleet)
     load(given.extension)

@@ -1,11 +1,11 @@
 //! The thread that steps the machine: calls and answers come in one queue, and each step's requests go to the nodes' links.
 
 use crate::errors::VolumeError;
-use crate::link::Heard;
+use crate::link::{Heard, LONG};
 use crate::machine::{Action, Event, Fault, Machine};
 use crate::options::Options;
 use crate::peer::Peer;
-use crate::progress::{Place, Progress};
+use crate::progress::{Place, Progress, Reached};
 use crate::reopening::{Next, Reopening, Seen};
 use crate::volume::PageWrite;
 use std::collections::VecDeque;
@@ -170,13 +170,13 @@ impl<M: Machine> Driver<M> {
     fn hear(&mut self, heard: Heard) {
         match heard {
             Heard::Up { node, queue } => {
-                self.peers[usize::from(node)] = Peer { queue: Some(queue), ..Peer::new() };
+                self.peers[usize::from(node)] = Peer { queue: Some(queue), was_tried: true, ..Peer::new() };
                 self.report_reached();
                 self.notice(Event::Failed { node });
             }
             Heard::Down { node } => {
                 let had_answered = self.peers[usize::from(node)].is_answering;
-                self.peers[usize::from(node)] = Peer::new();
+                self.peers[usize::from(node)] = Peer { was_tried: true, ..Peer::new() };
                 self.report_reached();
                 if had_answered && self.is_opening() {
                     self.given_up.get_or_insert(Instant::now() + WITHOUT);
@@ -244,8 +244,12 @@ impl<M: Machine> Driver<M> {
 
     fn report_reached(&self) {
         let count = |is: fn(&Peer) -> bool| self.peers.iter().filter(|peer| is(peer)).count();
-        let (connected, answering) = (count(|peer| peer.queue.is_some()), count(|peer| peer.is_answering));
-        self.progress.reached(connected, answering, count(|peer| peer.outside.is_some()));
+        self.progress.reached(Reached {
+            tried: count(|peer| peer.was_tried),
+            connected: count(|peer| peer.queue.is_some()),
+            answering: count(|peer| peer.is_answering),
+            uncounted: count(|peer| peer.outside.is_some()),
+        });
     }
 
     /// A step that no caller waits for. Without memory it counts as not having come, as if a message were lost.
@@ -285,7 +289,11 @@ impl<M: Machine> Driver<M> {
 
     /// Steps the machine, and sends what it asks.
     fn step(&mut self, event: Event<'_>) -> Result<Outcome, VolumeError> {
+        let is_long = matches!(event, Event::Answered { answer, .. } if answer.len() > LONG);
         let actions = self.machine.step(event).map_err(|_| VolumeError::Memory)?;
+        if is_long {
+            self.progress.note_moved();
+        }
         let mut outcome = Outcome::default();
         // An opening sends a node all that it lacks, in one request.
         let most = if self.is_opening() { usize::MAX } else { self.most_pending };

@@ -1,16 +1,19 @@
 //! The connection to one node, in a thread of its own: it connects, sends what is queued, and hands the answers on.
 
 use crate::options::Options;
+use crate::progress::Progress;
 use std::sync::mpsc::{Receiver, Sender};
 use std::sync::{mpsc, Arc, Mutex, MutexGuard, PoisonError};
 use std::thread::{self, JoinHandle};
 use std::time::{Duration, Instant};
-use std::{io, mem};
-use yieldcleat_client::{frames, requests, Address, Calls, Connection, Error, Limits, Stream};
+use std::io;
+use yieldcleat_client::{frames, requests, Address, Connection, Error, Limits, Stream};
 
 /// The most requests of one frame, and the bytes after which no other one is added to it.
 const MOST: usize = 256;
 const ENOUGH: usize = 1 << 18;
+/// A request or an answer of more bytes is long: an opening that moves one is at work.
+pub const LONG: usize = 1 << 16;
 
 /// What a link says.
 pub enum Heard {
@@ -19,7 +22,7 @@ pub enum Heard {
         node: u8,
         queue: Sender<Vec<u8>>,
     },
-    /// The node is not connected any more.
+    /// The node is not connected: the connection has ended, or none could be made at first.
     Down {
         node: u8,
     },
@@ -48,8 +51,8 @@ fn lock(shared: &Mutex<Shared>) -> MutexGuard<'_, Shared> {
 }
 
 impl Link {
-    /// Starts the thread for a node; what it hears goes to `heard`, until that refuses.
-    pub fn start<H>(node: u8, options: &Options, heard: H) -> io::Result<Link>
+    /// Starts the thread for a node; what it hears goes to `heard`, until that refuses, and what it moves is noted.
+    pub fn start<H>(node: u8, options: &Options, progress: &Arc<Progress>, heard: H) -> io::Result<Link>
     where
         H: Fn(Heard) -> Option<()> + Send + 'static,
     {
@@ -60,6 +63,7 @@ impl Link {
             limits: options.limits,
             retry: options.retry,
             shared: shared.clone(),
+            progress: progress.clone(),
             heard,
         };
         let thread = thread::Builder::new().name(format!("node {node}")).spawn(move || worker.run())?;
@@ -90,6 +94,7 @@ struct Worker<H> {
     limits: Limits,
     retry: Duration,
     shared: Arc<Mutex<Shared>>,
+    progress: Arc<Progress>,
     heard: H,
 }
 
@@ -111,7 +116,7 @@ impl<H: Fn(Heard) -> Option<()>> Worker<H> {
 
     /// Connects, however long it takes; nothing where the link is to end.
     fn connect(&self) -> Option<Connection> {
-        let begun = Instant::now();
+        let (begun, mut has_failed) = (Instant::now(), false);
         loop {
             if let Ok(stream) = Stream::connect(&self.address, self.limits.connect) {
                 let own = stream.try_clone().ok();
@@ -127,6 +132,10 @@ impl<H: Fn(Heard) -> Option<()>> Worker<H> {
             if lock(&self.shared).is_stopped {
                 return None;
             }
+            if !has_failed {
+                (self.heard)(Heard::Down { node: self.node })?;
+                has_failed = true;
+            }
             // A node that is away for long is tried less often.
             thread::park_timeout(self.retry.max(begun.elapsed() / 8).min(self.retry * 10));
         }
@@ -139,7 +148,7 @@ impl<H: Fn(Heard) -> Option<()>> Worker<H> {
         (self.heard)(Heard::Up { node: self.node, queue })?;
         while let Ok(first) = queued.recv() {
             let batch = gather(first, &queued);
-            let Ok(answers) = ask(&mut connection, &batch) else {
+            let Ok(answers) = self.ask(&mut connection, &batch) else {
                 break;
             };
             answered += answers.len();
@@ -148,6 +157,43 @@ impl<H: Fn(Heard) -> Option<()>> Worker<H> {
             }
         }
         Some(answered)
+    }
+
+    /// The answer to each request.
+    fn ask(&self, connection: &mut Connection, batch: &[Vec<u8>]) -> Result<Vec<Vec<u8>>, Error> {
+        if let [request] = batch {
+            return self.ask_one(connection, request).map(|answer| vec![answer]);
+        }
+        let request = requests::many(batch.iter().map(Vec::as_slice)).map_err(|_| Error::LongFrame)?;
+        let answer = self.ask_one(connection, &request)?;
+        match frames::inside(&answer) {
+            Some(answers) if answers.len() == batch.len() => self.again_alone(connection, batch, answers),
+            // The node says it of the whole frame: that its disk is full, say.
+            _ => Ok(vec![answer; batch.len()]),
+        }
+    }
+
+    /// The answers, where those that were too long beside the others are asked for again by themselves. Such requests have changed nothing.
+    fn again_alone(&self, connection: &mut Connection, batch: &[Vec<u8>], answers: Vec<&[u8]>) -> Result<Vec<Vec<u8>>, Error> {
+        let is_long = |answer: &[u8]| answer == b"long" || (answer.starts_with(b"as ") && answer.len() < 64 && answer.ends_with(b" long"));
+        let each = batch.iter().zip(answers);
+        each.map(|(request, answer)| if is_long(answer) { self.ask_one(connection, request) } else { Ok(answer.to_vec()) }).collect()
+    }
+
+    /// The answer to one frame.
+    fn ask_one(&self, connection: &mut Connection, request: &[u8]) -> Result<Vec<u8>, Error> {
+        connection.send(&[request])?;
+        if request.len() > LONG {
+            self.progress.note_moved();
+        }
+        let mut total = 0;
+        let answer = connection.receive_with(|count| {
+            total += count;
+            if total > LONG {
+                self.progress.note_moved();
+            }
+        })?;
+        Ok(answer.to_vec())
     }
 }
 
@@ -162,25 +208,4 @@ fn gather(first: Vec<u8>, queued: &Receiver<Vec<u8>>) -> Vec<Vec<u8>> {
         batch.push(request);
     }
     batch
-}
-
-/// The answer to each request.
-fn ask(connection: &mut Connection, batch: &[Vec<u8>]) -> Result<Vec<Vec<u8>>, Error> {
-    if let [request] = batch {
-        return connection.ask(request).map(|answer| vec![answer.to_vec()]);
-    }
-    let request = requests::many(batch.iter().map(Vec::as_slice)).map_err(|_| Error::LongFrame)?;
-    let answer = mem::take(&mut connection.ask(&request)?.to_vec());
-    match frames::inside(&answer) {
-        Some(answers) if answers.len() == batch.len() => again_alone(connection, batch, answers),
-        // The node says it of the whole frame: that its disk is full, say.
-        _ => Ok(vec![answer; batch.len()]),
-    }
-}
-
-/// The answers, where those that were too long beside the others are asked for again by themselves. Such requests have changed nothing.
-fn again_alone(connection: &mut Connection, batch: &[Vec<u8>], answers: Vec<&[u8]>) -> Result<Vec<Vec<u8>>, Error> {
-    let is_long = |answer: &[u8]| answer == b"long" || (answer.starts_with(b"as ") && answer.len() < 64 && answer.ends_with(b" long"));
-    let each = batch.iter().zip(answers);
-    each.map(|(request, answer)| if is_long(answer) { Ok(connection.ask(request)?.to_vec()) } else { Ok(answer.to_vec()) }).collect()
 }

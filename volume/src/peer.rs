@@ -11,6 +11,8 @@ const ADMIT: &[u8] = b"admit ";
 pub struct Peer {
     /// Nothing where the node is not connected.
     pub queue: Option<Sender<Vec<u8>>>,
+    /// Whether its link has been connected, or has failed to connect.
+    pub was_tried: bool,
     /// Whether it has answered since it was connected.
     pub is_answering: bool,
     /// How many bytes of requests are not answered.
@@ -29,6 +31,7 @@ impl Peer {
     pub fn new() -> Peer {
         Peer {
             queue: None,
+            was_tried: false,
             is_answering: false,
             pending: 0,
             active: Instant::now(),

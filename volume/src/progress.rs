@@ -35,6 +35,17 @@ pub struct Place {
     pub is_waiting: bool,
 }
 
+/// How many nodes the links have reached.
+#[derive(Debug, Clone, Copy, Default)]
+pub struct Reached {
+    /// Those that are or were connected, or to which a first connection failed.
+    pub tried: usize,
+    pub connected: usize,
+    pub answering: usize,
+    /// Of those that answer: they count in no quorum yet.
+    pub uncounted: usize,
+}
+
 /// The bytes of a mini-transaction that is not durable.
 #[derive(Debug, Clone, Copy)]
 struct InFlight {
@@ -47,18 +58,16 @@ struct State {
     standing: Option<Standing>,
     /// The greatest generation that nodes were asked to serve.
     claimed: u64,
-    connected: usize,
-    answering: usize,
+    reached: Reached,
     /// Of the nodes that have answered as members.
     births: BTreeSet<u64>,
-    uncounted: usize,
     in_flight: Vec<InFlight>,
     failed: Option<VolumeError>,
 }
 
 impl State {
     fn counted(&self) -> usize {
-        self.answering.saturating_sub(self.uncounted)
+        self.reached.answering.saturating_sub(self.reached.uncounted)
     }
 }
 
@@ -67,6 +76,8 @@ impl State {
 pub struct Progress {
     state: Mutex<State>,
     changed: Condvar,
+    /// When a part of a long request or answer went by last.
+    moved: Mutex<Option<Instant>>,
 }
 
 impl Progress {
@@ -97,7 +108,7 @@ impl Progress {
     pub fn open(&self, generation: u64, epoch: u16, commit_point: u64, header: Vec<u8>) {
         self.change(|state| {
             let (durable, committed) = (commit_point, commit_point);
-            let (answering, uncounted) = (state.answering, state.uncounted);
+            let Reached { answering, uncounted, .. } = state.reached;
             state.standing =
                 Some(Standing { generation, epoch, opened_at: commit_point, header, durable, committed, answering, uncounted });
         });
@@ -107,13 +118,18 @@ impl Progress {
         self.change(|state| state.claimed = state.claimed.max(generation));
     }
 
-    pub fn reached(&self, connected: usize, answering: usize, uncounted: usize) {
+    pub fn reached(&self, reached: Reached) {
         self.change(|state| {
-            (state.connected, state.answering, state.uncounted) = (connected, answering, uncounted);
+            state.reached = reached;
             if let Some(standing) = &mut state.standing {
-                (standing.answering, standing.uncounted) = (answering, uncounted);
+                (standing.answering, standing.uncounted) = (reached.answering, reached.uncounted);
             }
         });
+    }
+
+    /// A part of a long request or answer has gone by.
+    pub fn note_moved(&self) {
+        *self.moved.lock().unwrap_or_else(PoisonError::into_inner) = Some(Instant::now());
     }
 
     /// A member has this birth.
@@ -167,6 +183,11 @@ impl Progress {
         Known::of(newest, state.births.iter().copied())
     }
 
+    /// When a part of a long request or answer went by last.
+    pub fn moved(&self) -> Option<Instant> {
+        *self.moved.lock().unwrap_or_else(PoisonError::into_inner)
+    }
+
     /// The greatest generation that nodes were asked to serve. It is there before a node can show it.
     pub fn claimed(&self) -> u64 {
         self.lock().claimed
@@ -182,12 +203,14 @@ impl Progress {
 
     pub fn quorum(&self, options: &Options) -> Quorum {
         let state = self.lock();
-        Quorum { uncounted: state.uncounted, ..Quorum::of(state.counted(), options) }
+        Quorum { uncounted: state.reached.uncounted, ..Quorum::of(state.counted(), options) }
     }
 
-    /// Waits until so many nodes are connected, or until the deadline.
-    pub fn wait_connected(&self, count: usize, deadline: Instant) {
-        self.wait(deadline, |state| (state.connected >= count).then_some(()));
+    /// Waits until each node is connected, or cannot be reached at once while a quorum is connected, or until the deadline.
+    pub fn wait_connected(&self, options: &Options, deadline: Instant) {
+        let (all, quorum) = (options.nodes.len(), usize::from(options.quorum));
+        let is_enough = |Reached { tried, connected, .. }| tried >= all && connected >= quorum;
+        self.wait(deadline, |state| is_enough(state.reached).then_some(()));
     }
 
     /// The last commit point up to a point that is not durable.

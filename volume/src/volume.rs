@@ -120,11 +120,11 @@ impl Volume {
         let mut volume = Volume { inputs, progress, readers, panel, links: Vec::new(), driver: Some(driver), options };
         for node in 0..volume.options.nodes.len() {
             let inputs = volume.inputs.clone();
-            let link = Link::start(node as u8, &volume.options, move |heard| inputs.send(Input::Heard(heard)).ok());
+            let link = Link::start(node as u8, &volume.options, &volume.progress, move |heard| inputs.send(Input::Heard(heard)).ok());
             volume.links.push(link.map_err(thread)?);
         }
         // A connection that is new while an opening runs counts as one that has broken.
-        volume.progress.wait_connected(volume.options.nodes.len(), deadline.min(Instant::now() + volume.options.grace));
+        volume.progress.wait_connected(&volume.options, deadline.min(Instant::now() + volume.options.grace));
         Ok((volume, deadline))
     }
 
@@ -138,7 +138,7 @@ impl Volume {
     fn open_until(&self, shown: u64, deadline: Instant) -> Result<(), VolumeError> {
         let (mut generation, mut attempt) = (shown.saturating_add(1), self.options.patience / 8);
         loop {
-            match self.call(|done| Call::Open { generation, done }, deadline.min(Instant::now() + attempt)) {
+            match self.open_once(generation, attempt, deadline) {
                 Some(Ok(())) => return Ok(()),
                 Some(Err(VolumeError::Fenced { generation: later })) => generation = later.saturating_add(1),
                 Some(Err(VolumeError::Refused(Fault::NoQuorum { .. }))) => generation = generation.saturating_add(1),
@@ -151,6 +151,26 @@ impl Volume {
             }
             // Two engines that open at the same time fence each other; they must not go on in step.
             thread::sleep(self.options.retry.mul_f64(0.5 + jitter()));
+        }
+    }
+
+    /// Opens under a generation; nothing where no result comes, and for so long no long answer either. Another attempt would begin from nothing,
+    /// behind what nodes still send.
+    fn open_once(&self, generation: u64, attempt: Duration, deadline: Instant) -> Option<Result<(), VolumeError>> {
+        let (done, result) = mpsc::channel();
+        if self.inputs.send(Input::Call(Call::Open { generation, done })).is_err() {
+            return Some(Err(VolumeError::Closed));
+        }
+        let mut end = deadline.min(Instant::now() + attempt);
+        loop {
+            if let Ok(opened) = result.recv_timeout(end.saturating_duration_since(Instant::now())) {
+                return Some(opened);
+            }
+            let later = self.progress.moved().map_or(end, |moved| deadline.min(moved + attempt));
+            if later <= end {
+                return None;
+            }
+            end = later;
         }
     }
 

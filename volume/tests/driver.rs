@@ -257,6 +257,25 @@ fn a_volume_without_a_quorum_does_not_open() {
 }
 
 #[test]
+fn an_opening_waits_for_no_node_that_cannot_be_reached() {
+    let three = Three::new();
+    fs::remove_file(&three.nodes[1].path).unwrap();
+    let begun = Instant::now();
+    let volume = three.open(Options { grace: Duration::from_secs(3), ..three.options() }).unwrap();
+    assert!(begun.elapsed() < Duration::from_secs(2), "{:?}", begun.elapsed());
+    volume.commit(write(1), Vec::new()).unwrap();
+}
+
+#[test]
+fn an_opening_goes_on_while_a_long_answer_comes() {
+    let three = Three::new();
+    three.nodes.iter().for_each(|node| node.set(|state| state.long_front = Duration::from_millis(1500)));
+    let volume = three.open(Options { patience: Duration::from_secs(4), ..three.options() }).unwrap();
+    // The first attempt is the only one.
+    assert_eq!(volume.standing().unwrap().generation, 3);
+}
+
+#[test]
 fn what_is_no_mini_transaction_changes_nothing() {
     let three = Three::new();
     let volume = three.open(three.options()).unwrap();

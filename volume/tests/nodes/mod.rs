@@ -1,6 +1,7 @@
 //! Nodes behind sockets, with one chain of records, no epochs and a guard.
 
 use std::collections::BTreeMap;
+use std::io::{self, Write};
 use std::os::unix::net::{UnixListener, UnixStream};
 use std::path::{Path, PathBuf};
 use std::sync::{Arc, Mutex};
@@ -25,6 +26,8 @@ pub struct State {
     pub is_overtaken: bool,
     /// Whether it goes away when it is to be fenced.
     pub leaves: bool,
+    /// How long a front takes that comes in parts, as a long answer; zero for a short one at once.
+    pub long_front: Duration,
     connections: Vec<UnixStream>,
 }
 
@@ -42,6 +45,7 @@ impl Default for State {
             is_member: true,
             is_overtaken: false,
             leaves: false,
+            long_front: Duration::ZERO,
             connections: Vec::new(),
         }
     }
@@ -190,6 +194,18 @@ impl Node {
     }
 }
 
+/// Writes an answer with a million bytes behind it, over a time.
+fn write_in_parts(stream: &mut UnixStream, mut answer: Vec<u8>, time: Duration) -> io::Result<()> {
+    const PARTS: u32 = 16;
+    answer.resize(1 << 20, b' ');
+    let mut frame = Vec::new();
+    frames::append(&mut frame, &[&answer])?;
+    frame.chunks(frame.len().div_ceil(PARTS as usize)).try_for_each(|part| {
+        thread::sleep(time / PARTS);
+        stream.write_all(part)
+    })
+}
+
 fn serve(mut stream: UnixStream, state: &Mutex<State>) {
     let most = {
         let mut state = state.lock().unwrap();
@@ -210,9 +226,13 @@ fn serve(mut stream: UnixStream, state: &Mutex<State>) {
         if state.leaves && frame.starts_with(b"fence ") {
             return state.leave();
         }
-        let answer = state.answer(&frame);
+        let (answer, long_front) = (state.answer(&frame), state.long_front);
         drop(state);
-        if frames::write(&mut stream, &answer).is_err() {
+        let is_sent = match frame == b"front" && !long_front.is_zero() {
+            true => write_in_parts(&mut stream, answer, long_front),
+            false => frames::write(&mut stream, &answer),
+        };
+        if is_sent.is_err() {
             return;
         }
     }
