@@ -105,8 +105,8 @@ class Player:
         try:
             message = self.pipe.recv()
         except (EOFError, ConnectionResetError):
+            self.kill()  # the process is not joined: its number is not another one's
             self.process.join()
-            self.kill()
             return None, f"the process has ended with {self.process.exitcode}"
         self.heard = time.monotonic()
         if message[0] == "counts":

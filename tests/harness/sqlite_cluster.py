@@ -2,7 +2,6 @@
 
 import contextlib
 import multiprocessing
-import os
 import signal
 import socket
 import subprocess
@@ -251,6 +250,5 @@ class Proxies:
 
 
 def kill_process(process):
-    with contextlib.suppress(ProcessLookupError):
-        os.kill(process.pid, signal.SIGKILL)
+    process.kill()
     process.join()

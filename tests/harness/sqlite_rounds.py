@@ -23,6 +23,7 @@ from harness.sqlite_worlds import content, is_whole, one
 
 MOST_LOST = 2  # servers at a time that have lost their files and are not admitted
 PATIENCE = 20000  # milliseconds of an engine that is to succeed
+SPENDING = 4  # seconds until an engine has spent a bound: twice as long as a reader waits for another engine's opening
 ROUNDS = 150  # of one cluster
 OFTEN, NEVER = 200_000, 1 << 40  # bytes of a log after which servers make snapshots
 
@@ -152,6 +153,12 @@ class Rounds:
                     self.cluster.start(number)
         return kind, victims
 
+    def wait_until_spent(self, child):
+        """Waits until a proxy has spent its bound. An engine that has ended spends nothing more."""
+        end = time.monotonic() + SPENDING
+        while not self.proxies.wait(0.05) and child.process.is_alive() and time.monotonic() < end:
+            pass
+
     def run_and_kill(self, choose, mode):
         """The last transaction of which an engine says, before it is killed, that its commit returned."""
         how = choose.choice(["bytes", "bytes", "time", "opening", "opening"])
@@ -170,7 +177,7 @@ class Rounds:
         if how == "time":
             time.sleep(choose.randrange(1500) / 1000)
         else:
-            self.proxies.wait(2)
+            self.wait_until_spent(child)
             time.sleep(choose.choice([0, 0.005, 0.05]))
         kill_process(child.process)
         said += child.said()
