@@ -18,7 +18,7 @@ from harness.sqlite_worlds import is_whole, last_message, one
 KEPT = 20  # commits that stay readable, so that servers fold and discard
 ROWS = 100  # of a commit
 SNAPSHOTS = 2  # of each server, at least
-PATIENCE = 20_000  # milliseconds of an opening, which moves the whole volume
+PATIENCE, MORE = 20_000, 1000  # milliseconds of an opening, which moves the whole volume, and how many more for each megabyte
 TABLES = """
 create table t(a integer primary key, b blob);
 create table total(rows integer, bytes integer, last integer);
@@ -33,9 +33,13 @@ def body(seed, number):
 # What runs in processes of their own
 
 
+def patience(size):
+    return PATIENCE + MORE * size // 1_000_000
+
+
 def fill(pipe, place, seed, size):
     """Inserts rows until the database has its size, and deletes some; sends the size after each commit."""
-    ours = connect(place, keep=KEPT, timeout=PATIENCE)
+    ours = connect(place, keep=KEPT, timeout=patience(size))
     ours.executescript(f"begin; {TABLES} commit")
     last, old = 0, "from t where a % 37 = ? and a > ?"
     while (has := one(ours, "pragma page_count") * 4096) < size:
@@ -52,9 +56,9 @@ def fill(pipe, place, seed, size):
         pipe.send(has)
 
 
-def watch(pipe, place):
+def watch(pipe, place, size):
     """Looks again and again, and sends how often all was of one commit, or what was not. A look may outlast the commits that stay readable."""
-    ours, looks = connect(place, mode="ro", timeout=PATIENCE), 0
+    ours, looks = connect(place, mode="ro", timeout=patience(size)), 0
     while not pipe.poll():
         try:
             ours.execute("begin")
@@ -72,10 +76,10 @@ def watch(pipe, place):
     return pipe.send(looks)
 
 
-def check(pipe, place, seed):
+def check(pipe, place, seed, size):
     """Sends how many rows there are where all of them are as they were made, or what is wrong."""
     try:
-        ours = connect(place, timeout=PATIENCE)
+        ours = connect(place, timeout=patience(size))
         ours.execute("begin immediate")
         wrong = [a for a, b in ours.execute("select a, b from t") if b != body(seed, a)]
         there, noted = ours.execute("select count(*), sum(length(b)) from t").fetchone(), ours.execute("select rows, bytes from total").fetchone()
@@ -85,18 +89,18 @@ def check(pipe, place, seed):
         pipe.send(told(error))
 
 
-def open_to_write(pipe, place):
-    connect(place, timeout=PATIENCE).execute("begin immediate").execute("commit")
+def open_to_write(pipe, place, size):
+    connect(place, timeout=patience(size)).execute("begin immediate").execute("commit")
     pipe.poll(2)  # as long as an admission may take
 
 
 # The run
 
 
-def admitted(cluster, number):
+def admitted(cluster, number, size):
     """Whether a server becomes a member: an opening admits one that answers in time."""
     for _ in range(5):
-        Child(open_to_write, cluster.folder / "volume").said()
+        Child(open_to_write, cluster.folder / "volume", size).said()
         if number in cluster.members():
             return True
     return False
@@ -119,7 +123,7 @@ def fill_and_kill(cluster, seed, size):
                 writer.pipe.recv()
             except EOFError:
                 break
-            watcher = watcher or Child(watch, place)
+            watcher = watcher or Child(watch, place, size)
             if is_killed and choose.random() < 0.2:
                 cluster.start()
                 is_killed = False
@@ -140,9 +144,9 @@ def fill_and_kill(cluster, seed, size):
                 kill_process(it.process)
 
 
-def found(cluster, seed):
+def found(cluster, seed, size):
     """How many rows there are, all of which are right."""
-    [rows] = Child(check, cluster.folder / "volume", seed).said()
+    [rows] = Child(check, cluster.folder / "volume", seed, size).said()
     assert isinstance(rows, int), rows
     return rows
 
@@ -152,25 +156,26 @@ def main(extension, store, disk, folder, seed, megabytes):
     size = int(float(megabytes) * 1e6)
     cluster = Cluster(store, Path(folder) / "c", disk, words=("--snapshot-after", max(100_000, size // 30)))
     try:
-        begun = time.monotonic()
+        begun = started = time.monotonic()
         cluster.start()
         looks = fill_and_kill(cluster, seed, size)
         filled, made = time.monotonic() - begun, generations(cluster)
         assert min(made) >= SNAPSHOTS, f"snapshots: {made}"
-        rows = found(cluster, seed)
+        rows = found(cluster, seed, size)
         cluster.kill(*range(NODES))
         cluster.start()
-        assert found(cluster, seed) == rows
+        assert found(cluster, seed, size) == rows
         wiped = random.Random(seed).randrange(NODES)
         cluster.wipe(wiped)
         cluster.start(wiped)
         begun = time.monotonic()
         assert cluster.settled(), cluster.fronts()
         whole = time.monotonic() - begun
-        assert admitted(cluster, wiped), cluster.members()
+        assert admitted(cluster, wiped, size), cluster.members()
         cluster.kill(*random.Random(seed).sample([it for it in range(NODES) if it != wiped], 2))
-        assert found(cluster, seed) == rows
-        print(f"{rows} rows in {filled:.0f} s, {looks} looks, snapshots {made}, a wiped server whole in {whole:.1f} s")
+        assert found(cluster, seed, size) == rows
+        total = time.monotonic() - started
+        print(f"{rows} rows in {filled:.0f} s, {looks} looks, snapshots {made}, a wiped server whole in {whole:.1f} s, all in {total:.0f} s")
     finally:
         cluster.close()
 
