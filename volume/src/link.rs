@@ -2,11 +2,11 @@
 
 use crate::options::Options;
 use crate::progress::Progress;
+use std::io;
 use std::sync::mpsc::{Receiver, Sender};
 use std::sync::{mpsc, Arc, Mutex, MutexGuard, PoisonError};
 use std::thread::{self, JoinHandle};
 use std::time::{Duration, Instant};
-use std::io;
 use yieldcleat_client::{frames, requests, Address, Connection, Error, Limits, Stream};
 
 /// The most requests of one frame, and the bytes after which no other one is added to it.
@@ -60,7 +60,7 @@ impl Link {
         let worker = Worker {
             node,
             address: options.nodes[usize::from(node)].clone(),
-            limits: options.limits,
+            limits: options.of_links(),
             retry: options.retry,
             shared: shared.clone(),
             progress: progress.clone(),

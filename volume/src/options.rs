@@ -18,7 +18,8 @@ pub struct Options {
     pub quorum: u8,
     /// How long opening, a commit and a read may take.
     pub patience: Duration,
-    /// How long a connection waits for one answer before it counts as lost.
+    /// How long a connection waits for one answer before it counts as lost. The links of a writer wait for half of `patience` where that is
+    /// longer: an opening asks for whole volumes.
     pub limits: Limits,
     /// The pause before a node that cannot be reached is tried again.
     pub retry: Duration,
@@ -73,6 +74,11 @@ impl Options {
         }
     }
 
+    /// The limits of a writer's links.
+    pub(crate) fn of_links(&self) -> Limits {
+        Limits { answer: self.limits.answer.max(self.patience / 2), ..self.limits }
+    }
+
     /// Whether they are those of a volume.
     pub fn check(&self) -> Result<(), BadOptions> {
         let (nodes, quorum) = (self.nodes.len(), self.quorum);
@@ -104,6 +110,14 @@ mod tests {
             assert_eq!(of(nodes).check(), Ok(()), "{nodes}");
         }
         assert_eq!((of(6).quorum, of(3).quorum, of(1).quorum), (4, 2, 1));
+    }
+
+    #[test]
+    fn links_of_a_patient_writer_wait_longer() {
+        let seconds = Duration::from_secs;
+        for (patience, answer) in [(1, 5), (10, 5), (60, 30)] {
+            assert_eq!(Options { patience: seconds(patience), ..of(6) }.of_links().answer, seconds(answer));
+        }
     }
 
     #[test]
