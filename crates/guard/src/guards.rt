@@ -131,9 +131,11 @@ impl Guard {
         ensures refused { IsGuardRefusal result → IsAfterGuardRefusal (Request.As generation birth request) self.old self.new }
     {
         if !is_guarded(&request) {
+            let_go(request);
             return Reply::Unguarded;
         }
         if !self.is_under(generation, birth) {
+            let_go(request);
             return self.declined();
         }
         Reply::Headed {
@@ -187,6 +189,7 @@ impl Guard {
         ensures refused { IsGuardRefusal result → IsAfterGuardRefusal (Request.Plain request) self.old self.new }
     {
         if self.loses_segment(&request) {
+            let_go(request);
             return Reply::Member;
         }
         Reply::Plain(self.replica.step(request))
@@ -238,6 +241,12 @@ impl Guard {
         }
     }
 }
+
+/// Drops a request that is not carried out.
+///
+/// It is not inlined: where the code that drops a request is part of `step`, the compiler moves every request field by field.
+#[inline(never)]
+fn let_go(_request: replica::Request) {}
 
 /// Whether an engine may ask this under its generation.
 fn is_guarded(request: &replica::Request) -> bool
