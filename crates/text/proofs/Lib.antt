@@ -1,6 +1,7 @@
 pub mod Options
 pub mod Split
 pub mod FirstPart
+pub mod Cuts
 pub mod Numbers
 pub mod Cursor
 pub mod Forms

@@ -1,10 +1,16 @@
 -- The parts of a text, and steps that may find nothing.
-use Rattle.std.specs.Prelude.{ℕ, ◌==◌, List, take, Option, Some, None}
+use Rattle.std.specs.Prelude.{◌≡◌, ℕ, ◌==◌, List, [], ◌∷◌, ◌++◌, take, Option, Some, None}
 use Rattle.std.specs.List.{slice_split}
 
 -- the parts between the bytes of that value
 abbrev pub parts_at : ℕ → List ℕ → List (List ℕ)
 parts_at separator text = slice_split (λ b. b == separator) text
+
+-- the text in two, the first of which ends in the separator
+pub record IsCutBehind (separator : ℕ) (text front behind : List ℕ) : Type 0 where
+  pub whole : text ≡ front ++ behind
+  pub before : List ℕ
+  pub ends : front ≡ before ++ separator ∷ []
 
 -- how many parts of a text are looked at: more than any line has
 abbrev pub most_parts : ℕ

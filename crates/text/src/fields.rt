@@ -1,7 +1,7 @@
 //! The parts of a text between separators: lines, fields, patches.
 
-ghost use Rattle.std.specs.Prelude.{bytes_eq, ◌≡◌, ◌↔◌, ◌<◌, ◌==◌, [], ◌∷◌, IfOk, IfSome, IfNone, IsTrue, length, map, position};
-ghost use Rattle.text.specs.Parts.{parts_at, first_parts};
+ghost use Rattle.std.specs.Prelude.{bytes_eq, ◌≡◌, ◌↔◌, ◌<◌, ◌≤◌, ◌==◌, [], ◌∷◌, IfOk, IfSome, IfNone, IsTrue, drop, length, map, position};
+ghost use Rattle.text.specs.Parts.{parts_at, first_parts, IsCutBehind};
 
 use memchr::{memchr, memchr2};
 use std::alloc::{AllocError, Global};
@@ -38,6 +38,21 @@ pub fn first_part(text: &[u8], separator: u8) -> Option<(&[u8], &[u8])>
             let (_, behind) = text.split_at(at + 1);
             Some((front, behind))
         }
+    }
+}
+
+/// The text up to the first separator after its first `from` bytes, with that separator, and the text after it; None if it has no
+/// separator there.
+pub fn split_behind(text: &[u8], separator: u8, from: usize) -> Option<(&[u8], &[u8])>
+    requires { from ≤ length text.now }
+    ensures cut { IfSome result (λ p. IsCutBehind separator text.now p.0.now p.1.now) }
+    ensures longer { IfSome result (λ p. from < length p.0.now) }
+    ensures none { IfNone result (parts_at separator (drop from text.now) ≡ drop from text.now ∷ []) }
+{
+    let (_, rest) = text.split_at(from);
+    match first_at(rest, separator) {
+        None => None,
+        Some(at) => Some(text.split_at(from + at + 1)),
     }
 }
 
