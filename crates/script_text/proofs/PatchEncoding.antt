@@ -11,14 +11,17 @@ use Rattle.hex.proofs.HexLemmas.{decode_of-ok}
 use Rattle.redo_core.specs.Writes.{WriteData}
 use Rattle.redo_core.specs.declared.patches.Patch.{Patch}
 use Rattle.redo_core.specs.declared.patches.Patch.TheVariants.{Bytes, Fill}
+use Rattle.redo_core.specs.declared.facts.Fact.{Fact}
+use Rattle.script_text.specs.declared.contents.Head.{Head}
 use Rattle.text.specs.Number.{decimal_value}
 use Rattle.text.specs.Parts.{◌>>=◌, parts_at}
 use Rattle.text.specs.HexDigits.{decoded}
-use Rattle.script_text.specs.FactLine.{write_at, fill_at, patch_at, patch_from, patch_of, each_patch, Contents, contents, contents_from, contents_of}
+use Rattle.script_text.specs.FactLine.{write_at, fill_at, patch_at, patch_from, patch_of, each_patch, Contents, contents, contents_from, contents_of, record_of_contents}
 use Rattle.script_text.specs.FactText.{behind_init}
 use Rattle.script_text.specs.Encoded.{EncodesPatch, EncodesContents}
 use Rattle.text.proofs.Numbers.{numbers_are_decimals, decimal_is_read, lacks_decimal}
 use Rattle.text.proofs.Options.{here, some_is, bind_some, either, true_is, no_test}
+use Rattle.script_text.proofs.Results.{found}
 use Rattle.text.proofs.Split.{lacks, AllLack, parts_joined, joined_parts, lacks_passing, lacks_append, lacks_joined}
 
 abbrev write : ℕ → List ℕ → WriteData
@@ -212,3 +215,11 @@ contents_are_read text init ps h = search (rules, joined_is_read)
 pub contents_lack_space : (text : List ℕ) (init : Bool) (ps : List Patch) → EncodesContents text init ps → lacks 32 text ≡ true
 contents_lack_space text init ps (inl dash) = rw dash.0 refl
 contents_lack_space text init ps (inr more) = rw more.1 (joined_lack 32 (behind_init init more.0) refl (pieces_lack 32 init more.0 ps space more.2))
+
+-- what makes a record is one field
+pub record_is_field : (head : Head) (text : List ℕ) (fact : Fact) → record_of_contents head (contents_of text) ≡ Some fact → parts_at 32 text ≡ text ∷ []
+record_is_field head text fact e =
+    elim (found (contents_of text)) [
+      | inl none ↦ absurd (cc (rw none at e))
+      | inr one ↦ joined_parts 32 text [] (contents_lack_space text one.0.init one.0.patches (contents_are_encoded text one.0 one.1), tt)
+    ]

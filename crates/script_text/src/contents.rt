@@ -251,7 +251,7 @@ fn anew(alloc: Global, head: Head, text: &[u8]) -> Result<Fact, FactError>
 
 /// The record of contents with no comma.
 #[tactic(auto, unfolding(crate::specs::FactLine::contents_of, crate::specs::FactLine::contents_from))]
-pub fn of_word(alloc: Global, head: Head, text: &[u8]) -> Result<Fact, FactError>
+fn of_word(alloc: Global, head: Head, text: &[u8]) -> Result<Fact, FactError>
     requires { parts_at 44 text.now ≡ text.now ∷ [] }
     ensures fact { IfOk result (λ f. record_of_contents head (contents_of text.now) ≡ Some f) }
     ensures reason { IfErr result (IfBad (IsBodyReason head text.now)) }

@@ -6,17 +6,17 @@ ghost use Rattle.redo_core.specs.Shape.{max_number, max_readers, advance_fault};
 ghost use Rattle.text.specs.Parts.{parts_at};
 ghost use Rattle.text.specs.Fields.{numbers_of, numbers_then, fields_in};
 ghost use Rattle.script_text.specs.FactLine.{shaped, head_numbers, record_limits, record_line, cut_line, advance_line, fact_line, fact_of};
-ghost use Rattle.script_text.specs.FactReasons.{IsShape, IsRecordReason, IsCutReason, IsAdvanceReason, IsFactReason};
+ghost use Rattle.script_text.specs.FactReasons.{IsShape, IsBodyReason, IsRecordReason, IsCutReason, IsAdvanceReason, IsFactReason};
 ghost use Rattle.script_text.specs.LineReasons.{IfBad};
 
-use crate::contents::{Head, of_word, record_of};
+use crate::contents::{Head, record_of};
 use crate::field_reasons::{count_parts, wrong_field};
 use crate::forms::three;
 use crate::limits::SHORT;
 use crate::reasons::{FactError, LineReason};
 use redo_core::{Advance, Cut, Fact, MAX_NUMBER, MAX_READERS};
 use std::alloc::{AllocError, Global};
-use text::{field, first_part, is_one_part, is_word, three_fields, two_fields};
+use text::{field, first_part, is_word, three_fields, two_fields};
 
 /// The numbers of the fields behind `rec`, and the text behind them, which has the contents where it is one field.
 fn record_fields(fields: Option<&[u8]>) -> Option<(Head, &[u8])>
@@ -54,8 +54,20 @@ fn record_reason(fields: Option<&[u8]>) -> LineReason
     }
 }
 
+/// Why the text behind a record's numbers gives no record: it is more than one field, or the reason that it has as one.
+#[tactic(auto, using(crate::proofs::RecordLine::body_reason))]
+fn text_error(head: Head, fields: Option<&[u8]>, text: &[u8], error: FactError) -> FactError
+    requires numbers { numbers_then record_limits (fields_in fields) ≡ Some (head_numbers head, parts_at 32 text.now) }
+    requires body { IfBad (IsBodyReason head text.now) error }
+    ensures { IfBad (IsRecordReason (fields_in fields.entry)) result }
+{
+    match first_part(text, b' ') {
+        Some((_word, _behind)) => FactError::Bad(LineReason::FieldCount { wanted: 6 }),
+        None => error,
+    }
+}
+
 /// The fields behind `rec`.
-#[tactic(auto, using(crate::proofs::RecordLine::record_is, crate::proofs::RecordLine::more_than_six, crate::proofs::RecordLine::body_reason))]
 fn record_line(alloc: Global, fields: Option<&[u8]>) -> Result<Fact, FactError>
     ensures fact { IfOk result (λ f. record_line (fields_in fields.entry) ≡ Some f) }
     ensures reason { IfErr result (IfBad (IsRecordReason (fields_in fields.entry))) }
@@ -63,14 +75,11 @@ fn record_line(alloc: Global, fields: Option<&[u8]>) -> Result<Fact, FactError>
     let Some((head, text)) = record_fields(fields) else {
         return Err(FactError::Bad(record_reason(fields)));
     };
-    // Most records have one patch, and then one search finds that neither a field nor a patch is behind it.
-    if is_one_part(text, b' ', b',') {
-        return of_word(alloc, head, text);
+    // Contents that are read have no space in them, so only those that are not are searched for one.
+    match record_of(alloc, head, text) {
+        Ok(fact) => Ok(fact),
+        Err(error) => Err(text_error(head, fields, text, error)),
     }
-    if first_part(text, b' ').is_some() {
-        return Err(FactError::Bad(LineReason::FieldCount { wanted: 6 }));
-    }
-    record_of(alloc, head, text)
 }
 
 /// The fields behind `cut`.
