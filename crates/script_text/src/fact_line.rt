@@ -1,6 +1,6 @@
 //! Fact lines.
 
-ghost use Rattle.std.specs.Prelude.{◌≡◌, ◌≤◌, [], ◌∷◌, Some, None, IfOk, IfErr, option_map};
+ghost use Rattle.std.specs.Prelude.{◌≡◌, ◌≤◌, ◌++◌, [], ◌∷◌, Some, None, IfOk, IfErr, IfSome, codes, option_map};
 ghost use Rattle.redo_core.specs.Data.{advance_of};
 ghost use Rattle.redo_core.specs.Shape.{max_number, max_readers, advance_fault};
 ghost use Rattle.text.specs.Parts.{parts_at};
@@ -171,6 +171,17 @@ fn fact_line(alloc: Global, word: &[u8], fields: Option<&[u8]>) -> Result<Fact, 
     }
 }
 
+/// The text behind `rec ` at the beginning of a line. Each byte is matched by itself, which takes less than a comparison of slices.
+#[inline]
+fn behind_rec(line: &[u8]) -> Option<&[u8]>
+    ensures { IfSome result (λ fields. line.now ≡ codes "rec " ++ fields.now) }
+{
+    match line {
+        [b'r', b'e', b'c', b' ', fields @ ..] => Some(fields),
+        _ => None,
+    }
+}
+
 /// The fact that a line encodes.
 ///
 /// Errors: `Bad` with a true reason where it encodes none, and `Memory`.
@@ -180,7 +191,7 @@ pub fn fact(alloc: Global, line: &[u8]) -> Result<Fact, FactError>
     ensures reason { IfErr result (IfBad (IsFactReason (parts_at 32 line.now))) }
 {
     // Most facts are records, whose word ends where it is known to.
-    if let Some(fields) = line.strip_prefix(b"rec ") {
+    if let Some(fields) = behind_rec(line) {
         return record_line(alloc, Some(fields));
     }
     match first_part(line, b' ') {
