@@ -23,6 +23,7 @@ use log_law::{CheckFault, check_log};
 use redo_core::LawFault;
 use script_text::{Log, Script, ScriptError, TextReason, read_facts, read_script};
 use std::alloc::{AllocError, Global};
+use std::mem::forget;
 use text::worded_line;
 
 /// The outcome of an answered input, apart from its text.
@@ -68,16 +69,36 @@ fn unsound(alloc: Global, fault: LawFault, reason: Option<Reason>) -> Result<Ans
     })
 }
 
+/// What becomes of the script and the fleet behind an answer.
+#[derive(Clone, Copy)]
+enum Remains {
+    Dropped,
+    /// They stay in memory, for a program that ends with this answer: to free each record takes long, and the system frees all at once.
+    Forgotten,
+}
+
+impl Remains {
+    fn leave<T: Drop>(self, value: T) {
+        match self {
+            Remains::Dropped => drop(value),
+            Remains::Forgotten => forget(value),
+        }
+    }
+}
+
 /// The replies of a fleet with the script's number of nodes.
-fn replies(alloc: Global, script: &Script) -> Result<Answered, AllocError>
-    requires sound { IsSound script.now.roster script.now.facts.items }
-    requires range { All (IsInRange (length script.now.facts.items)) script.now.steps.items }
-    ensures says { let read = script_data script.now in IfOk result (λ a. SaysReplies read.roster read.said (string_bytes a.text) a.verdict) }
+fn replies(alloc: Global, script: Script, remains: Remains) -> Result<Answered, AllocError>
+    requires sound { IsSound script.roster script.facts.items }
+    requires range { All (IsInRange (length script.facts.items)) script.steps.items }
+    ensures says { let read = script_data script in IfOk result (λ a. SaysReplies read.roster read.said (string_bytes a.text) a.verdict) }
     ensures reason { IfOk result (λ a. a.reason ≡ None) }
 {
     let mut fleet = Fleet::new(alloc, script.roster, script.nodes)?;
+    let text = answers(alloc, &mut fleet, &script.facts, &script.steps)?;
+    remains.leave(fleet);
+    remains.leave(script);
     Ok(Answered {
-        text: answers(alloc, &mut fleet, &script.facts, &script.steps)?,
+        text,
         verdict: Verdict::Done,
         reason: None,
     })
@@ -101,7 +122,12 @@ fn log_in(alloc: Global, text: Vec<u8>) -> Result<Log, ScriptError>
 }
 
 // The answer to a script; and the reason of a bad line or a fault, if it is sought.
-fn answer_script(alloc: Global, input: Vec<u8>, explains: bool) -> Result<Answered, AllocError>
+fn answer_script(
+    alloc: Global,
+    input: Vec<u8>,
+    explains: bool,
+    remains: Remains,
+) -> Result<Answered, AllocError>
     ensures output { IfOk result (λ a. IsRunOutput (script_of input.items) (string_bytes a.text) a.verdict) }
     ensures reason { explains ≡ true → IfOk result (λ a. MatchOption a.reason (HasSoundLog LinesTask.Run input.items) (IsTrueReason LinesTask.Run input.items)) }
 {
@@ -114,7 +140,7 @@ fn answer_script(alloc: Global, input: Vec<u8>, explains: bool) -> Result<Answer
                 let reason = fault_reason(alloc, explains, &script.facts, script.roster, fault)?;
                 unsound(alloc, fault, reason)
             }
-            Ok(()) => replies(alloc, &script),
+            Ok(()) => replies(alloc, script, remains),
         },
     }
 }
@@ -172,8 +198,15 @@ pub fn answer(
         → IfOk result (λ a. MatchOption a.reason (HasSoundLog lines input.items) (IsTrueReason lines input.items)) }
 {
     match task {
-        TextTask::Run => answer_script(alloc, input, explains),
+        TextTask::Run => answer_script(alloc, input, explains, Remains::Dropped),
         TextTask::Check => answer_facts(alloc, input, explains),
         TextTask::Inspect => answer_capture(alloc, &input),
     }
+}
+
+/// The output for a script, where the program ends with it. Fails only if memory runs out.
+pub fn last_answer(alloc: Global, input: Vec<u8>) -> Result<Answered, AllocError>
+    ensures { IfOk result (λ a. IsOutputOf TextTask.Run input.items (string_bytes a.text) a.verdict) }
+{
+    answer_script(alloc, input, false, Remains::Forgotten)
 }

@@ -7,7 +7,7 @@ use crate::drill_line::DrillTask;
 use crate::drilling::drill_text;
 use crate::ending::{status_of, words_of};
 use crate::job::{LineFault, LinesTask, Task, TextTask, complaint, job_of};
-use crate::run::{check_text, explain_text, inspect_text, run_text};
+use crate::run::{check_text, explain_text, inspect_text, run_last_text};
 use framing::Named;
 use framing::devices::{RunFault, Watched};
 use std::alloc::AllocError;
@@ -57,7 +57,7 @@ fn answer_input(rt: &(impl Input + Print + Eprint + AllocGlobal), task: TextTask
     let mut reader = Watched::new(rt.reader());
     let mut writer = Watched::new(io::writer(rt));
     let ended = match task {
-        TextTask::Run => run_text(rt.alloc(), &mut reader, &mut writer),
+        TextTask::Run => run_last_text(rt.alloc(), &mut reader, &mut writer),
         TextTask::Check => check_text(rt.alloc(), &mut reader, &mut writer),
         TextTask::Inspect => inspect_text(rt.alloc(), &mut reader, &mut writer).map(
             |()| Verdict::Done,

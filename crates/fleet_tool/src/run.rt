@@ -8,7 +8,7 @@ ghost use Rattle.fleet_tool.specs.TaskName.{as_text_task};
 ghost use Rattle.fleet_tool.specs.TextCall.{IsTextCall};
 ghost use Rattle.framing.specs.Watching.{has_failed};
 
-use crate::answer::{Answered, Verdict, answer};
+use crate::answer::{Answered, Verdict, answer, last_answer};
 use crate::explaining::Reason;
 use crate::job::{LinesTask, TextTask};
 use framing::devices::{RunFault, Watched, read_all, write_all};
@@ -46,6 +46,22 @@ pub fn run_text<R: Read, W: Write>(
     ensures { IsTextCall R.remaining W.contents (IsOutputOf TextTask.Run) reader.old reader.new writer.old writer.new result }
 {
     answer_text(alloc, TextTask::Run, reader, writer)
+}
+
+/// Does the same for a program that ends with it: the script and the fleet stay in memory.
+pub(crate) fn run_last_text<R: Read, W: Write>(
+    alloc: Global,
+    reader: &mut Watched<R>,
+    writer: &mut Watched<W>,
+) -> Result<Verdict, RunFault>
+    requires reader { has_failed reader.old ≡ false }
+    requires writer { has_failed writer.old ≡ false }
+    ensures { IsTextCall R.remaining W.contents (IsOutputOf TextTask.Run) reader.old reader.new writer.old writer.new result }
+{
+    let input = read_all(alloc, reader)?;
+    let output = last_answer(alloc, input)?;
+    write_all(writer, output.text.as_bytes())?;
+    Ok(output.verdict)
 }
 
 /// Answers a log: its first bad line, or its first fault, or the number of its facts.
