@@ -67,15 +67,19 @@ def summary_of(meaning):
     return b"\x10" + book_of(meaning) + wire.fields((meaning.anchor, 6)) + wire.listed(keys, 4)
 
 
-def delta_of(facts, has_discarded):
-    """What a node answers to the summary of an empty segment: pages at its anchor in place of records, where it has discarded some."""
-    meaning = meaning_of(facts)
-    records = [it for it in facts if isinstance(it, Record) and (meaning.is_alive(it) or meaning.is_waiting(it))]
-    base, pages = 0, []
-    if has_discarded:
-        base, records = meaning.anchor, meaning.kept
+def delta_of(facts, base, asked):
+    """What a node with this base point answers to the summary of a segment that has the facts `asked`: records that this one lacks, and
+    pages at the node's anchor where the node has discarded records above the other anchor."""
+    meaning, shown = meaning_of(facts), meaning_of(asked)
+    low, pages = min(meaning.anchor, shown.anchor), []
+    if base <= shown.anchor:
+        base = 0
+    else:
+        base = low = meaning.anchor
         pages = [wire.image_bytes(page, image) for page in range(PAGES) if any(image := meaning.page(page, base))]
-    records = [wire.record_bytes(it) for it in sorted(records, key=Record.key)]
+    records = [it for it in facts if isinstance(it, Record) and (meaning.is_waiting(it) or (meaning.is_alive(it) and it.number > low))]
+    keys = {it.key() for it in shown.kept}
+    records = [wire.record_bytes(it) for it in sorted(records, key=Record.key) if it.key() not in keys]
     return b"\x11" + book_of(meaning) + wire.fields((base, 6)) + wire.listed(pages, 4) + wire.listed(records, 4)
 
 
@@ -110,4 +114,6 @@ def request_bytes(letter, writers):
         return words(kind, *rest[:4], pair_of(rest[4]))
     if kind == "take":
         return under(*rest[:2], "take ") + wire.fact_bytes(fact_of(rest[2], writers))
-    return under(*rest, "answer ") + NOTHING if kind == "pull" else under(*rest, kind)
+    if kind == "pull":
+        return under(*rest[:2], "answer ") + summary_of(meaning_of(frozenset(fact_of(fact, writers) for fact in rest[2])))
+    return under(*rest, kind)

@@ -192,7 +192,7 @@ class Play:
         for page, read in enumerate(pages):
             need_same(f"page {page} of node {i}", read, b"page " + meaning.page(page, meaning.complete))
 
-    def answer_of(self, i, answer):
+    def answer_of(self, i, request, answer):
         """The frame of what a node of the model answers; None is the answer to what it takes plainly."""
         node, kind, rest = self.world.nodes[i], answer and answer[0], answer and answer[1:]
         if kind is None:
@@ -206,12 +206,12 @@ class Play:
         if kind == "front":
             return under(*rest[:2], kind, *rest[2:4], self.meaning(i).min)
         if kind == "pulled":
-            return under(*rest[:2], "delta ") + delta_of(self.facts_of(rest[2]), self.has_discarded(i))
+            return under(*rest[:2], "delta ") + delta_of(self.facts_of(rest[2]), self.base_of(i), self.facts_of(request[4]))
         return words(kind, *rest)
 
-    def has_discarded(self, i):
+    def base_of(self, i):
         state = self.nodes[i].ask(b"state").split(b" ")
-        return state[state.index(b"base") + 1] != b"0"
+        return int(state[state.index(b"base") + 1])
 
     # -- engines
 
@@ -280,7 +280,7 @@ class Play:
     def pass_on(self, i, request, fate, answers):
         """Compares the last answer with the model's, and lets the engine hear all of them, or keeps them for later."""
         answer, number = self.world.answer, request[1]
-        need_same(f"node {i} answers {request[0]}", answers[-1], self.answer_of(i, answer))
+        need_same(f"node {i} answers {request[0]}", answers[-1], self.answer_of(i, request, answer))
         if number >= 0 and fate == "heard":
             self.hear(number, i, answers)
         elif number >= 0 and fate == "late" and answer:

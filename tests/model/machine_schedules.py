@@ -7,9 +7,19 @@ from .volume_schedules import OPTIONS, SCHEDULES, Doubled, Random, Schedule
 class MachineSchedule(Schedule):
     kind = Machines
 
+    def give(self, engine, nodes, kind, *rest, **more):
+        """Of a quorum, the nodes that are asked already for what they have come first. Another one is asked as its connection breaks."""
+        if kind != "pull":
+            return super().give(engine, nodes, kind, *rest, **more)
+        for i in sorted(nodes, key=lambda i: not self.requests(engine, i, kind)):
+            asker = self.world.engines[engine]
+            if not self.requests(engine, i, kind) and asker.phase == "pull" and i in asker.quorum:
+                self.do("fail", engine, i)
+            super().give(engine, [i], kind, *rest, **more)
 
-class DoubledMachineSchedule(Doubled):
-    kind = Machines
+
+class DoubledMachineSchedule(Doubled, MachineSchedule):
+    pass
 
 
 class RandomMachines(Random):

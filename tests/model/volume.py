@@ -394,9 +394,15 @@ class World:
             self.send(i, ("pull", engine.number, generation, birth))
         if len(engine.births) >= (self.n - self.w + 1 if self.broken("fences_too_few") else self.w):
             engine.quorum, engine.phase = tuple(sorted(engine.births)), "pull"
-            for node in engine.quorum:
-                self.send(node, ("pull", engine.number, generation, engine.births[node]))
+            self.pull_quorum(engine, i)
             self.unite_if_whole(engine)
+
+    def pull_quorum(self, engine, _last):
+        for i in engine.quorum:
+            self.pull(engine, i)
+
+    def pull(self, engine, i):
+        self.send(i, ("pull", engine.number, engine.generation, engine.births[i]))
 
     def hear_pulled(self, engine, i, generation, birth, facts):
         early = engine.phase == "fence" and self.broken("asks_before_the_quorum_is_fenced") and i in engine.births
@@ -500,7 +506,7 @@ class World:
         if k > seen.k and i in engine.quorum:
             engine.pulls.pop(i)
             engine.phase = "pull"
-            self.send(i, ("pull", engine.number, engine.generation, engine.births[i]))
+            self.pull(engine, i)
         elif k == seen.k and complete >= engine.lo:
             engine.known.add(i)
             if len(engine.known) >= self.w:

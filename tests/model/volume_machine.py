@@ -9,6 +9,8 @@ Each choice is one that the model leaves open, since an engine may stop, and a m
 - A push is a question for the node's summary, and what the union has beyond that. The engine makes the second part only while it spreads
   that union; so a push whose second part was never made does nothing.
 - Where a connection breaks, the engine asks again.
+- The node that makes the quorum whole is asked first for what it has. Once it has answered, each node is asked for what it has beyond that:
+  the request names these facts.
 
 A letter is what the machine asks of a node, a part of a request of the model: ("ask", generation, birth), for one.
 """
@@ -41,7 +43,7 @@ class Machines(World):
     def __init__(self, **options):
         super().__init__(**options)
         self.did, self.answer = [], None
-        self.lost, self.filled, self.founders = {}, set(), {}
+        self.lost, self.filled, self.founders, self.asked = {}, set(), {}, {}
 
     # -- what the engines do
 
@@ -131,7 +133,13 @@ class Machines(World):
         elif engine.phase != "pull":
             self.bring(engine, i)
         elif i in engine.quorum and i not in engine.pulls:
-            self.send(i, ("pull", engine.number, engine.generation, engine.births[i]))
+            self.pull(engine, i)
+
+    def pull_quorum(self, engine, last):
+        self.pull(engine, last)
+
+    def pull(self, engine, i):
+        self.send(i, ("pull", engine.number, engine.generation, engine.births[i], self.asked.get(engine.number, frozenset())))
 
     # -- what an engine hears
 
@@ -182,6 +190,10 @@ class Machines(World):
     def hear_pulled(self, engine, i, generation, birth, facts):
         if i not in engine.pulls:
             super().hear_pulled(engine, i, generation, birth, facts)
+        if engine.phase == "pull" and engine.pulls and engine.number not in self.asked:
+            self.asked[engine.number] = frozenset(facts)
+            for node in sorted(engine.births):
+                self.pull(engine, node)
 
     def open(self, engine):
         super().open(engine)

@@ -18,7 +18,7 @@ use Rattle.volume.specs.declared.turns.Turn.{Turn}
 use Rattle.volume.specs.declared.turns.Turn.TheVariants as turn
 use Rattle.volume.specs.Settings.{SettingsData}
 use Rattle.volume.specs.Sets.{birth_at, count_marked, marks_of, no_nodes, no_births}
-use Rattle.volume.specs.Asking.{asks_from, query_to}
+use Rattle.volume.specs.Asking.{asks_at, query_to}
 use Rattle.volume.specs.Turning.{Stays, Enters, StopsWith}
 
 -- an opening in which nobody has answered
@@ -58,13 +58,14 @@ pub record BeginsOpening (s : SettingsData) (f : Fencing) (o : Opening) : Type 0
   pub fresh : o.fresh ≡ f.fresh
   pub union : o.union ≡ empty_state s.roster
   pub summary : Summarizes o.union o.summary
+  pub asked : o.asked ≡ None
   pub stage : o.stage ≡ stage.Pulling (marks_of f.births)
 
--- and only now is any of them asked for what it has
-abbrev pub PullsQuorum : SettingsData → Fencing → Turn → Type 0
-PullsQuorum s f (turn.Enter (phase.Opening o) actions) =
-    BeginsOpening s f o × (actions.items ≡ asks_from f.generation (Pull o.summary) 0 f.births)
-PullsQuorum s f other = ⊥
+-- and only now is any of them asked for what it has: the one that made the quorum whole
+abbrev pub PullsQuorum : SettingsData → Fencing → ℕ → ℕ → Turn → Type 0
+PullsQuorum s f node birth (turn.Enter (phase.Opening o) actions) =
+    BeginsOpening s f o × (actions.items ≡ asks_at f.generation (Pull o.summary) node (Some birth))
+PullsQuorum s f node birth other = ⊥
 
 -- ---- replies
 -- the opening where a node is fenced, and has accepted this truncation
@@ -81,7 +82,7 @@ abbrev pub HearsFenced : SettingsData → Fencing → ℕ → ℕ → Option Acc
 HearsFenced s old node birth accepted turn =
     let new = with_fenced old node birth accepted in
     (¬ (IsFencedQuorum s new.births) × Enters turn (phase.Fencing new) [])
-    ⊎ (IsFencedQuorum s new.births × PullsQuorum s new turn)
+    ⊎ (IsFencedQuorum s new.births × PullsQuorum s new node birth turn)
 
 -- the opening where a node is fresh
 abbrev pub with_fresh : Fencing → ℕ → ℕ → Fencing

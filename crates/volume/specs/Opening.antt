@@ -19,6 +19,7 @@ use Rattle.gossip_core.specs.Absorbing.{MeansBoth, Answers, AbsorbsInto, Refuses
 use Rattle.gossip_core.specs.declared.absorbing.AbsorbRefusal.{AbsorbRefusal}
 use Rattle.gossip_core.specs.declared.absorbing.AbsorbRefusal.TheVariants.{Refused as RefusedFor}
 use Rattle.gossip_core.specs.Replying.{FillsSummary, AnswersSummary}
+use Rattle.gossip_core.specs.Summarizing.{Summarizes}
 use Rattle.replica.specs.declared.replies.Reply.{Reply as SegmentReply}
 use Rattle.replica.specs.declared.replies.Reply.TheVariants as segment
 use Rattle.guard.specs.declared.replies.Reply.{Reply}
@@ -46,7 +47,7 @@ use Rattle.volume.specs.Turning.{Stays, StopsWith}
 -- ---- openings
 abbrev pub opened_with : Opening → Session → State → List (Option ℕ) → Stage → Opening
 opened_with o session union fresh stage =
-    record { session = session; pair = o.pair; fresh = fresh; union = union; summary = o.summary; stage = stage }
+    record { session = session; pair = o.pair; fresh = fresh; union = union; summary = o.summary; asked = o.asked; stage = stage }
 
 -- at another stage
 abbrev pub at_stage : Opening → Stage → Opening
@@ -72,10 +73,23 @@ ChangesNothing old new turn = Stays turn [] × (new ≡ old)
 abbrev pub IsQuorum : ℕ → List Bool → Type 0
 IsQuorum quorum nodes = quorum ≤ count_marked nodes
 
+-- with a union whose summary the nodes are asked with
+abbrev pub asking_with : Opening → State → SummaryData → Stage → Opening
+asking_with o union asked stage =
+    record { session = o.session; pair = o.pair; fresh = o.fresh; union = union; summary = o.summary; asked = Some asked; stage = stage }
+
+-- the summary that a node of the quorum is asked with
+abbrev pub asked_of : Option SummaryData → SummaryData → SummaryData
+asked_of None bare = bare
+asked_of (Some asked) bare = asked
+
+abbrev pub asked_with : Opening → SummaryData
+asked_with o = asked_of o.asked o.summary
+
 -- ---- what the quorum has
--- the union has what another segment has beyond the summary, which it covers
+-- the union has what another segment has beyond any summary that the union answers for, such as this one
 pub record GrowsBy (old : State) (summary : SummaryData) (delta : DeltaData) (new : State) : Type 0 where
-  pub means : MeansBoth old summary delta new
+  pub means : (made : SummaryData) → Answers old made → MeansBoth old made delta new
   pub answers : Answers old summary
   pub absorbs : AbsorbsInto old delta new
 
@@ -89,17 +103,24 @@ Plans old union new turn =
     ((plan : Plan) × IsPlan union old.pair plan × (new ≡ with_union old union (stage.Spreading plan no_nodes)) × Stays turn (to_each old errand.Ask))
     ⊎ ((fault : Fault) × IsPlanFault union fault × EndsAlone old new turn fault)
 
--- when none is left, the union is made known
+-- the nodes are asked for what they have beyond the union
+abbrev pub PullsOthers : Opening → List Bool → State → Opening → Turn → Type 0
+PullsOthers old left union new turn =
+    (asked : SummaryData) × Summarizes union asked × (new ≡ asking_with old union asked (stage.Pulling left))
+    × Stays turn (to_each old (errand.Pull asked))
+
+-- once the first has answered, the others are asked; when none is left, the union is made known
 abbrev pub GoesOnPulling : Opening → State → List Bool → Opening → Turn → Type 0
 GoesOnPulling old union left new turn =
-    ((0 < count_marked left) × (new ≡ with_union old union (stage.Pulling left)) × Stays turn [])
+    ((0 < count_marked left) × (old.asked ≡ None) × PullsOthers old left union new turn)
+    ⊎ ((0 < count_marked left) × (old.asked ≢ None) × (new ≡ with_union old union (stage.Pulling left)) × Stays turn [])
     ⊎ ((count_marked left ≡ 0) × Plans old union new turn)
 
 -- One of those that are left has answered what it has. What does not fit ends the opening.
 abbrev pub Pulls : Opening → ℕ → List Bool → DeltaData → Opening → Turn → Type 0
 Pulls old node left delta new turn =
-    (RefusesDelta old.union old.summary delta × EndsAlone old new turn Damaged)
-    ⊎ ((union : State) × GrowsBy old.union old.summary delta union × GoesOnPulling old union (slice_set left node false) new turn)
+    (RefusesDelta old.union (asked_with old) delta × EndsAlone old new turn Damaged)
+    ⊎ ((union : State) × GrowsBy old.union (asked_with old) delta union × GoesOnPulling old union (slice_set left node false) new turn)
 
 abbrev pub HearsDelta : Opening → Stage → ℕ → DeltaData → Opening → Turn → Type 0
 HearsDelta old (stage.Pulling left) node delta new turn =
@@ -131,12 +152,12 @@ HearsSummary old other node summary new turn = ChangesNothing old new turn
 abbrev pub IsKnownAt : Plan → Front → Type 0
 IsKnownAt plan front = (front.epoch + 1 ≡ plan.cut.epoch) × (plan.cut.lo ≤ front.complete)
 
--- a node of the quorum that has a later epoch is asked again for all that it has
+-- a node of the quorum that has a later epoch is asked again for what it has
 abbrev pub PullsAgain : Opening → ℕ → Opening → Turn → Type 0
 PullsAgain old node new turn =
     ((is_marked old.session.quorum node ≡ false) × ChangesNothing old new turn)
     ⊎ ((is_marked old.session.quorum node ≡ true) × (new ≡ at_stage old (stage.Pulling (slice_set no_nodes node true)))
-    × Stays turn (asks_at old.session.generation (errand.Pull old.summary) node (birth_at old.session.births node)))
+    × Stays turn (asks_at old.session.generation (errand.Pull (asked_with old)) node (birth_at old.session.births node)))
 
 -- what a fresh node must have reached is the front of the union, and it gets the greatest accepted truncation of the quorum
 abbrev pub joining_of : Opening → Front → Joining
@@ -272,7 +293,7 @@ HearsOpening quorum old node other new turn = ChangesNothing old new turn
 abbrev pub asks_again : Opening → Stage → ℕ → Option ℕ → List Action
 asks_again o s node None = query_to (Fence o.session.generation) node
 asks_again o (stage.Pulling left) node (Some birth) =
-    if is_marked left node then asks_at o.session.generation (errand.Pull o.summary) node (Some birth) else []
+    if is_marked left node then asks_at o.session.generation (errand.Pull (asked_with o)) node (Some birth) else []
 asks_again o other node (Some birth) = asks_in_stage o.session.generation other node (Some birth)
 
 abbrev pub retries_opening : Opening → Stage → ℕ → List Action

@@ -1,13 +1,13 @@
 ghost use Rattle.std.specs.Prelude.{◌≡◌, ◌↔◌, IsTrue, IfOk, IfSome, [], slice_set};
 ghost use Rattle.volume.specs.Asking.{queries_from};
 ghost use Rattle.volume.specs.Sets.{marks_of};
-ghost use Rattle.volume.specs.Fencing.{HearsFencing, HearsFenced, HearsStale, PullsQuorum, GoesOn, RetriesFencing};
+ghost use Rattle.volume.specs.Fencing.{HearsFencing, HearsFenced, HearsStale, BeginsOpening, GoesOn, RetriesFencing};
 ghost use Rattle.volume.specs.Fencing.{IsGreatestPair, IsLaterPair, new_fencing, with_fresh};
 ghost use Rattle.volume.specs.declared.errands.Query.TheVariants.{Fence as AsksFence};
 ghost use Rattle.volume.specs.declared.phases.Phase.TheVariants.{Fencing as IsFencing};
 
 use crate::actions::{Action, Fault};
-use crate::errands::{Errand, Query, ask_each, query_each, query_one};
+use crate::errands::{Errand, Query, ask_one, query_each, query_one};
 use crate::phases::{Opening, Phase, Session, Stage};
 use crate::sets::{count, entry_of, mark, nodes_with_entry, put_entry, unmark};
 use crate::settings::Settings;
@@ -99,36 +99,38 @@ fn hear_fenced(
     if count(&quorum) < settings.quorum() {
         return Ok(Turn::Enter(Phase::Fencing(next), Vec::new(alloc)));
     }
-    pull_quorum(alloc, settings, &next, quorum)
+    let opening = gather(alloc, settings, &next, quorum)?;
+    let errand = Errand::Pull(opening.summary.copy()?);
+    let actions = ask_one(alloc, next.generation, node, Some(birth), &errand)?;
+    Ok(Turn::Enter(Phase::Opening(opening), actions))
 }
 
-/// Asks each node of the quorum for what it has.
-fn pull_quorum(
+/// The opening with these nodes as its quorum. None of them has answered what it has.
+fn gather(
     alloc: Global,
     settings: &Settings,
     fencing: &Fencing,
     quorum: [bool; 15],
-) -> Result<Turn, AllocError>
+) -> Result<Opening, AllocError>
     requires { quorum ≡ marks_of fencing.now.births }
-    ensures { IfOk result (PullsQuorum settings.now fencing.now) }
+    ensures { IfOk result (BeginsOpening settings.now fencing.now) }
 {
     let union = Segment::new(alloc, settings.roster())?;
-    let asked = summary(&union)?;
-    let errand = Errand::Pull(asked.copy()?);
-    let actions = ask_each(alloc, fencing.generation, &fencing.births, &errand)?;
-    let opening = Opening {
-        session: Session {
-            generation: fencing.generation,
-            births: fencing.births,
-            quorum,
-        },
+    let summary = summary(&union)?;
+    let session = Session {
+        generation: fencing.generation,
+        births: fencing.births,
+        quorum,
+    };
+    Ok(Opening {
+        session,
         pair: greatest(&fencing.pairs),
         fresh: fencing.fresh,
         union,
-        summary: asked,
+        summary,
+        asked: None,
         stage: Stage::Pulling { left: quorum },
-    };
-    Ok(Turn::Enter(Phase::Opening(opening), actions))
+    })
 }
 
 /// Hears that a node is fresh: it is in no quorum, and this opening may admit it.

@@ -209,7 +209,7 @@ pub(crate) fn retry_opening(
             if !has(left, node) {
                 return Ok(Vec::new(alloc));
             }
-            let errand = Errand::Pull(opening.summary.copy()?);
+            let errand = Errand::Pull(opening.asked().copy()?);
             ask_one(alloc, generation, node, birth, &errand)
         }
         stage => ask_stage(alloc, &opening.session, stage, node),

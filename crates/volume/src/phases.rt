@@ -39,8 +39,10 @@ pub struct Opening {
     pub fresh: [Option<u64>; 15],
     /// What the nodes of the quorum have together, as far as they have answered.
     pub union: Segment,
-    /// The summary of a segment that nothing has reached: each node is asked for all that it has.
+    /// The summary of a segment that nothing has reached: a fresh node gets all that the union has.
     pub summary: Summary,
+    /// The summary of the union when the first node of the quorum had answered. The others are asked for what they have beyond it.
+    pub asked: Option<Summary>,
     pub stage: Stage,
 }
 

@@ -1,7 +1,7 @@
 ghost use Rattle.std.specs.Prelude.{◌≡◌, ◌↔◌, ◌++◌, IsTrue, IfOk, IfSome, IfNone, OnErr, None, Ok, MatchOption};
 ghost use Rattle.gossip_core.specs.declared.absorbing.AbsorbRefusal.TheVariants.{Refused as RefusedFor};
 ghost use Rattle.segment_core.specs.declared.answers.Refusal.TheVariants.{Memory as IsMemory};
-ghost use Rattle.volume.specs.Opening.{HearsDelta, Pulls, GrowsBy, Plans, HearsSummary, Pushes, HearsKnown, Knows, PullsAgain, ProposesPlan, AdmitsFresh, FillsFor};
+ghost use Rattle.volume.specs.Opening.{asked_with, HearsDelta, Pulls, PullsOthers, GrowsBy, Plans, HearsSummary, Pushes, HearsKnown, Knows, PullsAgain, ProposesPlan, AdmitsFresh, FillsFor};
 ghost use Rattle.volume.specs.Opening.{RefusesDelta, BreaksChain};
 
 use crate::actions::{Action, Fault};
@@ -10,10 +10,22 @@ use crate::phases::{Opening, Session, Stage};
 use crate::plans::{Plan, plan_for};
 use crate::sets::{count, entry_of, has, mark, nodes_with_entry, unmark};
 use crate::turns::{Turn, end, nothing};
-use gossip_core::{AbsorbRefusal, absorb, reply};
+use gossip_core::{AbsorbRefusal, absorb, reply, summary};
 use messages::{Delta, Summary};
 use segment_core::{Front, ReadFault, Refusal, Segment};
 use std::alloc::{AllocError, Global};
+
+impl Opening {
+    /// The summary that a node of the quorum is asked with.
+    pub(crate) fn asked(&self) -> &Summary
+        ensures { result.now ≡ asked_with self.now }
+    {
+        match &self.asked {
+            Some(asked) => asked,
+            None => &self.summary,
+        }
+    }
+}
 
 /// Hears what a node of the quorum has.
 pub(crate) fn hear_delta(
@@ -45,24 +57,52 @@ fn pull(
     ensures pulls { IfOk result (Pulls opening.old node left delta.now opening.new) }
     ensures unchanged { OnErr result (opening.new ≡ opening.old) }
 {
-    let Some(union) = grown(&opening.union, &opening.summary, delta)? else {
+    let Some(union) = grown(&opening.union, opening.asked(), delta)? else {
         return end(alloc, Fault::Damaged);
     };
     let mut left = left;
     unmark(&mut left, node);
-    if count(&left) > 0 {
-        opening.union = union;
-        opening.stage = Stage::Pulling { left };
-        return Ok(nothing(alloc));
+    if count(&left) == 0 {
+        return settle(alloc, opening, union);
     }
-    settle(alloc, opening, union)
+    if opening.asked.is_none() {
+        return pull_others(alloc, opening, left, union);
+    }
+    opening.union = union;
+    opening.stage = Stage::Pulling { left };
+    Ok(nothing(alloc))
 }
 
-/// The union with what another segment has beyond the summary, or None where that does not fit.
+/// Asks the nodes for what they have beyond the union, which has what the first of them has.
+fn pull_others(
+    alloc: Global,
+    opening: &mut Opening,
+    left: [bool; 15],
+    union: Segment,
+) -> Result<Turn, AllocError>
+    ensures asks { IfOk result (PullsOthers opening.old left union opening.new) }
+    ensures unchanged { OnErr result (opening.new ≡ opening.old) }
+{
+    let asked = summary(&union)?;
+    let errand = Errand::Pull(asked.copy()?);
+    let Session {
+        generation,
+        births,
+        ..
+    } = opening.session;
+    let actions = ask_each(alloc, generation, &births, &errand)?;
+    opening.union = union;
+    opening.asked = Some(asked);
+    opening.stage = Stage::Pulling { left };
+    Ok(Turn::Stay(actions))
+}
+
+/// The union with what another segment has beyond a summary that the union answers for, or None where that does not fit.
 fn grown(union: &Segment, summary: &Summary, delta: &Delta) -> Result<Option<Segment>, AllocError>
     ensures grows { IfOk result (λ o. IfSome o (GrowsBy union.now summary.now delta.now)) }
     ensures refuses { IfOk result (λ o. IfNone o (RefusesDelta union.now summary.now delta.now)) }
 {
+    delta.opens_form();
     let mut union = union.copy()?;
     match absorb(&mut union, summary, delta) {
         Ok(()) => Ok(Some(union)),
@@ -202,7 +242,7 @@ fn pull_again(alloc: Global, opening: &mut Opening, node: u8) -> Result<Turn, Al
     if !has(&opening.session.quorum, node) {
         return Ok(nothing(alloc));
     }
-    let errand = Errand::Pull(opening.summary.copy()?);
+    let errand = Errand::Pull(opening.asked().copy()?);
     let birth = entry_of(&opening.session.births, node);
     let actions = ask_one(alloc, opening.session.generation, node, birth, &errand)?;
     let mut left = [false; 15];

@@ -26,6 +26,7 @@ use Rattle.volume_engines.specs.World.{HasGuards}
 use Rattle.volume_engines.specs.Engines.{Gathers}
 use Rattle.volume_engines.proofs.Tables.{marked_has, has_marked, marked_below}
 use Rattle.volume_engines.proofs.Admissions.{KnowsFresh}
+use Rattle.volume_engines.proofs.Bare.{bare_of}
 use Rattle.volume_engines.proofs.Knowing.{pair_at, IsFencedAs, KnowsTable, KnowsSession, KnowsUnion, KnowsStage, KnowsOpening}
 
 size_same : (n : ℕ) (f g : ℕ → Bool) → ((i : ℕ) → f i ≡ g i) → size_below n f ≡ size_below n g
@@ -155,5 +156,6 @@ module _ (run : VolumeRun) (h : History) (stop : ℕ) (content : ReplicaData →
     best = best;
     fresh = subst (λ (xs : List (Option ℕ)). KnowsFresh run (run.engines e).gathered xs) (sym begins.fresh)
         (subst (λ (t : ℕ). KnowsFresh run t f.fresh) (sym names.gathered) fresh);
+    bare = bare_of s.roster o.union o.summary begins.union begins.summary;
     at = subst (λ (st : Stage). KnowsStage run h e (life.moments n) o.union o.pair st) (sym begins.stage) union;
   }

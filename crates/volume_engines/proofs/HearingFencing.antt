@@ -1,5 +1,5 @@
 -- A step before a quorum is fenced.
-use Rattle.std.proofs.Common.{◌≡◌, ℕ, suc, ◌-◌, ◌<◌, ◌≤◌, ⊎_elim, List, [], Option, IsTrue, refl, sym, ◌∙◌, subst, ap, arith}
+use Rattle.std.proofs.Common.{◌≡◌, ℕ, suc, ◌-◌, ◌<◌, ◌≤◌, ⊎_elim, inl, List, [], Option, Some, IsTrue, refl, sym, ◌∙◌, subst, ap, arith}
 use Rattle.replica.specs.Parts.{ReplicaData}
 use Rattle.guard.specs.declared.requests.AcceptedCut.{AcceptedCut}
 use Rattle.guard.specs.declared.replies.Reply.{Reply}
@@ -27,7 +27,7 @@ use Rattle.volume_logs.specs.Histories.{History}
 use Rattle.volume_engines.specs.Lives.{Life, Guards, WasGiven}
 use Rattle.volume_engines.specs.Engines.{fenced_at, fenced_by, Gathers}
 use Rattle.volume_engines.specs.Proposals.{IsLifeIn}
-use Rattle.volume_engines.proofs.Sending.{AllRight, to_each, query_one}
+use Rattle.volume_engines.proofs.Sending.{AllRight, to_one, query_one}
 use Rattle.volume_engines.proofs.Admissions.{WasOut, fresh_later, fresh_without, fresh_with}
 use Rattle.volume_engines.proofs.Replies.{fenced_says, fresh_says}
 use Rattle.volume_engines.proofs.Knowing.{IsFencedAs, KnowsFencing, Allowed, LeavesTurn}
@@ -91,25 +91,25 @@ module _ (run : VolumeRun) (h : History) (stop : ℕ) (content : ReplicaData →
       (λ off. when_stops run h guards e life (suc n) (phase.Fencing f) (phase.Fencing f) t (NoQuorum (s.nodes - count_marked g.lost) s.quorum) off.1)
       says
 
-  pulls : (f new : Fencing) (t : Turn) → KnowsFencing run guards e life (suc n) new → IsFencedQuorum s new.births
-      → ((o : Opening) → EntersOpening t o → Gathers life (suc n) o (run.engines e)) → PullsQuorum s new t → Left f t
-  pulls f new (turn.Enter (phase.Opening o) actions) k enough names says =
+  pulls : (f new : Fencing) (node birth : ℕ) (t : Turn) → KnowsFencing run guards e life (suc n) new → IsFencedQuorum s new.births
+      → ((o : Opening) → EntersOpening t o → Gathers life (suc n) o (run.engines e)) → PullsQuorum s new node birth t → Left f t
+  pulls f new node birth (turn.Enter (phase.Opening o) actions) k enough names says =
       let asks : AllRight run h e (Allowed (phase.Opening o)) (life.moments (suc n)) actions.items =
       subst (λ (xs : List Action). AllRight run h e (Allowed (phase.Opening o)) (life.moments (suc n)) xs) (sym says.1)
-      (to_each run h e (Allowed (phase.Opening o)) (life.moments (suc n)) 0 new.generation (is.names.generation ∙ sym k.generation) new.births (Pull o.summary)
-      (refl, let at : (run.engines e).gathered ≡ life.moments (suc n) = (names o refl).gathered in omega arith)) in
+      (to_one run h e (Allowed (phase.Opening o)) (life.moments (suc n)) node new.generation (is.names.generation ∙ sym k.generation) (Some birth) (Pull o.summary)
+      (inl refl, let at : (run.engines e).gathered ≡ life.moments (suc n) = (names o refl).gathered in omega arith)) in
       record {
         knows = begins_knowing run h stop content guards e life (suc n) s new o is.follows.overlap is.guarded (is.upto (suc n) step) quorum readers
             k.generation k.table k.fresh enough says.0 (names o refl);
         right = asks;
         wider = λ x no. absurd no;
       }
-  pulls f new (turn.Enter phase.Idle actions) k enough names says = absurd says
-  pulls f new (turn.Enter (phase.Creating c) actions) k enough names says = absurd says
-  pulls f new (turn.Enter (phase.Fencing g) actions) k enough names says = absurd says
-  pulls f new (turn.Enter (phase.Open w) actions) k enough names says = absurd says
-  pulls f new (turn.Stay actions) k enough names says = absurd says
-  pulls f new (turn.End actions) k enough names says = absurd says
+  pulls f new node birth (turn.Enter phase.Idle actions) k enough names says = absurd says
+  pulls f new node birth (turn.Enter (phase.Creating c) actions) k enough names says = absurd says
+  pulls f new node birth (turn.Enter (phase.Fencing g) actions) k enough names says = absurd says
+  pulls f new node birth (turn.Enter (phase.Open w) actions) k enough names says = absurd says
+  pulls f new node birth (turn.Stay actions) k enough names says = absurd says
+  pulls f new node birth (turn.End actions) k enough names says = absurd says
 
   hears_fenced : (f : Fencing) (node generation birth : ℕ) (accepted : Option AcceptedCut) (t : Turn) → node < s.nodes
       → life.events (suc n) ≡ event.Answered node (reply.Fenced generation birth accepted)
@@ -141,7 +141,7 @@ module _ (run : VolumeRun) (h : History) (stop : ℕ) (content : ReplicaData →
       ⊎_elim
       (λ few. when_enters run h guards e life (suc n) (phase.Fencing f) (phase.Fencing f) t (phase.Fencing (with_fenced f node birth accepted)) [] few.1
       (record { knows = known; right = tt; wider = λ x no. no }))
-      (λ enough. pulls f (with_fenced f node birth accepted) t known enough.0 names enough.1)
+      (λ enough. pulls f (with_fenced f node birth accepted) node birth t known enough.0 names enough.1)
       says
 
   pub hears_fencing : (f : Fencing) (node : ℕ) (told : Reply) (t : Turn) → node < s.nodes → life.events (suc n) ≡ event.Answered node told

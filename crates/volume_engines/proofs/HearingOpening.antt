@@ -1,5 +1,5 @@
 -- A step of an opening after a quorum is fenced.
-use Rattle.std.proofs.Common.{◌≡◌, ◌≢◌, ℕ, suc, ◌<◌, ◌≤◌, ⊎_elim, inl, List, [], ◌∷◌, ◌++◌, Bool, true, false, Option, Some, None, refl, sym, ◌∙◌, subst, ap, arith, length-set}
+use Rattle.std.proofs.Common.{◌≡◌, ◌≢◌, ℕ, suc, ◌<◌, ◌≤◌, ⊎_elim, inl, inr, List, [], ◌∷◌, ◌++◌, Bool, true, false, Option, Some, None, refl, sym, ◌∙◌, subst, ap, arith, length-set}
 use Rattle.std.specs.Prelude.{slice_set, if◌then◌else◌}
 use Rattle.std.specs.List.{Contains}
 use Rattle.std.proofs.lemmas.List.Elements.{Contains-append_left, Contains-append_right}
@@ -12,7 +12,7 @@ use Rattle.messages.specs.Deltas.{DeltaData}
 use Rattle.segment_theorems.specs.State.{State}
 use Rattle.segment_theorems.specs.Means.{Means}
 use Rattle.segment_core.specs.declared.answers.Front.{Front}
-use Rattle.gossip_core.specs.Replying.{FillsSummary}
+use Rattle.gossip_core.specs.Absorbing.{Answers}
 use Rattle.replica.specs.declared.replies.Reply.{Reply as SegmentReply}
 use Rattle.replica.specs.declared.replies.Reply.TheVariants as told
 use Rattle.replica.specs.Parts.{ReplicaData}
@@ -32,7 +32,7 @@ use Rattle.volume.specs.declared.phases.Stage.TheVariants as stage
 use Rattle.volume.specs.declared.plans.Plan.{Plan}
 use Rattle.volume.specs.declared.turns.Turn.{Turn}
 use Rattle.volume.specs.declared.turns.Turn.TheVariants as turn
-use Rattle.volume.specs.Opening.{opened_with, at_stage, with_union, to_each, EndsAlone, ChangesNothing, IsQuorum, GrowsBy, Plans, GoesOnPulling, HearsDelta, HearsSummary, IsKnownAt, PullsAgain, joining_of, AdmitsFresh, ProposesPlan, Knows, HearsAccepted, BeginsEpoch, HearsFront, HearsHeaded, asks_in_stage, HearsLate, HearsLost, HearsOpening, asks_again, retries_opening}
+use Rattle.volume.specs.Opening.{opened_with, asking_with, asked_of, asked_with, at_stage, with_union, to_each, EndsAlone, ChangesNothing, IsQuorum, GrowsBy, Plans, PullsOthers, GoesOnPulling, HearsDelta, HearsSummary, IsKnownAt, PullsAgain, joining_of, AdmitsFresh, ProposesPlan, Knows, HearsAccepted, BeginsEpoch, HearsFront, HearsHeaded, asks_in_stage, HearsLate, HearsLost, HearsOpening, asks_again, retries_opening}
 use Rattle.volume.specs.Resuming.{IsOpened, OpensVolume}
 use Rattle.volume.specs.Sessions.{IsOwn, with_birth}
 use Rattle.volume.specs.Sets.{birth_at, is_marked, count_marked, no_nodes, no_births}
@@ -53,10 +53,11 @@ use Rattle.volume_engines.specs.Proposals.{IsLifeIn}
 use Rattle.volume_engines.proofs.Tables.{at_or_not, put_elsewhere, count_zero, none_marked, marked_more}
 use Rattle.volume_engines.proofs.Sending.{IsOwnProposal, IsOwnGeneration, HasOpenedAt, RightAction, AllRight, all_append, joins_each, to_one, query_one}
 use Rattle.volume_engines.proofs.Sending.{to_each as each_node}
+use Rattle.volume_engines.proofs.Bare.{bare_answered}
 use Rattle.volume_engines.proofs.Admissions.{IsAdmission, joining_as, none_fresh}
 use Rattle.volume_engines.proofs.Admitting.{admits}
 use Rattle.volume_engines.proofs.Shown.{delta_says}
-use Rattle.volume_engines.proofs.Knowing.{KnowsSession, HasGiven, KnowsUnion, IsKnown, AreKnown, HaveAccepted, HasVotes, KnowsStage, KnowsOpening, Allowed, LeavesTurn}
+use Rattle.volume_engines.proofs.Knowing.{KnowsSession, HasGiven, KnowsUnion, IsKnown, AreKnown, HaveAccepted, HasVotes, KnowsStage, KnowsOpening, Allowed, Wider, LeavesTurn}
 use Rattle.volume_engines.proofs.Turning.{when_stays, when_stops}
 use Rattle.volume_engines.proofs.Later.{means_later, given_later}
 use Rattle.volume_engines.proofs.Heard.{IsHeard, heard, own_part, own_content, own_shown, own_known}
@@ -116,22 +117,31 @@ module _ (run : VolumeRun) (h : History) (stop : ℕ) (content : ReplicaData →
   upto : life.moments n ≤ stop
   upto = is.upto n step
 
+  -- what nodes are asked with is allowed
+  asked_is : (a : Option SummaryData) → old.asked ≡ a → Q (asked_of a old.summary)
+  asked_is None at = inl refl
+  asked_is (Some s) at = inr at
+
   -- ---- what a turn leaves
-  goes_to : (new o : Opening) (t : Turn) (asked : List Action) → new ≡ o → o.summary ≡ old.summary → KnowsOpening run h guards e life T o
+  goes_to : (new o : Opening) (t : Turn) (asked : List Action) → new ≡ o → Wider (phase.Opening old) (phase.Opening o) → KnowsOpening run h guards e life T o
       → AllRight run h e (Allowed (phase.Opening o)) T asked → Stays t asked → Left new t
-  goes_to new o t asked same summary knows right stays =
+  goes_to new o t asked same wider knows right stays =
       subst (λ (x : Opening). Left x t) (sym same)
       (when_stays run h guards e life n (phase.Opening old) (phase.Opening o) t asked stays
-      (record { knows = knows; right = right; wider = λ s own. own ∙ sym summary }))
+      (record { knows = knows; right = right; wider = wider }))
+
+  -- a step that changes neither the summary nor what the others are asked with
+  as_before : (s : SummaryData) → Q s → Q s
+  as_before s own = own
 
   idle : (new : Opening) (t : Turn) → ChangesNothing old new t → Left new t
-  idle new t says = goes_to new old t [] says.1 refl k tt says.0
+  idle new t says = goes_to new old t [] says.1 as_before k tt says.0
 
   ends : (new : Opening) (t : Turn) (f : Fault) → EndsAlone old new t f → Left new t
   ends new t f says = when_stops run h guards e life n (phase.Opening old) (phase.Opening new) t f says.0
 
   knows_on : (u : State) (st : Stage) → KnowsStage run h e T u old.pair st → KnowsOpening run h guards e life T (opened_with old old.session u old.fresh st)
-  knows_on u st at = record { session = k.session; best = k.best; fresh = k.fresh; at = at }
+  knows_on u st at = record { session = k.session; best = k.best; fresh = k.fresh; bare = k.bare; at = at }
 
   unmarked : (i : ℕ) → is_marked [] i ≡ true → ⊥
   unmarked i marked = let no : false ≡ true = marked in absurd (cc)
@@ -147,15 +157,31 @@ module _ (run : VolumeRun) (h : History) (stop : ℕ) (content : ReplicaData →
   plans u new t un says = ⊎_elim
       (λ plan.
       let knows : AreKnown run h e T plan.0 no_nodes = λ i marked. absurd (none_marked i marked) in
-      goes_to new (with_union old u (stage.Spreading plan.0 no_nodes)) t (to_each old errand.Ask) plan.2 refl
+      goes_to new (with_union old u (stage.Spreading plan.0 no_nodes)) t (to_each old errand.Ask) plan.2 as_before
       (knows_on u (stage.Spreading plan.0 no_nodes) (un, plan.1, knows))
       (each_node run h e Q T 0 old.session.generation mine old.session.births errand.Ask tt) plan.3)
       (λ fault. ends new t fault.0 fault.2)
       says
 
+  pulls_others : (u : State) (left : List Bool) (new : Opening) (t : Turn) → KnowsUnion run h e T u left → old.asked ≡ None → PullsOthers old left u new t
+      → Left new t
+  pulls_others u left new t un none says =
+      let asked : SummaryData = says.0 in
+      let next : Opening = asking_with old u asked (stage.Pulling left) in
+      goes_to new next t (to_each old (errand.Pull asked)) says.2
+      (λ s own. ⊎_elim
+      (λ (bare : s ≡ old.summary). inl bare)
+      (λ (some : old.asked ≡ Some s). let no : None ≡ Some s = sym none ∙ some in absurd (cc))
+      own)
+      (record { session = k.session; best = k.best; fresh = k.fresh; bare = k.bare; at = un })
+      (each_node run h e (Allowed (phase.Opening next)) T 0 old.session.generation mine old.session.births (errand.Pull asked) (inr refl, k.session.upto))
+      says.3
+
   goes_on_pulling : (u : State) (left : List Bool) (new : Opening) (t : Turn) → KnowsUnion run h e T u left → GoesOnPulling old u left new t → Left new t
   goes_on_pulling u left new t un says = ⊎_elim
-      (λ more. goes_to new (with_union old u (stage.Pulling left)) t [] more.1 refl (knows_on u (stage.Pulling left) un) tt more.2)
+      (λ first. pulls_others u left new t un first.1 first.2)
+      (λ rest. ⊎_elim
+      (λ more. goes_to new (with_union old u (stage.Pulling left)) t [] more.2 as_before (knows_on u (stage.Pulling left) un) tt more.3)
       (λ all.
       let whole : KnowsUnion run h e T u [] = record {
         facts = un.facts;
@@ -163,12 +189,22 @@ module _ (run : VolumeRun) (h : History) (stop : ℕ) (content : ReplicaData →
         given = λ i among no. un.given i among (count_zero left all.0 i);
       } in
       plans u new t whole all.1)
+      rest)
       says
 
   -- ---- deltas
+  -- the union answers for each summary that nodes are asked with
+  answers_each : Answers old.union (asked_with old) → (s : SummaryData) → Q s → Answers old.union s
+  answers_each answers s own = ⊎_elim
+      (λ (bare : s ≡ old.summary).
+      subst (λ (x : SummaryData). Answers old.union x) (sym bare) (bare_answered old.union answers.0 old.summary answers.1 k.bare))
+      (λ (some : old.asked ≡ Some s).
+      subst (λ (x : SummaryData). Answers old.union x) (ap (λ (a : Option SummaryData). asked_of a old.summary) some) answers)
+      own
+
   module _ (node generation birth : ℕ) (own : IsOwn old.session node generation birth) where
     pulled : (left : List Bool) (delta : DeltaData) (u : State) → IsHeard run guards e life n Q node generation birth (told.Delta delta)
-        → KnowsUnion run h e T old.union left → GrowsBy old.union old.summary delta u → KnowsUnion run h e T u (slice_set left node false)
+        → KnowsUnion run h e T old.union left → GrowsBy old.union (asked_with old) delta u → KnowsUnion run h e T u (slice_set left node false)
     pulled left delta u x un grows =
         let p : ℕ = life.given n in
         let early : p < life.moments n = x.before in
@@ -179,16 +215,15 @@ module _ (run : VolumeRun) (h : History) (stop : ℕ) (content : ReplicaData →
         let inner : IsPart (log_at h p) (log_at h T) = at_later run h stop is.emitted p T (omega arith) upto in
         let means : Means h.readers (log_at h T) hold.part (guards p node).replica.cached.segment =
         means_later h.readers (log_at h p) (log_at h T) hold.part (guards p node).replica.cached.segment inner hold.means in
-        let fills : FillsSummary (guards p node).replica.cached.segment old.summary delta =
-        subst (λ (s : SummaryData). FillsSummary (guards p node).replica.cached.segment s delta) says.own says.fills in
+        let answers : Answers old.union says.summary = answers_each grows.answers says.summary says.own in
         record {
           facts = un.facts ++ hold.part;
-          means = grows.means h.readers (log_at h T) un.facts hold.part un.means.0 means.0 (record {
+          means = grows.means says.summary answers h.readers (log_at h T) un.facts hold.part un.means.0 means.0 (record {
             sound = sound;
             means = un.means.1;
             part = means.1.part;
             position = means.1.position;
-            fills = fills h.readers (log_at h T) hold.part means.0 sound means.1;
+            fills = says.fills h.readers (log_at h T) hold.part means.0 sound means.1;
           });
           given = λ i among no. ⊎_elim
               (λ (here : i ≡ node).
@@ -232,7 +267,7 @@ module _ (run : VolumeRun) (h : History) (stop : ℕ) (content : ReplicaData →
   hears_summary (stage.Spreading plan known) node summary new t at says = ⊎_elim
       (λ damaged. ends new t Damaged damaged.1)
       (λ fills.
-      goes_to new old t _ fills.2 refl k
+      goes_to new old t _ fills.2 as_before k
       (to_one run h e Q T node old.session.generation mine (birth_at old.session.births node) (errand.Push summary fills.0) (asked_all old.union at.0)) fills.3)
       says
   hears_summary (stage.Pulling left) node summary new t at says = idle new t says
@@ -268,7 +303,7 @@ module _ (run : VolumeRun) (h : History) (stop : ℕ) (content : ReplicaData →
       plan_proposed run h stop content guards e T old plan known is.follows is.emitted is.guarded upto k.best at.0
       (subst (λ (m : ℕ). m ≤ count_marked known) q_is enough) at.2 named k.session.gathered at.1 in
       let none : HaveAccepted run e T plan.cut.epoch no_nodes = λ i marked. absurd (none_marked i marked) in
-      goes_to new next t _ sends.2 refl (record { session = k.session; best = k.best; fresh = none_fresh run (run.engines e).gathered; at = (at.0, own, none, named) })
+      goes_to new next t _ sends.2 as_before (record { session = k.session; best = k.best; fresh = none_fresh run (run.engines e).gathered; bare = k.bare; at = (at.0, own, none, named) })
       (all_append (RightAction run h e Q T) sends.0 (to_each old (errand.Propose plan.cut)) (joins_right next sends.0 at.0 sends.1)
       (each_node run h e Q T 0 old.session.generation mine old.session.births (errand.Propose plan.cut) own))
       sends.3)
@@ -281,8 +316,8 @@ module _ (run : VolumeRun) (h : History) (stop : ℕ) (content : ReplicaData →
       let left : List Bool = slice_set no_nodes node true in
       let part : KnowsUnion run h e T old.union left =
       record { facts = un.facts; means = un.means; given = λ i among no. un.given i among (unmarked i) } in
-      goes_to new (at_stage old (stage.Pulling left)) t _ again.1 refl (knows_on old.union (stage.Pulling left) part)
-      (to_one run h e Q T node old.session.generation mine (birth_at old.session.births node) (errand.Pull old.summary) (refl, k.session.upto)) again.2)
+      goes_to new (at_stage old (stage.Pulling left)) t _ again.1 as_before (knows_on old.union (stage.Pulling left) part)
+      (to_one run h e Q T node old.session.generation mine (birth_at old.session.births node) (errand.Pull (asked_with old)) (asked_is old.asked refl, k.session.upto)) again.2)
       says
 
   -- ---- the volume is open
@@ -318,7 +353,7 @@ module _ (run : VolumeRun) (h : History) (stop : ℕ) (content : ReplicaData →
         (λ (before : is_marked known i ≡ true). at.2 i before)
         (marked_more known node i marked) in
         ⊎_elim
-        (λ few. goes_to new (at_stage old (stage.Spreading plan (slice_set known node true))) t [] few.1 refl
+        (λ few. goes_to new (at_stage old (stage.Spreading plan (slice_set known node true))) t [] few.1 as_before
         (knows_on old.union (stage.Spreading plan (slice_set known node true)) (at.0, at.1, all)) tt few.2)
         (λ enough. proposes plan (slice_set known node true) new t names enough.0 (at.0, at.1, all) enough.1)
         says
@@ -357,7 +392,7 @@ module _ (run : VolumeRun) (h : History) (stop : ℕ) (content : ReplicaData →
     hears_front (stage.Taking plan reported) front new t x names at says = ⊎_elim
         (λ no. idle new t no.1)
         (λ yes. ⊎_elim
-        (λ few. goes_to new (at_stage old (stage.Taking plan (slice_set reported node true))) t [] few.1 refl
+        (λ few. goes_to new (at_stage old (stage.Taking plan (slice_set reported node true))) t [] few.1 as_before
         (knows_on old.union (stage.Taking plan (slice_set reported node true)) at) tt few.2)
         (λ enough. begins_epoch plan (slice_set reported node true) new t at enough.1)
         yes.1)
@@ -390,13 +425,13 @@ module _ (run : VolumeRun) (h : History) (stop : ℕ) (content : ReplicaData →
       (λ (before : is_marked accepted i ≡ true). at.2 i before)
       (marked_more accepted node i marked) in
       ⊎_elim
-      (λ few. goes_to new (at_stage old (stage.Proposing plan after)) t [] few.1 refl
+      (λ few. goes_to new (at_stage old (stage.Proposing plan after)) t [] few.1 as_before
       (knows_on old.union (stage.Proposing plan after) (at.0, at.1, all, at.3)) tt few.2)
       (λ enough.
       let votes : HasVotes run e T plan.cut.epoch =
       many_marked run after (λ i. (s : ℕ) × (s < T) × MakesMove run s i (AcceptsCut e plan.cut.epoch))
       (subst (λ (m : ℕ). m ≤ count_marked after) q_is enough.0) all in
-      goes_to new (at_stage old (stage.Taking plan no_nodes)) t _ enough.1 refl
+      goes_to new (at_stage old (stage.Taking plan no_nodes)) t _ enough.1 as_before
       (knows_on old.union (stage.Taking plan no_nodes) (at.0, at.1, votes, at.3))
       (each_node run h e Q T 0 old.session.generation mine old.session.births (errand.Begin plan.cut)
       (asked_all old.union at.0, sent_plan run e T plan at.3 votes)) enough.2)
@@ -433,8 +468,8 @@ module _ (run : VolumeRun) (h : History) (stop : ℕ) (content : ReplicaData →
   hears_late node generation birth new t says = ⊎_elim
       (λ no. idle new t no.1)
       (λ late.
-      goes_to new (opened_with old (with_birth old.session node birth) old.union old.fresh old.stage) t _ late.1 refl
-      (record { session = late_session node birth late.0.1; best = k.best; fresh = k.fresh; at = k.at })
+      goes_to new (opened_with old (with_birth old.session node birth) old.union old.fresh old.stage) t _ late.1 as_before
+      (record { session = late_session node birth late.0.1; best = k.best; fresh = k.fresh; bare = k.bare; at = k.at })
       (stage_asks old.union old.stage generation node (birth_at (with_birth old.session node birth).births node) (mine ∙ sym late.0.0) k.at) late.2)
       says
 
@@ -474,11 +509,11 @@ module _ (run : VolumeRun) (h : History) (stop : ℕ) (content : ReplicaData →
   asks_right (stage.Proposing plan accepted) node None at = query_one run h e Q T node (Fence old.session.generation) mine
   asks_right (stage.Taking plan reported) node None at = query_one run h e Q T node (Fence old.session.generation) mine
   asks_right (stage.Pulling left) node (Some birth) at =
-      if_right run h e Q T (is_marked left node) _ (to_one run h e Q T node old.session.generation mine (Some birth) (errand.Pull old.summary) (refl, k.session.upto))
+      if_right run h e Q T (is_marked left node) _ (to_one run h e Q T node old.session.generation mine (Some birth) (errand.Pull (asked_with old)) (asked_is old.asked refl, k.session.upto))
   asks_right (stage.Spreading plan known) node (Some birth) at = stage_asks old.union (stage.Spreading plan known) old.session.generation node (Some birth) mine at
   asks_right (stage.Proposing plan accepted) node (Some birth) at = stage_asks old.union (stage.Proposing plan accepted) old.session.generation node (Some birth) mine at
   asks_right (stage.Taking plan reported) node (Some birth) at = stage_asks old.union (stage.Taking plan reported) old.session.generation node (Some birth) mine at
 
   pub retries_in_opening : (node : ℕ) (t : Turn) → Stays t (retries_opening old old.stage node) → Left old t
   retries_in_opening node t says =
-      goes_to old old t (retries_opening old old.stage node) refl refl k (asks_right old.stage node (birth_at old.session.births node) k.at) says
+      goes_to old old t (retries_opening old old.stage node) refl as_before k (asks_right old.stage node (birth_at old.session.births node) k.at) says

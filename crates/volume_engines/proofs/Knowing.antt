@@ -1,5 +1,5 @@
 -- What an engine knows after each step, in each phase.
-use Rattle.std.proofs.Common.{◌≡◌, ℕ, suc, ◌+◌, ◌<◌, ◌≤◌, List, [], length, Bool, true, Option, Some, None}
+use Rattle.std.proofs.Common.{◌≡◌, ℕ, suc, ◌+◌, ◌<◌, ◌≤◌, ◌⊎◌, List, [], length, Bool, true, Option, Some, None}
 use Rattle.std.specs.Prelude.{slice_index_or}
 use Rattle.redo_core.specs.declared.facts.Fact.{Fact}
 use Rattle.messages.specs.Summaries.{SummaryData}
@@ -30,6 +30,7 @@ use Rattle.volume_logs.specs.Joining.{IsFrontAbove}
 use Rattle.volume_engines.specs.Lives.{Life, Guards}
 use Rattle.volume_engines.specs.Engines.{fenced_by}
 use Rattle.volume_engines.proofs.Admissions.{KnowsFresh}
+use Rattle.volume_engines.proofs.Bare.{IsBare}
 use Rattle.volume_engines.proofs.Sending.{IsOwnProposal, IsOwnGeneration, AllRight}
 use Rattle.volume_engines.proofs.Named.{NamesPlan}
 
@@ -112,6 +113,7 @@ pub record KnowsOpening (run : VolumeRun) (h : History) (guards : Guards) (e : �
   pub session : KnowsSession run guards e life t o.session
   pub best : IsBest run e (vote_of o.pair)
   pub fresh : KnowsFresh run (run.engines e).gathered o.fresh
+  pub bare : IsBare o.summary
   pub at : KnowsStage run h e t o.union o.pair o.stage
 
 -- ---- after the volume is open
@@ -129,7 +131,7 @@ KnowsPhase run h guards e life n (phase.Open w) = KnowsOpen run e (life.moments 
 -- the summaries that nodes may have been asked with by then: before a quorum is fenced, none
 abbrev pub Allowed : Phase → SummaryData → Type 0
 Allowed (phase.Fencing f) s = ⊥
-Allowed (phase.Opening o) s = s ≡ o.summary
+Allowed (phase.Opening o) s = (s ≡ o.summary) ⊎ (o.asked ≡ Some s)
 Allowed other s = Unit {0}
 
 abbrev pub Wider : Phase → Phase → Type 0

@@ -1,5 +1,6 @@
 pub mod Tables
 pub mod Admissions
+pub mod Bare
 pub mod Sending
 pub mod Replies
 pub mod Ordering

@@ -51,14 +51,14 @@ module _ (Past : Before) where
     abbrev Left : Turn → Type 0
     Left t = OrderedTurn Past (phase.Fencing f) t
 
-    pulls : (new : Fencing) (t : Turn) → PullsQuorum s new t → Left t
-    pulls new (turn.Enter (phase.Opening o) actions) says = begins s new o none.0 says.0
-    pulls new (turn.Enter phase.Idle actions) says = absurd says
-    pulls new (turn.Enter (phase.Creating c) actions) says = absurd says
-    pulls new (turn.Enter (phase.Fencing g) actions) says = absurd says
-    pulls new (turn.Enter (phase.Open w) actions) says = absurd says
-    pulls new (turn.Stay actions) says = absurd says
-    pulls new (turn.End actions) says = absurd says
+    pulls : (new : Fencing) (node birth : ℕ) (t : Turn) → PullsQuorum s new node birth t → Left t
+    pulls new node birth (turn.Enter (phase.Opening o) actions) says = begins s new o none.0 says.0
+    pulls new node birth (turn.Enter phase.Idle actions) says = absurd says
+    pulls new node birth (turn.Enter (phase.Creating c) actions) says = absurd says
+    pulls new node birth (turn.Enter (phase.Fencing g) actions) says = absurd says
+    pulls new node birth (turn.Enter (phase.Open w) actions) says = absurd says
+    pulls new node birth (turn.Stay actions) says = absurd says
+    pulls new node birth (turn.End actions) says = absurd says
 
     goes_on : (new : Fencing) (t : Turn) (asked : List Action) → GoesOn s new t asked → Left t
     goes_on new t asked says = ⊎_elim
@@ -73,7 +73,7 @@ module _ (Past : Before) where
     orders_fencing node (reply.Fenced generation birth accepted) t says = ⊎_elim
         (λ own. ⊎_elim
         (λ few. on_enter Past (phase.Fencing f) t (phase.Fencing (with_fenced f node birth accepted)) [] few.1 none)
-        (λ enough. pulls (with_fenced f node birth accepted) t enough.1)
+        (λ enough. pulls (with_fenced f node birth accepted) node birth t enough.1)
         own.1)
         (λ no. stays t no.1)
         says

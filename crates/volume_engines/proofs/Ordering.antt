@@ -31,7 +31,7 @@ use Rattle.volume.specs.declared.phases.Stage.TheVariants as stage
 use Rattle.volume.specs.declared.plans.Plan.{Plan}
 use Rattle.volume.specs.declared.turns.Turn.{Turn}
 use Rattle.volume.specs.declared.turns.Turn.TheVariants as turn
-use Rattle.volume.specs.Opening.{opened_with, at_stage, with_union, EndsAlone, ChangesNothing, GrowsBy, Plans, GoesOnPulling, HearsDelta, HearsSummary, PullsAgain, ProposesPlan, Knows, TakesPlan, HearsAccepted, BeginsEpoch, HearsFront, HearsHeaded, HearsLate, HearsLost, HearsOpening}
+use Rattle.volume.specs.Opening.{asking_with, asked_with, opened_with, at_stage, with_union, EndsAlone, ChangesNothing, GrowsBy, Plans, GoesOnPulling, HearsDelta, HearsSummary, PullsAgain, ProposesPlan, Knows, TakesPlan, HearsAccepted, BeginsEpoch, HearsFront, HearsHeaded, HearsLate, HearsLost, HearsOpening}
 use Rattle.volume.specs.Planning.{IsPending, IsPlan}
 use Rattle.volume.specs.Resuming.{OpensVolume}
 use Rattle.volume.specs.Sessions.{with_birth}
@@ -233,8 +233,12 @@ module _ (Past : Before) (quorum : ℕ) (old : Opening) (k : OrderedOpening Past
   goes_on_pulling : (u : State) (left : List Bool) (new : Opening) (t : Turn) → HasCutsTo u.book.cuts u.book.complete → AreBehind Past u old.pair
       → GoesOnPulling old u left new t → Left new t
   goes_on_pulling u left new t cuts behind says = ⊎_elim
-      (λ more. goes_to new (with_union old u (stage.Pulling left)) t [] more.1 (record { cuts = cuts; at = behind }) more.2)
+      (λ first.
+      goes_to new (asking_with old u first.2.0 (stage.Pulling left)) t _ first.2.2 (record { cuts = cuts; at = behind }) first.2.3)
+      (λ rest. ⊎_elim
+      (λ more. goes_to new (with_union old u (stage.Pulling left)) t [] more.2 (record { cuts = cuts; at = behind }) more.3)
       (λ all. plans u new t cuts behind all.1)
+      rest)
       says
 
   hears_delta : (st : Stage) (node : ℕ) (delta : DeltaData) (new : Opening) (t : Turn) → OrderedStage Past old.union old.pair st
@@ -244,7 +248,7 @@ module _ (Past : Before) (quorum : ℕ) (old : Opening) (k : OrderedOpening Past
       (λ damaged. ends new t Damaged damaged.1)
       (λ more.
       let u : State = more.0 in
-      let by : GrowsBy old.union old.summary delta u = more.1 in
+      let by : GrowsBy old.union (asked_with old) delta u = more.1 in
       let larger : IsGrown old.union.book u.book = joined old.union.book delta.book u.book k.cuts by.absorbs.book.1 in
       goes_on_pulling u (slice_set left node false) new t larger.cuts
       (λ p past. behind_later old.union u old.pair p larger.rises (at p past)) more.2)

@@ -110,20 +110,20 @@ module _ (P : Plan → Type 0) (W : Writing → Type 0) (f : Fencing) where
       (λ few. stops_in (phase.Fencing f) t _ few.1)
       says
 
-  pulls : (s : SettingsData) (new : Fencing) (t : Turn) → PullsQuorum s new t → Left t
-  pulls s new (turn.Enter (phase.Opening o) actions) says = subst (TakingHas P) (sym says.0.stage) tt
-  pulls s new (turn.Enter phase.Idle actions) says = tt
-  pulls s new (turn.Enter (phase.Creating c) actions) says = tt
-  pulls s new (turn.Enter (phase.Fencing g) actions) says = tt
-  pulls s new (turn.Enter (phase.Open w) actions) says = absurd says
-  pulls s new (turn.Stay actions) says = tt
-  pulls s new (turn.End actions) says = tt
+  pulls : (s : SettingsData) (new : Fencing) (node birth : ℕ) (t : Turn) → PullsQuorum s new node birth t → Left t
+  pulls s new node birth (turn.Enter (phase.Opening o) actions) says = subst (TakingHas P) (sym says.0.stage) tt
+  pulls s new node birth (turn.Enter phase.Idle actions) says = tt
+  pulls s new node birth (turn.Enter (phase.Creating c) actions) says = tt
+  pulls s new node birth (turn.Enter (phase.Fencing g) actions) says = tt
+  pulls s new node birth (turn.Enter (phase.Open w) actions) says = absurd says
+  pulls s new node birth (turn.Stay actions) says = tt
+  pulls s new node birth (turn.End actions) says = tt
 
   fences : (s : SettingsData) (node : ℕ) (shown : Reply) (t : Turn) → HearsFencing s f node shown t → Left t
   fences s node (reply.Fenced generation birth accepted) t says = ⊎_elim
       (λ own. ⊎_elim
       (λ few. enters_in (phase.Fencing f) (phase.Fencing _) t [] tt few.1)
-      (λ enough. pulls s _ t enough.1)
+      (λ enough. pulls s _ node birth t enough.1)
       own.1)
       (λ no. stays_in (phase.Fencing f) t [] tt no.1)
       says

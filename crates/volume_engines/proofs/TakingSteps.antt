@@ -21,7 +21,7 @@ use Rattle.volume.specs.declared.phases.Writing.{Writing}
 use Rattle.volume.specs.declared.plans.Plan.{Plan}
 use Rattle.volume.specs.declared.turns.Turn.{Turn}
 use Rattle.volume.specs.declared.turns.Turn.TheVariants as turn
-use Rattle.volume.specs.Opening.{opened_with, at_stage, with_union, EndsAlone, ChangesNothing, IsQuorum, Plans, GoesOnPulling, HearsDelta, HearsSummary, PullsAgain, ProposesPlan, Knows, HearsAccepted, TakesPlan, BeginsEpoch, HearsFront, HearsHeaded, HearsLate, HearsLost, HearsOpening, retries_opening}
+use Rattle.volume.specs.Opening.{asking_with, opened_with, at_stage, with_union, EndsAlone, ChangesNothing, IsQuorum, Plans, GoesOnPulling, HearsDelta, HearsSummary, PullsAgain, ProposesPlan, Knows, HearsAccepted, TakesPlan, BeginsEpoch, HearsFront, HearsHeaded, HearsLate, HearsLost, HearsOpening, retries_opening}
 use Rattle.volume.specs.Resuming.{BeginsWriting, OpensVolume}
 use Rattle.volume.specs.Sessions.{with_birth}
 use Rattle.volume.specs.Sets.{no_nodes, no_births}
@@ -83,8 +83,11 @@ module _ (P : Plan → Type 0) (W : Writing → Type 0) (quorum node : ℕ) (old
 
   goes_on_pulling : (u : State) (left : List Bool) (new : Opening) (t : Turn) → GoesOnPulling old u left new t → Left new t
   goes_on_pulling u left new t says = ⊎_elim
-      (λ more. goes_to new (with_union old u (stage.Pulling left)) t [] more.1 more.2 tt)
+      (λ first. goes_to new (asking_with old u first.2.0 (stage.Pulling left)) t _ first.2.2 first.2.3 tt)
+      (λ rest. ⊎_elim
+      (λ more. goes_to new (with_union old u (stage.Pulling left)) t [] more.2 more.3 tt)
       (λ all. plans u new t all.1)
+      rest)
       says
 
   hears_delta : (st : Stage) (delta : DeltaData) (new : Opening) (t : Turn) → HearsDelta old st node delta new t → Left new t
