@@ -103,11 +103,14 @@ Plans old union new turn =
     ((plan : Plan) × IsPlan union old.pair plan × (new ≡ with_union old union (stage.Spreading plan no_nodes)) × Stays turn (to_each old errand.Ask))
     ⊎ ((fault : Fault) × IsPlanFault union fault × EndsAlone old new turn fault)
 
--- the nodes are asked for what they have beyond the union
+-- the nodes are asked for what they have beyond the union, by its summary
+abbrev pub AsksWith : Opening → List Bool → State → Option SummaryData → Opening → Turn → Type 0
+AsksWith old left union None new turn = ⊥
+AsksWith old left union (Some asked) new turn =
+    Summarizes union asked × (new ≡ asking_with old union asked (stage.Pulling left)) × Stays turn (to_each old (errand.Pull asked))
+
 abbrev pub PullsOthers : Opening → List Bool → State → Opening → Turn → Type 0
-PullsOthers old left union new turn =
-    (asked : SummaryData) × Summarizes union asked × (new ≡ asking_with old union asked (stage.Pulling left))
-    × Stays turn (to_each old (errand.Pull asked))
+PullsOthers old left union new turn = AsksWith old left union new.asked new turn
 
 -- once the first has answered, the others are asked; when none is left, the union is made known
 abbrev pub GoesOnPulling : Opening → State → List Bool → Opening → Turn → Type 0

@@ -2,7 +2,10 @@ ghost use Rattle.std.specs.Prelude.{◌≡◌, ◌↔◌, ◌++◌, IsTrue, IfOk
 ghost use Rattle.gossip_core.specs.declared.absorbing.AbsorbRefusal.TheVariants.{Refused as RefusedFor};
 ghost use Rattle.segment_core.specs.declared.answers.Refusal.TheVariants.{Memory as IsMemory};
 ghost use Rattle.volume.specs.Opening.{asked_with, HearsDelta, Pulls, PullsOthers, GrowsBy, Plans, HearsSummary, Pushes, HearsKnown, Knows, PullsAgain, ProposesPlan, AdmitsFresh, FillsFor};
+ghost use Rattle.gossip_core.specs.Summarizing.{Summarizes};
+ghost use Rattle.volume.specs.Asking.{asks_from};
 ghost use Rattle.volume.specs.Opening.{RefusesDelta, BreaksChain};
+ghost use Rattle.volume.specs.declared.errands.Errand.TheVariants.{Pull as PullOf};
 
 use crate::actions::{Action, Fault};
 use crate::errands::{Errand, Joining, ask_each, ask_one, push_each};
@@ -83,18 +86,26 @@ fn pull_others(
     ensures asks { IfOk result (PullsOthers opening.old left union opening.new) }
     ensures unchanged { OnErr result (opening.new ≡ opening.old) }
 {
-    let asked = summary(&union)?;
-    let errand = Errand::Pull(asked.copy()?);
-    let Session {
-        generation,
-        births,
-        ..
-    } = opening.session;
-    let actions = ask_each(alloc, generation, &births, &errand)?;
+    let (asked, actions) = ask_beyond(alloc, &opening.session, &union)?;
     opening.union = union;
     opening.asked = Some(asked);
     opening.stage = Stage::Pulling { left };
     Ok(Turn::Stay(actions))
+}
+
+/// The union's summary, and the requests for what nodes have beyond it.
+fn ask_beyond(
+    alloc: Global,
+    session: &Session,
+    union: &Segment,
+) -> Result<(Summary, Vec<Action>), AllocError>
+    ensures sums { IfOk result (λ p. Summarizes union.now p.0) }
+    ensures asks { IfOk result (λ p. p.1.items ≡ asks_from session.now.generation (PullOf p.0) 0 session.now.births) }
+{
+    let asked = summary(union)?;
+    let errand = Errand::Pull(asked.copy()?);
+    let actions = ask_each(alloc, session.generation, &session.births, &errand)?;
+    Ok((asked, actions))
 }
 
 /// The union with what another segment has beyond a summary that the union answers for, or None where that does not fit.

@@ -32,7 +32,7 @@ use Rattle.volume.specs.declared.phases.Stage.TheVariants as stage
 use Rattle.volume.specs.declared.plans.Plan.{Plan}
 use Rattle.volume.specs.declared.turns.Turn.{Turn}
 use Rattle.volume.specs.declared.turns.Turn.TheVariants as turn
-use Rattle.volume.specs.Opening.{opened_with, asking_with, asked_of, asked_with, at_stage, with_union, to_each, EndsAlone, ChangesNothing, IsQuorum, GrowsBy, Plans, PullsOthers, GoesOnPulling, HearsDelta, HearsSummary, IsKnownAt, PullsAgain, joining_of, AdmitsFresh, ProposesPlan, Knows, HearsAccepted, BeginsEpoch, HearsFront, HearsHeaded, asks_in_stage, HearsLate, HearsLost, HearsOpening, asks_again, retries_opening}
+use Rattle.volume.specs.Opening.{opened_with, asking_with, asked_of, asked_with, at_stage, with_union, to_each, EndsAlone, ChangesNothing, IsQuorum, GrowsBy, Plans, AsksWith, GoesOnPulling, HearsDelta, HearsSummary, IsKnownAt, PullsAgain, joining_of, AdmitsFresh, ProposesPlan, Knows, HearsAccepted, BeginsEpoch, HearsFront, HearsHeaded, asks_in_stage, HearsLate, HearsLost, HearsOpening, asks_again, retries_opening}
 use Rattle.volume.specs.Resuming.{IsOpened, OpensVolume}
 use Rattle.volume.specs.Sessions.{IsOwn, with_birth}
 use Rattle.volume.specs.Sets.{birth_at, is_marked, count_marked, no_nodes, no_births}
@@ -163,23 +163,23 @@ module _ (run : VolumeRun) (h : History) (stop : ℕ) (content : ReplicaData →
       (λ fault. ends new t fault.0 fault.2)
       says
 
-  pulls_others : (u : State) (left : List Bool) (new : Opening) (t : Turn) → KnowsUnion run h e T u left → old.asked ≡ None → PullsOthers old left u new t
-      → Left new t
-  pulls_others u left new t un none says =
-      let asked : SummaryData = says.0 in
+  asks_with : (u : State) (left : List Bool) (asked : Option SummaryData) (new : Opening) (t : Turn) → KnowsUnion run h e T u left → old.asked ≡ None
+      → AsksWith old left u asked new t → Left new t
+  asks_with u left None new t un none says = absurd says
+  asks_with u left (Some asked) new t un none says =
       let next : Opening = asking_with old u asked (stage.Pulling left) in
-      goes_to new next t (to_each old (errand.Pull asked)) says.2
+      goes_to new next t (to_each old (errand.Pull asked)) says.1
       (λ s own. ⊎_elim
       (λ (bare : s ≡ old.summary). inl bare)
       (λ (some : old.asked ≡ Some s). let no : None ≡ Some s = sym none ∙ some in absurd (cc))
       own)
       (record { session = k.session; best = k.best; fresh = k.fresh; bare = k.bare; at = un })
       (each_node run h e (Allowed (phase.Opening next)) T 0 old.session.generation mine old.session.births (errand.Pull asked) (inr refl, k.session.upto))
-      says.3
+      says.2
 
   goes_on_pulling : (u : State) (left : List Bool) (new : Opening) (t : Turn) → KnowsUnion run h e T u left → GoesOnPulling old u left new t → Left new t
   goes_on_pulling u left new t un says = ⊎_elim
-      (λ first. pulls_others u left new t un first.1 first.2)
+      (λ first. asks_with u left new.asked new t un first.1 first.2)
       (λ rest. ⊎_elim
       (λ more. goes_to new (with_union old u (stage.Pulling left)) t [] more.2 as_before (knows_on u (stage.Pulling left) un) tt more.3)
       (λ all.

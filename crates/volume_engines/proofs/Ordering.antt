@@ -31,7 +31,7 @@ use Rattle.volume.specs.declared.phases.Stage.TheVariants as stage
 use Rattle.volume.specs.declared.plans.Plan.{Plan}
 use Rattle.volume.specs.declared.turns.Turn.{Turn}
 use Rattle.volume.specs.declared.turns.Turn.TheVariants as turn
-use Rattle.volume.specs.Opening.{asking_with, asked_with, opened_with, at_stage, with_union, EndsAlone, ChangesNothing, GrowsBy, Plans, GoesOnPulling, HearsDelta, HearsSummary, PullsAgain, ProposesPlan, Knows, TakesPlan, HearsAccepted, BeginsEpoch, HearsFront, HearsHeaded, HearsLate, HearsLost, HearsOpening}
+use Rattle.volume.specs.Opening.{asking_with, asked_with, AsksWith, opened_with, at_stage, with_union, EndsAlone, ChangesNothing, GrowsBy, Plans, GoesOnPulling, HearsDelta, HearsSummary, PullsAgain, ProposesPlan, Knows, TakesPlan, HearsAccepted, BeginsEpoch, HearsFront, HearsHeaded, HearsLate, HearsLost, HearsOpening}
 use Rattle.volume.specs.Planning.{IsPending, IsPlan}
 use Rattle.volume.specs.Resuming.{OpensVolume}
 use Rattle.volume.specs.Sessions.{with_birth}
@@ -230,11 +230,16 @@ module _ (Past : Before) (quorum : ℕ) (old : Opening) (k : OrderedOpening Past
       (λ fault. ends new t fault.0 fault.2)
       says
 
+  asks_with : (u : State) (left : List Bool) (asked : Option SummaryData) (new : Opening) (t : Turn) → HasCutsTo u.book.cuts u.book.complete
+      → AreBehind Past u old.pair → AsksWith old left u asked new t → Left new t
+  asks_with u left None new t cuts behind says = absurd says
+  asks_with u left (Some asked) new t cuts behind says =
+      goes_to new (asking_with old u asked (stage.Pulling left)) t _ says.1 (record { cuts = cuts; at = behind }) says.2
+
   goes_on_pulling : (u : State) (left : List Bool) (new : Opening) (t : Turn) → HasCutsTo u.book.cuts u.book.complete → AreBehind Past u old.pair
       → GoesOnPulling old u left new t → Left new t
   goes_on_pulling u left new t cuts behind says = ⊎_elim
-      (λ first.
-      goes_to new (asking_with old u first.2.0 (stage.Pulling left)) t _ first.2.2 (record { cuts = cuts; at = behind }) first.2.3)
+      (λ first. asks_with u left new.asked new t cuts behind first.2)
       (λ rest. ⊎_elim
       (λ more. goes_to new (with_union old u (stage.Pulling left)) t [] more.2 (record { cuts = cuts; at = behind }) more.3)
       (λ all. plans u new t cuts behind all.1)

@@ -1,5 +1,5 @@
 -- What a step of an opening leaves, as far as a truncation is taken or the volume is then open.
-use Rattle.std.proofs.Common.{◌≡◌, ℕ, ⊎_elim, List, [], Bool, true, false, refl, sym, subst}
+use Rattle.std.proofs.Common.{◌≡◌, ℕ, ⊎_elim, List, [], Bool, true, false, Option, Some, None, refl, sym, subst}
 use Rattle.std.specs.Prelude.{slice_set}
 use Rattle.messages.specs.Summaries.{SummaryData}
 use Rattle.messages.specs.Deltas.{DeltaData}
@@ -21,7 +21,7 @@ use Rattle.volume.specs.declared.phases.Writing.{Writing}
 use Rattle.volume.specs.declared.plans.Plan.{Plan}
 use Rattle.volume.specs.declared.turns.Turn.{Turn}
 use Rattle.volume.specs.declared.turns.Turn.TheVariants as turn
-use Rattle.volume.specs.Opening.{asking_with, opened_with, at_stage, with_union, EndsAlone, ChangesNothing, IsQuorum, Plans, GoesOnPulling, HearsDelta, HearsSummary, PullsAgain, ProposesPlan, Knows, HearsAccepted, TakesPlan, BeginsEpoch, HearsFront, HearsHeaded, HearsLate, HearsLost, HearsOpening, retries_opening}
+use Rattle.volume.specs.Opening.{asking_with, AsksWith, opened_with, at_stage, with_union, EndsAlone, ChangesNothing, IsQuorum, Plans, GoesOnPulling, HearsDelta, HearsSummary, PullsAgain, ProposesPlan, Knows, HearsAccepted, TakesPlan, BeginsEpoch, HearsFront, HearsHeaded, HearsLate, HearsLost, HearsOpening, retries_opening}
 use Rattle.volume.specs.Resuming.{BeginsWriting, OpensVolume}
 use Rattle.volume.specs.Sessions.{with_birth}
 use Rattle.volume.specs.Sets.{no_nodes, no_births}
@@ -81,9 +81,13 @@ module _ (P : Plan → Type 0) (W : Writing → Type 0) (quorum node : ℕ) (old
       (λ fault. ends new t fault.0 fault.2)
       says
 
+  asks_with : (u : State) (left : List Bool) (asked : Option SummaryData) (new : Opening) (t : Turn) → AsksWith old left u asked new t → Left new t
+  asks_with u left None new t says = absurd says
+  asks_with u left (Some asked) new t says = goes_to new (asking_with old u asked (stage.Pulling left)) t _ says.1 says.2 tt
+
   goes_on_pulling : (u : State) (left : List Bool) (new : Opening) (t : Turn) → GoesOnPulling old u left new t → Left new t
   goes_on_pulling u left new t says = ⊎_elim
-      (λ first. goes_to new (asking_with old u first.2.0 (stage.Pulling left)) t _ first.2.2 first.2.3 tt)
+      (λ first. asks_with u left new.asked new t first.2)
       (λ rest. ⊎_elim
       (λ more. goes_to new (with_union old u (stage.Pulling left)) t [] more.2 more.3 tt)
       (λ all. plans u new t all.1)
