@@ -5,7 +5,7 @@ import pytest
 from harness import ROOT, Answer, answer, cases
 from harness.nodes import FramedNode, Node, as_frame, frames_of, has_frame, many
 from model import oracle
-from model.wire import frame, framed
+from model.wire import frame, framed, inspected
 
 NO_MEMORY = Answer(5, b"", b"fleet: out of memory\n")
 SLACK = 64 * 1024  # bytes that an inspection may hold beside its input
@@ -71,6 +71,14 @@ def test_each_start_of_a_drill_refused(fleet, refusing):
     """No worker waits for one that is not there."""
     counts, ample = refusing.counted([fleet, *DRILL])
     judge({n: refusing.run([fleet, *DRILL], start=n) for n in range(1, counts.starts + 1)}, ample)
+
+
+def test_each_start_of_an_inspection_refused(fleet, refusing):
+    """A capture that several threads describe is described all the same."""
+    text = example("capture") * 1000
+    counts, ample = refusing.counted([fleet, "inspect"], text)
+    assert ample == Answer(0, inspected(text))
+    assert all(refusing.run([fleet, "inspect"], text, start=n) == ample for n in range(1, counts.starts + 1))
 
 
 ALL, NO_BOOK, REST = "ff" * 4, "0000 000000000000 00000000", "00" * 40

@@ -40,6 +40,10 @@ LONG = {
     "a million steps": ("run", lambda: NODES + STEPS * MOST, 0, b"front 0 0 0\n" * MOST),
     "a step more": ("run", lambda: NODES + STEPS * (MOST + 1), 2, b"bad line 1000003\n"),
     "a log of 999 epochs": ("check", lambda: b"".join(crashes(999)), 0, b"sound 999998\n"),
+    "a capture of many lines": ("inspect", lambda: b"".join(b"03%016x\n" % n for n in range(1, 100_000)), 0, b"".join(b"min 0 %d\n" % n for n in range(1, 100_000))),
+    "a capture of empty lines": ("inspect", lambda: b"\n" * MOST, 0, b"wire 1\n" * MOST),
+    "a capture of one line that no LF ends": ("inspect", lambda: b"0" * (MOST + 1), 0, b"bad hex\n"),
+    "a capture with a long line": ("inspect", lambda: b"zz\n" + b"0" * (MOST + 1) + b"\n\n04", 0, b"bad hex\nbad hex\nwire 1\nwire 2\n"),
 }
 
 SAYS_BAD = re.compile(rb"fleet: line ([0-9]+): [^\n]+\n")
@@ -78,7 +82,7 @@ def test_explained(fleet, case):
 
 @pytest.mark.parametrize("name", LONG)
 def test_long_text(fleet, name):
-    """The first fact line, and the first step line, past a million is the bad line."""
+    """The first fact line, and the first step line, past a million is the bad line. A capture that several threads describe keeps its order."""
     task, text, status, output = LONG[name]
     seen = answer(fleet, [task], text())
     assert (seen.status, len(seen.output), seen.output[:40], seen.said) == (status, len(output), output[:40], b"")

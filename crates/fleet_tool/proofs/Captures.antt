@@ -1,8 +1,9 @@
 -- The lines of a capture, one after another.
-use Rattle.std.proofs.Common.{◌≡◌, ℕ, ◌<◌, eqb, List, [], ◌∷◌, ◌++◌, length, refl, sym, ap, ◌∙◌, append_assoc, arith}
+use Rattle.std.proofs.Common.{◌≡◌, ℕ, ◌<◌, eqb, List, [], ◌∷◌, ◌++◌, length, refl, sym, ap, ◌∙◌, append_assoc, length-append, arith}
 use Rattle.std.proofs.lemmas.List.Splits.{length-slice_split}
-use Rattle.text.specs.Parts.{parts_at}
-use Rattle.fleet_tool.specs.Inspect.{line_text, parts_text}
+use Rattle.text.specs.Parts.{parts_at, IsCutBehind}
+use Rattle.text.proofs.Cuts.{parts_around}
+use Rattle.fleet_tool.specs.Inspect.{line_text, parts_text, inspected}
 
 before_others : (line : List ℕ) (others : List (List ℕ)) → 0 < length others → parts_text (line ∷ others) ≡ line_text line ++ parts_text others
 before_others line [] some = absurd (omega arith)
@@ -21,3 +22,37 @@ line_told old new rest line after all h more told =
     let next = next_told rest line after h in
     let joined = append_assoc old (line_text line) (parts_text (parts_at 10 after)) in
     rw more (joined ∙ ap (λ (t : List ℕ). old ++ t) (sym next) ∙ told)
+
+-- ---- blocks
+
+-- lines with an LF each, and others behind them
+lines_before : (lines others : List (List ℕ)) → 0 < length others → parts_text (lines ++ others) ≡ parts_text (lines ++ [] ∷ []) ++ parts_text others
+lines_before [] others some = refl
+lines_before (line ∷ lines) others some =
+    let more : 0 < length (lines ++ others) = omega (arith, length-append lines others) in
+    let ended : 0 < length (lines ++ [] ∷ []) = omega (arith, length-append lines ([] ∷ [])) in
+    before_others line (lines ++ others) more
+    ∙ (ap (λ (t : List ℕ). line_text line ++ t) (lines_before lines others some)
+    ∙ (sym (append_assoc (line_text line) (parts_text (lines ++ [] ∷ [])) (parts_text others))
+    ∙ ap (λ (t : List ℕ). t ++ parts_text others) (sym (before_others line (lines ++ [] ∷ []) ended))))
+
+-- the description of a text with an LF is that of what ends there and that of what is behind it
+around : (before behind : List ℕ) → inspected (before ++ 10 ∷ behind) ≡ inspected (before ++ 10 ∷ []) ++ inspected behind
+around before behind =
+    let some : 0 < length (parts_at 10 behind) = omega (arith, length-slice_split (λ b. eqb b 10) behind) in
+    ap parts_text (parts_around 10 before behind)
+    ∙ (lines_before (parts_at 10 before) (parts_at 10 behind) some
+    ∙ ap (λ (t : List (List ℕ)). parts_text t ++ parts_text (parts_at 10 behind)) (sym (parts_around 10 before [])))
+
+-- the descriptions of the two parts of a text that is cut behind an LF
+pub cut_told : (text front behind : List ℕ) → IsCutBehind 10 text front behind → inspected text ≡ inspected front ++ inspected behind
+cut_told text front behind cut =
+    let shape : text ≡ cut.before ++ 10 ∷ behind =
+    cut.whole ∙ (ap (λ (t : List ℕ). t ++ behind) cut.ends ∙ append_assoc cut.before (10 ∷ []) behind) in
+    ap inspected shape ∙ (around cut.before behind ∙ ap (λ (t : List ℕ). inspected t ++ inspected behind) (sym cut.ends))
+
+-- the text of the two parts, one behind the other
+pub joined_told : (text front behind old new more : List ℕ) → IsCutBehind 10 text front behind → old ≡ inspected front → more ≡ inspected behind
+    → new ≡ old ++ more → new ≡ inspected text
+joined_told text front behind old new more cut first second joined =
+    joined ∙ (ap (λ (t : List ℕ). t ++ more) first ∙ (ap (λ (t : List ℕ). inspected front ++ t) second ∙ sym (cut_told text front behind cut)))

@@ -12,11 +12,10 @@ ghost use Rattle.script_text.specs.TextReasons.{ExplainsScript, ExplainsLog, IsE
 ghost use Rattle.fleet_tool.specs.declared.explaining.Reason.TheVariants.{BadLine};
 ghost use Rattle.fleet_tool.specs.Explaining.{HasSoundLog, IsTrueReason};
 ghost use Rattle.fleet_tool.specs.TaskName.{as_text_task};
-ghost use Rattle.fleet_tool.specs.Output.{SaysBadLine, SaysUnsound, SaysReplies, IsRunOutput, IsCheckOutput, IsInspectOutput, IsOutputOf};
+ghost use Rattle.fleet_tool.specs.Output.{SaysBadLine, SaysUnsound, SaysReplies, IsRunOutput, IsCheckOutput, IsOutputOf};
 
 use crate::explaining::{Reason, fault_reason};
-use crate::inspect::inspected;
-use crate::job::{LinesTask, TextTask};
+use crate::job::LinesTask;
 use crate::placed_steps::answers;
 use fleet_core::Fleet;
 use log_law::{CheckFault, check_log};
@@ -176,31 +175,19 @@ fn answer_facts(alloc: Global, input: Vec<u8>, explains: bool) -> Result<Answere
     }
 }
 
-fn answer_capture(alloc: Global, input: &[u8]) -> Result<Answered, AllocError>
-    ensures { IfOk result (λ a. IsInspectOutput input.now (string_bytes a.text) a.verdict) }
-{
-    Ok(Answered {
-        text: inspected(alloc, input)?,
-        verdict: Verdict::Done,
-        reason: None,
-    })
-}
-
 /// The task's output for an input; and the reason of a bad line or a fault, if it is sought. Fails only if memory runs out.
 pub fn answer(
     alloc: Global,
-    task: TextTask,
+    task: LinesTask,
     input: Vec<u8>,
     explains: bool,
 ) -> Result<Answered, AllocError>
-    ensures output { IfOk result (λ a. IsOutputOf task input.items (string_bytes a.text) a.verdict) }
-    ensures reason { (lines : LinesTask) → task ≡ as_text_task lines → explains ≡ true
-        → IfOk result (λ a. MatchOption a.reason (HasSoundLog lines input.items) (IsTrueReason lines input.items)) }
+    ensures output { IfOk result (λ a. IsOutputOf (as_text_task task) input.items (string_bytes a.text) a.verdict) }
+    ensures reason { explains ≡ true → IfOk result (λ a. MatchOption a.reason (HasSoundLog task input.items) (IsTrueReason task input.items)) }
 {
     match task {
-        TextTask::Run => answer_script(alloc, input, explains, Remains::Dropped),
-        TextTask::Check => answer_facts(alloc, input, explains),
-        TextTask::Inspect => answer_capture(alloc, &input),
+        LinesTask::Run => answer_script(alloc, input, explains, Remains::Dropped),
+        LinesTask::Check => answer_facts(alloc, input, explains),
     }
 }
 

@@ -2,16 +2,22 @@
 
 ghost use Rattle.std.specs.Prelude.{◌≡◌, ◌++◌, IfOk, OnOk, codes, string_bytes};
 ghost use Rattle.std.specs.Fmt.{decimal};
+ghost use Rattle.std.specs.Thread.{IsSync};
 ghost use Rattle.redo_wire.specs.Faults.{fault_number};
 ghost use Rattle.redo_wire.specs.Values.{decoded_value};
 ghost use Rattle.fleet_tool.specs.Inspect.{summary_text, delta_text, content_text, piece_text, told, value_text, line_text, inspected};
 
+use rayon::{current_num_threads, join};
 use redo_wire::{
     Delta, Piece, PieceContent, Summary, WireError, WireFault, WireValue, decode_value,
 };
 use script_text::fact_text;
 use std::alloc::{AllocError, Global};
-use text::{decoded, first_part, labelled, worded};
+use std::thread::Threads;
+use text::{decoded, first_part, labelled, split_behind, worded};
+
+/// How many bytes of a capture are a thread's at least: fewer are described sooner than a thread is started.
+const LEAST_BLOCK: usize = 65536;
 
 fn fault_text(alloc: Global, fault: WireFault) -> Result<String, AllocError>
     ensures { IfOk result (λ s. string_bytes s ≡ codes "wire " ++ decimal (fault_number fault)) }
@@ -106,8 +112,8 @@ fn put_line(alloc: Global, text: &mut String, digits: &[u8]) -> Result<(), Alloc
     text.push_str("\n")
 }
 
-/// The description of a capture, a line for each of its lines. Fails only if memory runs out.
-pub fn inspected(alloc: Global, input: &[u8]) -> Result<String, AllocError>
+// The description of lines, one after another.
+fn lines_text(alloc: Global, input: &[u8]) -> Result<String, AllocError>
     ensures { IfOk result (λ s. string_bytes s ≡ inspected input.now) }
 {
     let mut text = String::new(alloc);
@@ -120,4 +126,49 @@ pub fn inspected(alloc: Global, input: &[u8]) -> Result<String, AllocError>
         put_line(alloc, &mut text, rest)?;
     }
     Ok(text)
+}
+
+// The description of lines by so many threads, each of which describes a block of whole lines.
+#[cycle(blocks)]
+fn blocks_text<R: Threads + Sync>(
+    rt: &R,
+    alloc: Global,
+    input: &[u8],
+    threads: usize,
+) -> Result<String, AllocError>
+    ensures { IfOk result (λ s. string_bytes s ≡ inspected input.now) }
+{
+    if threads < 2 {
+        return lines_text(alloc, input);
+    }
+    let low = threads / 2;
+    let high = threads - low;
+    let Some((first, second)) = split_behind(input, b'\n', input.len() / threads * low) else {
+        return lines_text(alloc, input);
+    };
+    let front = || -> Result<String, AllocError>
+        requires { IsSync R.row }
+        ensures { IfOk result (λ s. string_bytes s ≡ inspected first.entry.now) }
+    { blocks_text(rt, alloc, first, low) };
+    let back = || -> Result<String, AllocError>
+        requires { IsSync R.row }
+        ensures { IfOk result (λ s. string_bytes s ≡ inspected second.entry.now) }
+    { blocks_text(rt, alloc, second, high) };
+    let (text, more) = join(rt, front, back);
+    let mut text = text?;
+    text.push_str(&more?)?;
+    Ok(text)
+}
+
+/// The description of a capture, a line for each of its lines, by as many threads as there are processors where it is long. Fails only
+/// if memory runs out.
+pub fn inspected<R: Threads + Sync>(
+    rt: &R,
+    alloc: Global,
+    input: &[u8],
+) -> Result<String, AllocError>
+    ensures { IfOk result (λ s. string_bytes s ≡ inspected input.now) }
+{
+    let threads = current_num_threads(rt).min(input.len() / LEAST_BLOCK);
+    blocks_text(rt, alloc, input, threads)
 }

@@ -53,13 +53,16 @@ fn status_after(rt: &impl Eprint, ended: Result<Verdict, RunFault>) -> ExitCode 
 }
 
 /// Answers standard input on standard output.
-fn answer_input(rt: &(impl Input + Print + Eprint + AllocGlobal), task: TextTask) -> ExitCode {
+fn answer_input(
+    rt: &(impl Input + Print + Eprint + AllocGlobal + Threads + Sync),
+    task: TextTask,
+) -> ExitCode {
     let mut reader = Watched::new(rt.reader());
     let mut writer = Watched::new(io::writer(rt));
     let ended = match task {
         TextTask::Run => run_last_text(rt.alloc(), &mut reader, &mut writer),
         TextTask::Check => check_text(rt.alloc(), &mut reader, &mut writer),
-        TextTask::Inspect => inspect_text(rt.alloc(), &mut reader, &mut writer).map(
+        TextTask::Inspect => inspect_text(rt, rt.alloc(), &mut reader, &mut writer).map(
             |()| Verdict::Done,
         ),
     };

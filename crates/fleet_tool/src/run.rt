@@ -10,21 +10,23 @@ ghost use Rattle.framing.specs.Watching.{has_failed};
 
 use crate::answer::{Answered, Verdict, answer, last_answer};
 use crate::explaining::Reason;
-use crate::job::{LinesTask, TextTask};
+use crate::inspect::inspected;
+use crate::job::LinesTask;
 use framing::devices::{RunFault, Watched, read_all, write_all};
 use std::alloc::{AllocError, Global};
 use std::io::{Read, Write};
+use std::thread::Threads;
 
 /// Reads the whole input, and writes the task's answer to it and nothing else.
 fn answer_text<R: Read, W: Write>(
     alloc: Global,
-    task: TextTask,
+    task: LinesTask,
     reader: &mut Watched<R>,
     writer: &mut Watched<W>,
 ) -> Result<Verdict, RunFault>
     requires reader { has_failed reader.old ≡ false }
     requires writer { has_failed writer.old ≡ false }
-    ensures { IsTextCall R.remaining W.contents (IsOutputOf task) reader.old reader.new writer.old writer.new result }
+    ensures { IsTextCall R.remaining W.contents (IsOutputOf (as_text_task task)) reader.old reader.new writer.old writer.new result }
 {
     let input = read_all(alloc, reader)?;
     let output = answer(alloc, task, input, false)?;
@@ -45,7 +47,7 @@ pub fn run_text<R: Read, W: Write>(
     requires writer { has_failed writer.old ≡ false }
     ensures { IsTextCall R.remaining W.contents (IsOutputOf TextTask.Run) reader.old reader.new writer.old writer.new result }
 {
-    answer_text(alloc, TextTask::Run, reader, writer)
+    answer_text(alloc, LinesTask::Run, reader, writer)
 }
 
 /// Does the same for a program that ends with it: the script and the fleet stay in memory.
@@ -76,7 +78,7 @@ pub fn check_text<R: Read, W: Write>(
     requires writer { has_failed writer.old ≡ false }
     ensures { IsTextCall R.remaining W.contents (IsOutputOf TextTask.Check) reader.old reader.new writer.old writer.new result }
 {
-    answer_text(alloc, TextTask::Check, reader, writer)
+    answer_text(alloc, LinesTask::Check, reader, writer)
 }
 
 /// The outcome of an answered script or log, and the reason where its text names a bad line or a fault.
@@ -98,7 +100,7 @@ fn answer_and_reason(
         text,
         verdict,
         reason,
-    } = answer(alloc, task.text_task(), input, true)?;
+    } = answer(alloc, task, input, true)?;
     Ok((text, Explained { verdict, reason }))
 }
 
@@ -126,7 +128,8 @@ pub fn explain_text<R: Read, W: Write>(
 /// of a piece of a snapshot, the number of the first wire fault, or `bad hex`.
 ///
 /// Errors as for `run_text`.
-pub fn inspect_text<R: Read, W: Write>(
+pub fn inspect_text<T: Threads + Sync, R: Read, W: Write>(
+    rt: &T,
     alloc: Global,
     reader: &mut Watched<R>,
     writer: &mut Watched<W>,
@@ -135,8 +138,7 @@ pub fn inspect_text<R: Read, W: Write>(
     requires writer { has_failed writer.old ≡ false }
     ensures { IsTextCall R.remaining W.contents (λ input text done. text ≡ inspected input) reader.old reader.new writer.old writer.new result }
 {
-    match answer_text(alloc, TextTask::Inspect, reader, writer) {
-        Ok(_) => Ok(()),
-        Err(fault) => Err(fault),
-    }
+    let input = read_all(alloc, reader)?;
+    let text = inspected(rt, alloc, &input)?;
+    write_all(writer, text.as_bytes())
 }

@@ -1,7 +1,7 @@
 use Rattle.std.proofs.Common.{◌≡◌, ◌++◌, length, string_bytes}
 use Rattle.text.specs.Parts.{parts_at}
 use Rattle.fleet_tool.specs.Inspect.{parts_text}
-use Rattle.fleet_tool.proofs.inspect.inspected.Given as goal
+use Rattle.fleet_tool.proofs.inspect.lines_text.Given as goal
 
 -- the description so far, and that of the rest
 abbrev pub invariant-loop-line : goal.invariant-loop-line
