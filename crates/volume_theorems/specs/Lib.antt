@@ -10,6 +10,7 @@ pub mod Seeing
 pub mod Choosing
 pub mod Lasting
 pub mod Sample
+pub mod Admitting
 pub mod Contents
 pub mod Stopping
 pub mod ByMoment

@@ -9,7 +9,7 @@
 //! `one_birth`, `no_return`: what a node never takes back. `quorums_stand`, `one_of_generation`, `votes_are_seen`, `epochs_are_seen`: what an engine may rely on
 //! once its quorum has answered. `one_truncation`, `only_chosen`, `one_writer`: agreement on the truncation of each epoch.
 //! `durable_lasts`, `opens_above`, `lo_rises`, `lo_is_point`: what was durable stays durable, and only whole commits are kept.
-//! `parts_grow`, `fronts_reach`: what segments of a sound log have keeps to the rules. `some_run`: the rules can be followed.
+//! `parts_grow`, `fronts_reach`: what segments of a sound log have keeps to the rules. `some_run`, `some_admission`: the rules can be followed.
 //! `stopped_follows` and its neighbours: the same of what was done by a moment of a run that follows the rules until then.
 #![tactic(auto)]
 
@@ -19,6 +19,7 @@ ghost use Rattle.volume_theorems.specs.Seeing.{VotesAreSeen, EpochsAreSeen};
 ghost use Rattle.volume_theorems.specs.Choosing.{OneTruncation, OnlyChosen, OneWriter};
 ghost use Rattle.volume_theorems.specs.Contents.{PartsGrow, FrontsReach};
 ghost use Rattle.volume_theorems.specs.Sample.{SomeRun};
+ghost use Rattle.volume_theorems.specs.Admitting.{SomeAdmission};
 ghost use Rattle.volume_theorems.specs.Lasting.{DurableLasts, OpensAbove, LoRises, LoIsPoint};
 ghost use Rattle.volume_theorems.specs.Stopping.{StoppedFollows, FollowsEach, FollowsOn, FollowsAll};
 ghost use Rattle.volume_theorems.specs.ByMoment.{OneSentBy, LoRisesBy, LoIsHeld, OneWriterBy, DurableLastsBy, EpochsInOrder, NoneOvertakes};
@@ -157,4 +158,9 @@ pub fn none_overtakes()
 /// There is a run that follows the rules, with a commit point that is durable.
 pub fn some_run()
     ensures { SomeRun }
+{}
+
+/// There is one in which a node loses its files, is admitted, and then accepts the truncation of the next epoch.
+pub fn some_admission()
+    ensures { SomeAdmission }
 {}
