@@ -33,9 +33,9 @@ use Rattle.volume.specs.Writing.{WritesRecord, record_of_page, RaisesDurably, Wr
 use Rattle.volume_theorems.specs.Nodes.{Content}
 use Rattle.volume_theorems.specs.Runs.{VolumeRun}
 use Rattle.volume_theorems.specs.ByMoment.{HasOpenedBy, IsReportedBy, IsDurableBy}
-use Rattle.volume_logs.specs.Histories.{History}
+use Rattle.volume_logs.specs.Histories.{History, log_to}
 use Rattle.volume_logs.specs.Writes.{GivesFact, Writes}
-use Rattle.volume_logs.specs.Emitting.{IsWriter}
+use Rattle.volume_logs.specs.Emitting.{LacksAdvances, GoesOn, IsWriter}
 use Rattle.volume_logs.specs.PageLayout.{LeavesNumber, IsCommitRecord}
 use Rattle.volume_logs.proofs.Durable.{opened_sent}
 use Rattle.volume_logs.proofs.Moments.{until_earlier}
@@ -43,13 +43,26 @@ use Rattle.volume_logs.proofs.Readers.{opened_later}
 use Rattle.volume_engines.specs.Lives.{Life, Guards}
 use Rattle.volume_engines.specs.Proposals.{IsLifeIn}
 use Rattle.volume_engines.specs.Emissions.{emitted, emitted_in, emitted_by, HasEmissions}
-use Rattle.volume_engines.specs.Writers.{OpensFrom, EmissionsKeepRules}
 use Rattle.volume_engines.proofs.Emissions.{emits_open, all_before}
 use Rattle.volume_engines.proofs.OpenSteps.{IsFormed, ReportsNone, ReportsPoint, OpenStep, IsRefusedOpening, stayed}
 use Rattle.volume_engines.proofs.OpenSteps.OpenStep.{keeps, writes, raises, hears, ends}
 use Rattle.volume_engines.proofs.TakingSteps.{TakingHas, PhaseHas, Agrees, hears_taking, retries_taking}
 use Rattle.volume_engines.proofs.Writings.{IsAgreed, KnowsWriting, formed_number}
 use Rattle.volume_engines.proofs.Reporting.{turned, quorum_is, refused, the_step, step_of, known_more, first_phase, reported}
+
+-- Step n of the life opens epoch k + 1, with a writer that goes on from what the epochs below have by then. Generation and epoch fit into the
+-- bytes that page 0 has for them.
+pub record OpensFrom (h : History) (life : Life) (n k : ℕ) : Type 0 where
+  pub opening : Opening
+  pub was : (life.states n).phase ≡ phase.Opening opening
+  pub writing : Writing
+  pub opens : (life.states (suc n)).phase ≡ phase.Open writing
+  pub epoch : writing.cut.epoch ≡ suc k
+  pub base : List Fact
+  pub lacks : LacksAdvances base (log_to h (life.moments n) k)
+  pub goes_on : GoesOn h.readers writing.writer base (h.cuts (suc k))
+  pub generation_fits : life.generation < 2 ^ 64
+  pub epoch_fits : suc k < epoch_count
 
 -- ---- what a writer gives
 writes_push : (v : WriterState) (facts : List Fact) (f : Fact) (u w : WriterState) → Writes v facts u → GivesFact u f w → Writes v (facts ++ f ∷ []) w
@@ -107,7 +120,7 @@ formed_layout w r generation same epoch small fits formed = ⊎_elim
     formed
 
 -- ---- what was durable is so later
-durable_later : (run : VolumeRun) (s t e k p : ℕ) → s ≤ t → IsDurableBy run s e k p → IsDurableBy run t e k p
+pub durable_later : (run : VolumeRun) (s t e k p : ℕ) → s ≤ t → IsDurableBy run s e k p → IsDurableBy run t e k p
 durable_later run s t e k p order durable = (
   opened_later run s t e k order durable.0,
   ⊎_elim
@@ -260,7 +273,7 @@ module _ (W : Writing → Type 0) (old new : VolumeData) (actions : List Action)
       says
 
 -- ---- phases in which nothing is emitted
-abbrev OpenOrIdle : Phase → Type 0
+abbrev pub OpenOrIdle : Phase → Type 0
 OpenOrIdle (phase.Open w) = Unit {0}
 OpenOrIdle phase.Idle = Unit {0}
 OpenOrIdle other = ⊥
@@ -292,7 +305,7 @@ module _ (run : VolumeRun) (h : History) (stop : ℕ) (content : ReplicaData →
       (refused run h stop content guards e life count is m step (life.events (suc m)) (is.lives.heard m step))
       (the_step run h stop content guards e life count is m step)
 
-  on_step : (m : ℕ) → suc m < count → (p : Phase) → (life.states (suc m)).phase ≡ p → OpenOrIdle p → OpenOrIdle (life.states (suc (suc m))).phase
+  pub on_step : (m : ℕ) → suc m < count → (p : Phase) → (life.states (suc m)).phase ≡ p → OpenOrIdle p → OpenOrIdle (life.states (suc (suc m))).phase
   on_step m step (phase.Open w) at on = by_step (step_of run h stop content guards e life count is m step w at)
     where
       by_step : OpenStep (life.states (suc m)).settings.nodes (life.states (suc m)).settings.quorum w (life.events (suc m)) (life.actions (suc m)) (life.states (suc (suc m))).phase
@@ -331,7 +344,7 @@ module _ (run : VolumeRun) (h : History) (stop : ℕ) (content : ReplicaData →
   shut_emits n m o low within at (phase.Fencing f) from = refl
   shut_emits n m o low within at (phase.Opening p) from = refl
 
-  none_before : (n m : ℕ) (o : Opening) → m ≤ n → n < count → (life.states n).phase ≡ phase.Opening o → emitted_by life m ≡ []
+  pub none_before : (n m : ℕ) (o : Opening) → m ≤ n → n < count → (life.states n).phase ≡ phase.Opening o → emitted_by life m ≡ []
   none_before n zero o low within at = refl
   none_before n (suc m) o low within at =
       ap (λ (fs : List Fact). emitted_by life m ++ fs) (shut_emits n m o low within at (life.states m).phase refl)
@@ -536,11 +549,8 @@ module _ (run : VolumeRun) (h : History) (stop : ℕ) (content : ReplicaData →
           commits = λ r inside. (facts.records r inside).1;
         }
 
-writer_of : (run : VolumeRun) (h : History) (stop : ℕ) (content : ReplicaData → Content) (guards : Guards) (e : ℕ) (life : Life) (count : ℕ)
+pub writer_of : (run : VolumeRun) (h : History) (stop : ℕ) (content : ReplicaData → Content) (guards : Guards) (e : ℕ) (life : Life) (count : ℕ)
     → IsLifeIn run h stop content guards e life count → (n k : ℕ) → n < count → OpensFrom h life n k → HasEmissions h life count (suc stop) (suc k)
     → IsWriter run h (suc stop) k e
 writer_of run h stop content guards e life zero is n k within from has = absurd (omega arith)
 writer_of run h stop content guards e life (suc m) is n k within from has = writer_by run h stop content guards e life (suc m) is n k within from has m refl
-
-pub emissions_keep_rules : EmissionsKeepRules
-emissions_keep_rules run h stop content guards e life count is n k within from has = writer_of run h stop content guards e life count is n k within from has

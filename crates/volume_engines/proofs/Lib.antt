@@ -32,6 +32,12 @@ pub mod Writings
 pub mod Reporting
 pub mod Emitting
 pub mod Resuming
+pub mod Settling
+pub mod Settled
+pub mod Below
+pub mod Writers
 pub mod Openings
 pub mod Following
+pub mod Recording
 pub mod Running
+pub mod Keeping

@@ -36,7 +36,7 @@ one_in_phase other p q one two = absurd one
 pub epoch_or_not : (k : ℕ) (p : Plan) → (p.cut.epoch ≡ k) ⊎ (p.cut.epoch ≡ k → ⊥)
 epoch_or_not k p = let m : ℕ = p.cut.epoch in let way : (m ≡ k) ⊎ (m ≡ k → ⊥) = grind arith in way
 
-own_or_pending : (b : Bool) → (b ≡ false) ⊎ (b ≡ true)
+pub own_or_pending : (b : Bool) → (b ≡ false) ⊎ (b ≡ true)
 own_or_pending false = inl refl
 own_or_pending true = inr refl
 

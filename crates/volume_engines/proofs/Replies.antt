@@ -1,5 +1,6 @@
 -- What a reply says of the request that it answers, and of the node that gave it.
-use Rattle.std.proofs.Common.{◌≡◌, ℕ, ⊎_elim, IsTrue, Option, sym, ◌∙◌, subst, ap}
+use Rattle.std.proofs.Common.{◌≡◌, ℕ, ⊎_elim, IsTrue, Option, refl, sym, ◌∙◌, subst, ap}
+use Rattle.redo_core.specs.Data.{CutData}
 use Rattle.replica.specs.declared.requests.Request.{Request as SegmentRequest}
 use Rattle.replica.specs.declared.replies.Reply.{Reply as SegmentReply}
 use Rattle.replica.specs.Machine.{IsReply}
@@ -156,4 +157,62 @@ headed_says old (request.Admit asked) generation birth told new says = ⊎_elim
 headed_says old (request.Plain asked) generation birth told new says = ⊎_elim
     (λ no. let clash : reply.Headed generation birth told ≡ reply.Member = no.2 in absurd (cc))
     (λ yes. let clash : reply.Headed generation birth told ≡ reply.Plain yes.2.0 = yes.2.2 in absurd (cc))
+    says
+
+-- ---- `accepted`
+accepted_no_name : (g : GuardData) (generation birth epoch : ℕ) → NamesNode g (reply.Accepted generation birth epoch) → ⊥
+accepted_no_name g generation birth epoch names = ⊎_elim
+    (λ member. let no : reply.Accepted generation birth epoch ≡ reply.Stale g.generation = member.1 in absurd (cc))
+    (λ fresh. let no : reply.Accepted generation birth epoch ≡ reply.Fresh g.birth = fresh.1 in absurd (cc))
+    names
+
+same_accepted : (g b k h c j : ℕ) → reply.Accepted g b k ≡ reply.Accepted h c j → j ≡ k
+same_accepted g b k h c j same = cc
+
+-- the request proposed a truncation of the epoch
+pub record IsProposed (asked : Request) (epoch : ℕ) : Type 0 where
+  pub generation : ℕ
+  pub birth : ℕ
+  pub cut : CutData
+  pub asked_is : asked ≡ request.Propose generation birth cut
+  pub same : cut.epoch ≡ epoch
+
+pub accepted_says : (old : GuardData) (asked : Request) (generation birth epoch : ℕ) (new : GuardData)
+    → IsGuardReply old asked (reply.Accepted generation birth epoch) new → IsProposed asked epoch
+accepted_says old request.Status generation birth epoch new says =
+    let no : reply.Accepted generation birth epoch ≡ reply.Status old.generation old.birth old.is_member says.0 old.accepted = says.2 in absurd (cc)
+accepted_says old (request.Fence g) generation birth epoch new says = ⊎_elim
+    (λ yes. let clash : reply.Accepted generation birth epoch ≡ reply.Fenced g old.birth old.accepted = yes.1 in absurd (cc))
+    (λ no. absurd (accepted_no_name old generation birth epoch no.1.0))
+    says
+accepted_says old (request.As g b asked) generation birth epoch new says = ⊎_elim
+    (λ no. let clash : reply.Accepted generation birth epoch ≡ reply.Unguarded = no.1 in absurd (cc))
+    (λ may. ⊎_elim
+    (λ yes. let clash : reply.Accepted generation birth epoch ≡ reply.Headed g b yes.3.0 = yes.3.2 in absurd (cc))
+    (λ no. absurd (accepted_no_name old generation birth epoch no.2.0))
+    may)
+    says
+accepted_says old (request.Propose g b cut) generation birth epoch new says = ⊎_elim
+    (λ yes. record {
+      generation = g;
+      birth = b;
+      cut = cut;
+      asked_is = refl;
+      same = same_accepted generation birth epoch g b cut.epoch yes.2;
+    })
+    (λ no. absurd (accepted_no_name old generation birth epoch no.1.0))
+    says
+accepted_says old (request.Admit asked) generation birth epoch new says = ⊎_elim
+    (λ no. let clash : reply.Accepted generation birth epoch ≡ reply.Member = no.1 in absurd (cc))
+    (λ out. ⊎_elim
+    (λ no. let clash : reply.Accepted generation birth epoch ≡ reply.Stranger old.birth = no.2 in absurd (cc))
+    (λ known. ⊎_elim
+    (λ yes. let clash : reply.Accepted generation birth epoch ≡ reply.Admitted asked.generation old.birth = yes.1 in absurd (cc))
+    (λ no. let clash : reply.Accepted generation birth epoch ≡ reply.Behind known.2.0.epoch known.2.0.complete = no.1 in absurd (cc))
+    known.2.2)
+    out)
+    says
+accepted_says old (request.Plain asked) generation birth epoch new says = ⊎_elim
+    (λ no. let clash : reply.Accepted generation birth epoch ≡ reply.Member = no.2 in absurd (cc))
+    (λ yes. let clash : reply.Accepted generation birth epoch ≡ reply.Plain yes.2.0 = yes.2.2 in absurd (cc))
     says

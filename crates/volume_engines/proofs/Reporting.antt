@@ -69,7 +69,7 @@ taking_more P Q more (stage.Spreading plan known) is = tt
 taking_more P Q more (stage.Proposing plan accepted) is = tt
 taking_more P Q more (stage.Taking plan reported) is = more plan is
 
-abbrev IsShut : Phase → Type 0
+abbrev pub IsShut : Phase → Type 0
 IsShut (phase.Open w) = ⊥
 IsShut other = Unit {0}
 
@@ -155,7 +155,7 @@ module _ (run : VolumeRun) (h : History) (stop : ℕ) (content : ReplicaData →
     pub order : life.moments n ≤ life.moments (suc n)
     order = is.lives.in_time n step
 
-    knows : Knows run h stop content guards e life count is n (life.states (suc n))
+    pub knows : Knows run h stop content guards e life count is n (life.states (suc n))
     knows = known run h stop content guards e life count is n (omega arith)
 
     abbrev Old : VolumeData

@@ -1,10 +1,10 @@
 -- The writer that an opening makes of what its union stores is the one that the union's facts ask for.
-use Rattle.std.proofs.Common.{◌≡◌, ℕ, suc, ◌<◌, ◌≤◌, ◌⊎◌, ⊎_elim, inl, inr, List, [], sym, ◌∙◌, subst, ap, arith}
+use Rattle.std.proofs.Common.{◌≡◌, ℕ, suc, ◌<◌, ◌≤◌, ◌⊎◌, ⊎_elim, inl, inr, List, [], ◌∷◌, ◌++◌, sym, ◌∙◌, subst, ap, arith}
 use Rattle.std.specs.Prelude.{slice_index}
 use Rattle.std.specs.List.{Contains}
 use Rattle.std.proofs.lemmas.List.Elements.{Contains-push_cases}
 use Rattle.redo_core.specs.Data.{RecordData, CutData}
-use Rattle.redo_core.specs.Sets.{cuts}
+use Rattle.redo_core.specs.Sets.{IsPart, cuts}
 use Rattle.redo_core.specs.Order.{RecordBefore}
 use Rattle.redo_core.specs.PageAt.{IsPageAt}
 use Rattle.redo_core.specs.Position.{Position}
@@ -29,15 +29,24 @@ use Rattle.segment_core.specs.StoredPages.{IsStoredPage}
 use Rattle.redo_writer.specs.State.{WriterState}
 use Rattle.volume.specs.Resuming.{IsAliveAbove as IsStoredAbove, IsResumed as IsResumedFrom}
 use Rattle.volume_theorems.specs.Runs.{VolumeRun}
+use Rattle.volume_theorems.specs.Stopping.{FollowsUntil}
 use Rattle.volume_logs.specs.Histories.{History, log_to, log_at}
-use Rattle.volume_logs.specs.Emitting.{IsEmitted}
+use Rattle.volume_logs.specs.Emitting.{LacksAdvances, GoesOn, IsEmitted}
 use Rattle.volume_logs.specs.PageLayout.{IsPageTop}
 use Rattle.volume_logs.specs.Resuming.{IsAliveAbove, AreAliveAbove, IsResumed}
 use Rattle.volume_logs.proofs.Epochs.{log_upto}
 use Rattle.volume_logs.proofs.PageLayout.{number_zeros}
 use Rattle.volume_logs.proofs.Resuming.{linked_record, resumed_goes_on}
 use Rattle.volume_logs.proofs.Sound.{log_is_sound}
-use Rattle.volume_engines.specs.Resuming.{IsUnionBelow, OpeningsGoOn}
+
+-- The union means facts of the epochs up to k and the truncation of epoch k + 1, has taken that, and is complete up to its lo.
+pub record IsUnionBelow (h : History) (t k : ℕ) (union : State) : Type 0 where
+  pub facts : List Fact
+  pub inner : IsPart facts (log_to h t k ++ Cut (h.cuts (suc k)) ∷ [])
+  pub position : Position
+  pub means : MeansAt h.readers (log_at h t) facts position union
+  pub epoch : position.epoch ≡ suc k
+  pub reached : (h.cuts (suc k)).lo ≤ position.complete
 
 -- a page of which nothing is stored
 bare_image : (s : State) (page : ℕ) → ¬ (IsStoredPage s page) → image_of s.store page ≡ zeros
@@ -158,8 +167,11 @@ module _ (run : VolumeRun) (h : History) (stop t k : ℕ) (union : State) (emitt
       (linked_record u.facts u.position.epoch u.position.anchor x.0))
       u.means.position.anchor.0
 
-pub openings_go_on : OpeningsGoOn
-openings_go_on run h stop t k union w follows emitted upto newest u is =
+-- the writer that the machine makes of what such a union stores goes on from the epochs below
+pub union_goes_on : (run : VolumeRun) (h : History) (stop t k : ℕ) (union : State) (w : WriterState) → FollowsUntil run stop → IsEmitted run h stop → t ≤ stop
+    → suc k ≤ h.newest t → IsUnionBelow h t k union → IsResumedFrom union (h.cuts (suc k)) w
+    → (base : List Fact) × LacksAdvances base (log_to h t k) × GoesOn h.readers w base (h.cuts (suc k))
+union_goes_on run h stop t k union w follows emitted upto newest u is =
     let own : (h.cuts (suc k)).epoch ≡ suc k = emitted.epochs (suc k) in
     let resumed : IsResumed h.readers u.facts (h.cuts (suc k)) w =
     resumed_means h.readers (log_at h t) u.facts u.position union (h.cuts (suc k)) w (log_is_sound run h stop t follows emitted upto) u.means

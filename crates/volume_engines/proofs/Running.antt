@@ -1,5 +1,5 @@
 -- A run of guards and machines keeps the rules, one moment after another.
-use Rattle.std.proofs.Common.{◌≡◌, ℕ, zero, suc, ◌<◌, ◌≤◌, ◌⊎◌, ⊎_elim, inr, true, IsTrue, refl, sym, ◌∙◌, subst, ap, arith}
+use Rattle.std.proofs.Common.{◌≡◌, ℕ, zero, suc, ◌<◌, ◌≤◌, ⊎_elim, inr, true, IsTrue, refl, sym, ◌∙◌, subst, ap, arith}
 use Rattle.std.specs.List.{Contains}
 use Rattle.redo_core.specs.Data.{CutData}
 use Rattle.messages.specs.Summaries.{SummaryData}
@@ -27,7 +27,8 @@ use Rattle.volume_guards.specs.Guards.{vote_of, as_node, KeepsFacts}
 use Rattle.volume_guards.proofs.Guards.{not_later}
 use Rattle.volume_logs.specs.Histories.{History}
 use Rattle.volume_logs.specs.Emitting.{IsEmitted}
-use Rattle.volume_engines.specs.Lives.{Life, Guards, IsLife}
+use Rattle.volume_logs.proofs.Moving.{emitted_first}
+use Rattle.volume_engines.specs.Lives.{Guards}
 use Rattle.volume_engines.specs.World.{HasGuards}
 use Rattle.volume_engines.specs.Proposals.{IsLifeIn}
 use Rattle.volume_engines.specs.Running.{plain_move, move_shown, HasAskedNode, ServesLife, IsRunOfMachines, MachinesKeepRules}
@@ -38,6 +39,7 @@ use Rattle.volume_engines.proofs.Later.{proposal_later}
 use Rattle.volume_engines.proofs.Naming.{names_hold_before}
 use Rattle.volume_engines.proofs.Steps.{right_action}
 use Rattle.volume_engines.proofs.Following.{goes_on}
+use Rattle.volume_engines.proofs.Recording.{moments_rise, fewer_steps, guards_until, emitted_next}
 
 -- ---- the move that a reply shows
 module _ (run : VolumeRun) (h : History) (content : ReplicaData → Content) (guards : Guards) (e s t node : ℕ) (Q : SummaryData → Type 0)
@@ -153,45 +155,20 @@ module _ (run : VolumeRun) (h : History) (content : ReplicaData → Content) (gu
       (λ yes. by_reply (request.Plain asked) (reply.Plain yes.2.0) yes.2.2 (plainly asked yes.0 yes.1 keeps))
       says
 
--- ---- a life up to one of its steps
-moments_rise : (run : VolumeRun) (guards : Guards) (e : ℕ) (life : Life) (count : ℕ) → IsLife run guards e life count → (m n : ℕ) → m ≤ n → n < count
-    → life.moments m ≤ life.moments n
-moments_rise run guards e life count is m zero order step = subst (λ (x : ℕ). life.moments x ≤ life.moments 0) (let none : 0 ≡ m = omega arith in none) (omega arith)
-moments_rise run guards e life count is m (suc n) order step = ⊎_elim
-    (λ (same : m ≡ suc n). subst (λ (x : ℕ). life.moments x ≤ life.moments (suc n)) (sym same) (omega arith))
-    (λ (early : m < suc n).
-    let before : life.moments m ≤ life.moments n = moments_rise run guards e life count is m n (omega arith) (omega arith) in
-    let next : life.moments n ≤ life.moments (suc n) = is.in_time n step in
-    omega arith)
-    (let way : (m ≡ suc n) ⊎ (m < suc n) = grind (arith, order) in way)
-
-fewer_steps : (run : VolumeRun) (guards : Guards) (e : ℕ) (life : Life) (count fewer : ℕ) → fewer ≤ count → IsLife run guards e life count
-    → IsLife run guards e life fewer
-fewer_steps run guards e life count fewer low is = record {
-  nodes = is.nodes;
-  quorum = is.quorum;
-  settings = is.settings;
-  opens = is.opens;
-  above = is.above;
-  steps = λ n step. is.steps n (omega arith);
-  in_time = λ n step. is.in_time n (omega arith);
-  heard = λ n step. is.heard n (omega arith);
-}
-
-guards_until : (run : VolumeRun) (h : History) (stop t : ℕ) (content : ReplicaData → Content) (guards : Guards) → t ≤ stop → HasGuards run h stop content guards
-    → HasGuards run h t content guards
-guards_until run h stop t content guards low is = record { nodes = λ s i upto. is.nodes s i (omega arith); holds = λ s i upto. is.holds s i (omega arith) }
-
 -- ---- one moment after another
 module _ (run : VolumeRun) (h : History) (stop : ℕ) (content : ReplicaData → Content) (guards : Guards) (is : IsRunOfMachines run h stop content guards) where
-  life_in : (t e node : ℕ) (asked : Request) → t ≤ stop → FollowsUntil run t → (x : HasAskedNode run h guards t e node asked)
+  -- both are kept until the moment
+  abbrev Kept : ℕ → Type 0
+  Kept t = FollowsUntil run t × IsEmitted run h t
+
+  life_in : (t e node : ℕ) (asked : Request) → t ≤ stop → Kept t → (x : HasAskedNode run h guards t e node asked)
       → IsLifeIn run h t content guards e x.life (suc x.step)
-  life_in t e node asked upto follows x =
+  life_in t e node asked upto kept x =
       let within : x.step < x.count = x.within in
       let sent : x.life.moments x.step ≤ t = x.sent in
       record {
-        follows = follows;
-        emitted = is.emitted t upto follows;
+        follows = kept.0;
+        emitted = kept.1;
         guarded = guards_until run h stop t content guards upto is.guarded;
         lives = fewer_steps run guards e x.life x.count (suc x.step) (omega arith) x.lives;
         readers = x.readers;
@@ -201,31 +178,36 @@ module _ (run : VolumeRun) (h : History) (stop : ℕ) (content : ReplicaData →
             omega arith;
       }
 
-  turn_follows : (t : ℕ) → t < stop → FollowsUntil run t → ServesLife run h content guards t → FollowsUntil run (suc t)
-  turn_follows t low follows turn =
+  turn_follows : (t : ℕ) → t < stop → Kept t → ServesLife run h content guards t → FollowsUntil run (suc t)
+  turn_follows t low kept turn =
       let x = turn.asks in
-      let lives : IsLifeIn run h t content guards turn.engine x.life (suc x.step) = life_in t turn.engine turn.node turn.asked (omega arith) follows x in
+      let lives : IsLifeIn run h t content guards turn.engine x.life (suc x.step) = life_in t turn.engine turn.node turn.asked (omega arith) kept x in
       let Q : SummaryData → Type 0 = Allowed (x.life.states (suc x.step)).phase in
       let right : Right run h turn.engine Q (x.life.moments x.step) turn.node turn.asked =
       right_action run h t content guards turn.engine x.life (suc x.step) lives x.step (Ask turn.node turn.asked) (omega arith) x.asks in
-      goes_on run t content guards turn.node turn.asked turn.told (move_shown turn.engine turn.asked turn.told) follows
+      goes_on run t content guards turn.node turn.asked turn.told (move_shown turn.engine turn.asked turn.told) kept.0
       (lives.guarded.nodes t turn.node (omega arith)) turn.executes
-      (shown run h content guards turn.engine (x.life.moments x.step) t turn.node Q follows lives.emitted lives.guarded x.sent turn.told turn.asked right
+      (shown run h content guards turn.engine (x.life.moments x.step) t turn.node Q kept.0 lives.emitted lives.guarded x.sent turn.told turn.asked right
       turn.executes.replies turn.executes.keeps) turn.move
 
-  follows_to : (t : ℕ) → t ≤ stop → FollowsUntil run t
-  follows_to zero upto = record {
-    overlap = is.overlap;
-    begins = is.begins;
-    moves = λ t low. absurd (omega arith);
-    others = λ t i low. absurd (omega arith);
-  }
-  follows_to (suc t) upto =
-      let before : FollowsUntil run t = follows_to t (omega arith) in
+  kept_on : (t : ℕ) → suc t ≤ stop → Kept t → FollowsUntil run (suc t) → Kept (suc t)
+  kept_on t upto kept follows = (follows, emitted_next run h stop t content guards is.guarded is.history upto kept.1 follows)
+
+  kept_to : (t : ℕ) → t ≤ stop → Kept t
+  kept_to zero upto =
+      let follows : FollowsUntil run 0 = record {
+        overlap = is.overlap;
+        begins = is.begins;
+        moves = λ t low. absurd (omega arith);
+        others = λ t i low. absurd (omega arith);
+      } in
+      (follows, emitted_first run h follows is.history.blank)
+  kept_to (suc t) upto =
+      let before : Kept t = kept_to t (omega arith) in
       ⊎_elim
-      (λ turn. turn_follows t (omega arith) before turn)
-      (λ alone. follows_on run t before alone.moves alone.others)
+      (λ turn. kept_on t upto before (turn_follows t (omega arith) before turn))
+      (λ alone. kept_on t upto before (follows_on run t before.0 alone.moves alone.others))
       (is.turns t (omega arith))
 
 pub machines_keep_rules : MachinesKeepRules
-machines_keep_rules run h stop content guards is = follows_to run h stop content guards is stop (omega arith)
+machines_keep_rules run h stop content guards is = kept_to run h stop content guards is stop (omega arith)

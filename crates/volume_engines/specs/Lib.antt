@@ -5,9 +5,10 @@ pub mod Engines
 pub mod Proposals
 pub mod Emissions
 pub mod Reporting
-pub mod Writers
 pub mod Resuming
+pub mod Writers
 pub mod Openings
 pub mod Admitted
 pub mod Following
 pub mod Running
+pub mod Keeping

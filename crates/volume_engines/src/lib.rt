@@ -7,6 +7,7 @@ ghost use Rattle.volume_engines.specs.Admitted.{AdmissionsKeepRules, RequestsKee
 ghost use Rattle.volume_engines.specs.Following.{LivesFollowOn};
 ghost use Rattle.volume_engines.specs.Openings.{OneLifeOpens, OpeningsAreDurable, OpeningsLast, TakesKeepRules};
 ghost use Rattle.volume_engines.specs.Running.{MachinesKeepRules};
+ghost use Rattle.volume_engines.specs.Keeping.{ReportsLast};
 ghost use Rattle.volume_engines.specs.Proposals.{ProposalsKeepRules};
 ghost use Rattle.volume_engines.specs.Reporting.{ReportsAreDurable};
 ghost use Rattle.volume_engines.specs.Writers.{EmissionsKeepRules};
@@ -37,12 +38,12 @@ pub fn reports_are_durable()
     ensures { ReportsAreDurable }
 {}
 
-/// What it emits, the rules let the writer of its epoch emit, where its writer began by going on from the epochs below.
+/// What it emits, the rules let the writer of its epoch emit.
 pub fn emissions_keep_rules()
     ensures { EmissionsKeepRules }
 {}
 
-/// The writer that it begins with, made of what the union stores, goes on from the epochs below, where the union has nothing of later ones.
+/// The writer that it begins with, made of what the union stores, goes on from the epochs below.
 pub fn openings_go_on()
     ensures { OpeningsGoOn }
 {}
@@ -67,7 +68,7 @@ pub fn lives_follow_on()
     ensures { LivesFollowOn }
 {}
 
-/// A run of such machines and of guards keeps the rules of the protocol.
+/// A run of such machines and of guards keeps the rules of the protocol and of the log.
 pub fn machines_keep_rules()
     ensures { MachinesKeepRules }
 {}
@@ -85,4 +86,9 @@ pub fn one_life_opens()
 /// What one such machine reports as open, no later truncation of another one annuls.
 pub fn openings_last()
     ensures { OpeningsLast }
+{}
+
+/// What a machine reports as durable in such a run, no later truncation annuls: nothing that was reported as durable is lost.
+pub fn reports_last()
+    ensures { ReportsLast }
 {}

@@ -1,4 +1,4 @@
-use Rattle.volume_engines.proofs.Resuming.{openings_go_on}
+use Rattle.volume_engines.proofs.Below.{openings_go_on}
 use Rattle.volume_engines.proofs.openings_go_on.Goals as goal
 
 pub returns : goal.returns
