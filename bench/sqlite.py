@@ -231,7 +231,7 @@ def grow(_, cluster, megabytes, keep):
 
 
 def recovery(program, folder, megabytes, runs):
-    """Databases of two sizes, of which little and all can be read in the past. An opening moves the whole volume, whatever is readable."""
+    """Databases of two sizes, of which little and all can be read in the past. An opening moves the volume to the engine, whatever is readable."""
     print("\nRecovery.\n\n| MB | readable in the past | ms until open for writing after the engine was killed | ms until a server without files has all |\n|---|---|---|---|")
     for size, keep, much in ((megabytes, 10, "10 commits, 1 MB"), (megabytes / 4, 0, "all")):
         cluster = Cluster(program, folder / f"keep{keep}", None, GOSSIP, NO_SNAPSHOTS)

@@ -18,7 +18,7 @@ from harness.sqlite_worlds import is_whole, last_message, one
 KEPT = 20  # commits that stay readable, so that servers fold and discard
 ROWS = 100  # of a commit
 SNAPSHOTS = 2  # of each server, at least
-PATIENCE, MORE = 20_000, 1000  # milliseconds of an opening, which moves the whole volume, and how many more for each megabyte
+PATIENCE, MORE = 20_000, 1000  # milliseconds of an opening, which moves the volume to the engine, and how many more for each megabyte
 TABLES = """
 create table t(a integer primary key, b blob);
 create table total(rows integer, bytes integer, last integer);
