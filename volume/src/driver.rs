@@ -471,6 +471,10 @@ impl<M: Machine> Driver<M> {
         if self.grace.is_some() || (!self.is_opening() && !self.progress.is_waiting()) {
             return;
         }
+        // While one node answers what it has, the others are idle. The machine would ask each of them for all that it has.
+        if self.peers.iter().any(|peer| peer.awaits_pull) {
+            return;
+        }
         for place in 0..self.peers.len() {
             let peer = &mut self.peers[place];
             if peer.queue.is_some() && peer.pending == 0 && peer.active.elapsed() >= self.options.remind {

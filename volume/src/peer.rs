@@ -25,6 +25,8 @@ pub struct Peer {
     pub awaits_fence: bool,
     /// Whether it was asked to become a member, and has not answered.
     pub awaits_admission: bool,
+    /// Whether it was asked what it has, and has not answered.
+    pub awaits_pull: bool,
 }
 
 impl Peer {
@@ -38,6 +40,7 @@ impl Peer {
             outside: None,
             awaits_fence: false,
             awaits_admission: false,
+            awaits_pull: false,
         }
     }
 
@@ -50,6 +53,7 @@ impl Peer {
         }
         if let Some(queue) = &self.queue {
             self.awaits_admission |= request.starts_with(ADMIT);
+            self.awaits_pull |= is_pull(&request);
             // A link that has ended says so next.
             let _ = queue.send(request);
         }
@@ -62,6 +66,7 @@ impl Peer {
         let before = (self.is_answering, self.outside);
         self.is_answering = true;
         self.awaits_admission &= !request.starts_with(ADMIT);
+        self.awaits_pull &= !is_pull(request);
         if [&b"as "[..], b"fenced ", b"admitted "].iter().any(|word| answer.starts_with(word)) {
             self.outside = None;
         } else if let Some(birth) = fresh_birth(answer) {
@@ -80,6 +85,12 @@ impl Peer {
         self.awaits_fence = false;
         is_own_fence(request, answer, generation)
     }
+}
+
+/// Whether this asks a node what it has beyond a summary: `as G B answer SUMMARY`.
+fn is_pull(request: &[u8]) -> bool {
+    let mut words = request.splitn(4, |byte| *byte == b' ');
+    words.next() == Some(b"as") && words.nth(2).is_some_and(|word| word.starts_with(b"answer "))
 }
 
 /// The birth of a node that says that it is no member.
@@ -118,6 +129,22 @@ mod tests {
         assert_eq!(peer.outside, None);
         assert!(!peer.hear(b"status", b"status 4 9 1 0 0 0", 4) && peer.hear(b"status", b"status 0 10 0 0 0 0", 4));
         assert_eq!(peer.outside, Some(Outside::Fresh(10)));
+    }
+
+    #[test]
+    fn what_a_node_has_is_awaited() {
+        let (queue, asked) = std::sync::mpsc::channel();
+        let mut peer = Peer { queue: Some(queue), ..Peer::new() };
+        for request in [&b"as 3 7 front"[..], b"answer x", b"as 3 7 take answer x", b"fence 3"] {
+            peer.ask(request.to_vec(), 100);
+            assert!(!peer.awaits_pull);
+        }
+        peer.ask(b"as 3 7 answer x".to_vec(), 100);
+        assert!(peer.awaits_pull && asked.iter().take(5).count() == 5);
+        peer.hear(b"as 3 7 front", b"as 3 7 front 1 2 0", 3);
+        assert!(peer.awaits_pull);
+        peer.hear(b"as 3 7 answer x", b"memory", 3);
+        assert!(!peer.awaits_pull);
     }
 
     #[test]
