@@ -7,6 +7,7 @@ use crate::options::Options;
 use crate::peer::Peer;
 use crate::progress::{Place, Progress, Reached};
 use crate::reopening::{Next, Reopening, Seen};
+use crate::spreading::{is_proposal, is_question, Spread};
 use crate::volume::PageWrite;
 use std::collections::VecDeque;
 use std::sync::mpsc::{Receiver, RecvTimeoutError, Sender};
@@ -118,6 +119,8 @@ pub struct Driver<M> {
     /// Until when answers are held back, and these answers.
     grace: Option<Grace>,
     held: Vec<Held>,
+    /// Whether the machine has gone on with what a quorum has, as far as it spreads that.
+    has_proposed: bool,
     /// When an opening that has lost a node is given up.
     given_up: Option<Instant>,
     reopening: Reopening,
@@ -139,6 +142,7 @@ impl<M: Machine> Driver<M> {
             opening: None,
             grace: None,
             held: Vec::new(),
+            has_proposed: false,
             given_up: None,
             reopening: Reopening::new(options, Instant::now()),
             deferred: VecDeque::new(),
@@ -158,6 +162,7 @@ impl<M: Machine> Driver<M> {
                 Ok(Input::Close) | Err(RecvTimeoutError::Disconnected) => break,
             }
             self.release_held();
+            self.spread();
             self.give_up_opening();
             self.reopen();
             self.go_on();
@@ -301,11 +306,7 @@ impl<M: Machine> Driver<M> {
             match action {
                 // The node has what it is to absorb, and may be admitted at once.
                 Action::Ask { node, request } if request.starts_with(b"absorb ") && self.reopening.is_helped(node) => {}
-                Action::Ask { node, request } => {
-                    if let Some(peer) = self.peers.get_mut(usize::from(node)) {
-                        peer.ask(request, most);
-                    }
-                }
+                Action::Ask { node, request } => self.ask(node, request, most),
                 Action::Opened { epoch, commit_point, header } => {
                     self.opened(epoch, commit_point, header);
                     outcome.is_done = true;
@@ -318,6 +319,40 @@ impl<M: Machine> Driver<M> {
         }
         self.pause_for_admission();
         Ok(outcome)
+    }
+
+    /// Queues what the machine asks of a node, unless an opening holds it back.
+    fn ask(&mut self, node: u8, request: Vec<u8>, most: usize) {
+        let is_opening = self.is_opening();
+        let Some(peer) = self.peers.get_mut(usize::from(node)) else {
+            return;
+        };
+        self.has_proposed = is_proposal(&request) || (self.has_proposed && !is_question(&request));
+        let request = if is_opening { peer.spread.ask(request, Instant::now()) } else { Some(request) };
+        if let Some(request) = request {
+            peer.ask(request, most);
+        }
+    }
+
+    /// Sends what was held back to nodes that are behind others, where the machine has gone on; and to all, where it has not although all have
+    /// reported their fronts, or one of them takes long.
+    fn spread(&mut self) {
+        if !self.peers.iter().any(|peer| peer.spread.is_holding()) {
+            return;
+        }
+        let (now, pause, has_proposed) = (Instant::now(), self.options.grace, self.has_proposed);
+        let greatest = self.peers.iter().filter_map(|peer| peer.spread.front()).max();
+        let is_late = self.peers.iter().any(|peer| peer.spread.is_overdue(now, pause));
+        let are_known = !self.peers.iter().any(|peer| peer.spread.awaits_front());
+        for peer in &mut self.peers {
+            let is_behind = peer.spread.front() < greatest;
+            match has_proposed {
+                true if peer.spread.awaits_front() => {}
+                true if !is_behind => peer.spread.drop_held(),
+                false if !are_known && !is_late => {}
+                _ => peer.spread.release().into_iter().flatten().for_each(|request| peer.ask(request, usize::MAX)),
+            }
+        }
     }
 
     /// Reports that the volume is open. Where it was open before, nothing was in flight, so a commit that this engine has not made is of
@@ -355,7 +390,9 @@ impl<M: Machine> Driver<M> {
         self.progress.claim(generation);
         self.held.clear();
         self.given_up = None;
-        self.peers.iter_mut().for_each(|peer| peer.awaits_admission = false);
+        for peer in &mut self.peers {
+            (peer.awaits_admission, peer.spread) = (false, Spread::default());
+        }
         self.pause(Pause::Fence);
     }
 
@@ -477,7 +514,8 @@ impl<M: Machine> Driver<M> {
         }
         for place in 0..self.peers.len() {
             let peer = &mut self.peers[place];
-            if peer.queue.is_some() && peer.pending == 0 && peer.active.elapsed() >= self.options.remind {
+            let is_idle = peer.queue.is_some() && peer.pending == 0 && !peer.spread.is_holding();
+            if is_idle && peer.active.elapsed() >= self.options.remind {
                 peer.active = Instant::now();
                 self.notice(Event::Failed { node: place as u8 });
             }

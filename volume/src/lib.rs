@@ -23,6 +23,7 @@ mod progress;
 mod reader;
 mod reading;
 mod reopening;
+mod spreading;
 mod standing;
 mod volume;
 

@@ -1,6 +1,7 @@
 //! A node as the driver sees it.
 
 use crate::reopening::Outside;
+use crate::spreading::Spread;
 use std::sync::mpsc::Sender;
 use std::time::Instant;
 use yieldcleat_client::{engines, Declined, Error};
@@ -27,6 +28,8 @@ pub struct Peer {
     pub awaits_admission: bool,
     /// Whether it was asked what it has, and has not answered.
     pub awaits_pull: bool,
+    /// What an opening holds back from it.
+    pub spread: Spread,
 }
 
 impl Peer {
@@ -41,6 +44,7 @@ impl Peer {
             awaits_fence: false,
             awaits_admission: false,
             awaits_pull: false,
+            spread: Spread::default(),
         }
     }
 
@@ -67,6 +71,7 @@ impl Peer {
         self.is_answering = true;
         self.awaits_admission &= !request.starts_with(ADMIT);
         self.awaits_pull &= !is_pull(request);
+        self.spread.hear(answer, generation);
         if [&b"as "[..], b"fenced ", b"admitted "].iter().any(|word| answer.starts_with(word)) {
             self.outside = None;
         } else if let Some(birth) = fresh_birth(answer) {
