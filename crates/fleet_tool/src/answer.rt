@@ -12,6 +12,7 @@ ghost use Rattle.script_text.specs.TextReasons.{ExplainsScript, ExplainsLog, IsE
 ghost use Rattle.fleet_tool.specs.declared.explaining.Reason.TheVariants.{BadLine};
 ghost use Rattle.fleet_tool.specs.Explaining.{HasSoundLog, IsTrueReason};
 ghost use Rattle.fleet_tool.specs.TaskName.{as_text_task};
+ghost use Rattle.fleet_tool.specs.declared.job.TextTask.{TextTask};
 ghost use Rattle.fleet_tool.specs.Output.{SaysBadLine, SaysUnsound, SaysReplies, IsRunOutput, IsCheckOutput, IsOutputOf};
 
 use crate::explaining::{Reason, fault_reason};

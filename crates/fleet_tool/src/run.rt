@@ -5,6 +5,7 @@ ghost use Rattle.fleet_tool.specs.Explaining.{HasSoundLog, IsTrueReason};
 ghost use Rattle.fleet_tool.specs.Inspect.{inspected};
 ghost use Rattle.fleet_tool.specs.Output.{IsOutputOf};
 ghost use Rattle.fleet_tool.specs.TaskName.{as_text_task};
+ghost use Rattle.fleet_tool.specs.declared.job.TextTask.{TextTask};
 ghost use Rattle.fleet_tool.specs.TextCall.{IsTextCall};
 ghost use Rattle.framing.specs.Watching.{has_failed};
 

@@ -1,7 +1,7 @@
 ghost use Rattle.std.specs.Prelude.{◌≡◌, ◌↔◌, ◌++◌, IsTrue, IfOk, IfSome, IfNone, OnErr, None, Ok, MatchOption};
 ghost use Rattle.gossip_core.specs.declared.absorbing.AbsorbRefusal.TheVariants.{Refused as RefusedFor};
 ghost use Rattle.segment_core.specs.declared.answers.Refusal.TheVariants.{Memory as IsMemory};
-ghost use Rattle.volume.specs.Opening.{asked_with, HearsDelta, Pulls, PullsOthers, GrowsBy, Plans, HearsSummary, Pushes, HearsKnown, Knows, PullsAgain, ProposesPlan, AdmitsFresh, FillsFor};
+ghost use Rattle.volume.specs.Opening.{asked_with, HearsDelta, Pulls, PullsOthers, GoesOnPulling, GrowsBy, Plans, HearsSummary, Pushes, HearsKnown, Knows, PullsAgain, ProposesPlan, AdmitsFresh, FillsFor};
 ghost use Rattle.gossip_core.specs.Summarizing.{Summarizes};
 ghost use Rattle.volume.specs.Asking.{asks_from};
 ghost use Rattle.volume.specs.Opening.{RefusesDelta, BreaksChain};
@@ -60,11 +60,24 @@ fn pull(
     ensures pulls { IfOk result (Pulls opening.old node left delta.now opening.new) }
     ensures unchanged { OnErr result (opening.new ≡ opening.old) }
 {
-    let Some(union) = grown(&opening.union, opening.asked(), delta)? else {
+    let Some(union) = grown_by(opening, delta)? else {
         return end(alloc, Fault::Damaged);
     };
     let mut left = left;
     unmark(&mut left, node);
+    go_on_pulling(alloc, opening, left, union)
+}
+
+/// Goes on with a larger union: makes it known where none is left, and asks the others where one has answered.
+fn go_on_pulling(
+    alloc: Global,
+    opening: &mut Opening,
+    left: [bool; 15],
+    union: Segment,
+) -> Result<Turn, AllocError>
+    ensures goes { IfOk result (GoesOnPulling opening.old union left opening.new) }
+    ensures unchanged { OnErr result (opening.new ≡ opening.old) }
+{
     if count(&left) == 0 {
         return settle(alloc, opening, union);
     }
@@ -106,6 +119,17 @@ fn ask_beyond(
     let errand = Errand::Pull(asked.copy()?);
     let actions = ask_each(alloc, session.generation, &session.births, &errand)?;
     Ok((asked, actions))
+}
+
+/// The union with what a node has beyond the summary that it was asked with, or None where that does not fit.
+fn grown_by(opening: &Opening, delta: &Delta) -> Result<Option<Segment>, AllocError>
+    ensures grows { IfOk result (λ o. IfSome o (GrowsBy opening.now.union (asked_with opening.now) delta.now)) }
+    ensures refuses { IfOk result (λ o. IfNone o (RefusesDelta opening.now.union (asked_with opening.now) delta.now)) }
+{
+    match &opening.asked {
+        Some(asked) => grown(&opening.union, asked, delta),
+        None => grown(&opening.union, &opening.summary, delta),
+    }
 }
 
 /// The union with what another segment has beyond a summary that the union answers for, or None where that does not fit.

@@ -13,8 +13,9 @@ returns-in-Err-Unsound-clause-output c =
     let read : script_of c.args.input.items ≡ Ok (script_data c.in-Ok.script) = c.in-Ok.ensures.script in
     let facts : c.deref.result.now ≡ c.in-Ok.script.facts.items = search rules in
     let reported = rw facts at (rw c.in-Err-Unsound.field-0-is at (c.in-Err-Unsound.ensures.unsound)) in
+    let says = rw c.in-Err-Unsound.field-0-is at (c.unsound.ensures.says c.in-Ok.script.roster c.in-Ok.script.facts.items) in
     run_unsound (script_of c.args.input.items) (script_data c.in-Ok.script) c.unsound.result read
-    (c.unsound.ensures.says c.in-Ok.script.roster c.in-Ok.script.facts.items reported)
+    (says reported)
 
 pub replies-requires-clause-sound : goal.replies-requires-clause-sound
 replies-requires-clause-sound c =
