@@ -1,5 +1,5 @@
 -- The alive records above an anchor, gathered by the keys of the kept ones.
-use Rattle.std.proofs.Common.{◌≡◌, ℕ, zero, suc, ◌+◌, ◌<◌, ◌≤◌, ◌⊎◌, inl, inr, ⊎_elim, List, [], ◌∷◌, ◌++◌, length, get_or, take, map, reverse, Option, Some, None, refl, sym, ap, ◌∙◌, subst, arith}
+use Rattle.std.proofs.Common.{◌≡◌, ℕ, zero, suc, ◌+◌, ◌<◌, ◌≤◌, inr, ⊎_elim, List, [], ◌∷◌, ◌++◌, length, get_or, take, map, reverse, Some, None, refl, sym, ap, ◌∙◌, subst, arith}
 use Rattle.std.specs.List.{Contains}
 use Rattle.std.proofs.lemmas.List.{map-append, reverse-append, length-map}
 use Rattle.redo_core.specs.Data.{RecordData}
@@ -9,7 +9,6 @@ use Rattle.redo_core.specs.Standing.{IsAlive, IsWaiting}
 use Rattle.redo_core.specs.declared.keys.Key.{Key}
 use Rattle.redo_core.proofs.Members.{none_in, item, each, which}
 use Rattle.redo_core.proofs.Listing.{lists_more, lists_left, lists_whole, lists_as}
-use Rattle.hot_log.specs.Held.{HasKey, IsRecordAt}
 use Rattle.hot_log.specs.Kept.{ListsKeysOf}
 use Rattle.segment_theorems.specs.State.{State}
 use Rattle.segment_theorems.specs.HasMeaning.{IsKeptBy}

@@ -1,5 +1,5 @@
 -- What the writer's refusals are by name.
-use Rattle.std.proofs.Common.{◌≡◌, ◌==◌, ℕ, nat_lt, length, List, Option, Some, None, ap, if◌then◌else◌}
+use Rattle.std.proofs.Common.{◌≡◌, ℕ, nat_lt, length, Option, Some, None, ap, if◌then◌else◌}
 use Rattle.redo_core.specs.Data.{advance_of}
 use Rattle.redo_core.specs.Shape.{advance_fault}
 use Rattle.redo_core.specs.declared.shapes.ShapeFault.{ShapeFault}

@@ -1,5 +1,5 @@
 -- The number at the end of each page, gathered from the least page on.
-use Rattle.std.proofs.Common.{◌≡◌, ◌≢◌, ℕ, ◌<◌, ◌≤◌, ◌⊎◌, inl, inr, ⊎_elim, List, [], slice_index, Option, Some, None, refl, sym, ◌∙◌, subst, arith}
+use Rattle.std.proofs.Common.{◌≡◌, ℕ, ◌<◌, ◌≤◌, ◌⊎◌, inl, inr, ⊎_elim, List, [], slice_index, Option, Some, None, refl, sym, ◌∙◌, subst, arith}
 use Rattle.hot_log.specs.Found.{IsLeast, IsPageAbove}
 use Rattle.segment_theorems.specs.State.{State}
 use Rattle.segment_theorems.specs.Shows.{Shows}

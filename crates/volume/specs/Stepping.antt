@@ -1,5 +1,5 @@
 -- What follows from an event.
-use Rattle.std.specs.Prelude.{◌≡◌, ◌≢◌, ℕ, ◌<◌, ◌≤◌, ◌⊎◌, List, [], ◌∷◌}
+use Rattle.std.specs.Prelude.{◌≡◌, ℕ, ◌<◌, ◌≤◌, ◌⊎◌, List, [], ◌∷◌}
 use Rattle.guard.specs.declared.replies.Reply.{Reply}
 use Rattle.volume.specs.declared.actions.Action.{Action}
 use Rattle.volume.specs.declared.actions.Action.TheVariants.{Refused}

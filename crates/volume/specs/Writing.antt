@@ -27,9 +27,9 @@ use Rattle.volume.specs.declared.errands.Errand.TheVariants as errand
 use Rattle.volume.specs.declared.phases.Session.{Session}
 use Rattle.volume.specs.declared.phases.Writing.{Writing}
 use Rattle.volume.specs.declared.turns.Turn.{Turn}
-use Rattle.volume.specs.Sets.{birth_at, count_at_least}
+use Rattle.volume.specs.Sets.{count_at_least}
 use Rattle.volume.specs.declared.errands.Query.TheVariants.{Fence}
-use Rattle.volume.specs.Asking.{asks_from, asks_at, asks_of, query_to}
+use Rattle.volume.specs.Asking.{asks_from, asks_of, query_to}
 use Rattle.redo_writer.specs.Layout.{number_patch, commit_patch}
 use Rattle.volume.specs.Layout.{IsUsers}
 use Rattle.volume.specs.Sessions.{IsOwn, IsLate, with_birth}

@@ -1,4 +1,4 @@
-use Rattle.std.proofs.Common.{◌≡◌, ℕ, inr, List, Bool, false, Option, Result, Ok, Err, IfOk, IfSome, slice_set, subst}
+use Rattle.std.proofs.Common.{ℕ, inr, List, Bool, false, Option, Result, Ok, Err, IfOk, IfSome, slice_set, subst}
 use Rattle.std.specs.declared.alloc.AllocError.{AllocError}
 use Rattle.messages.specs.Deltas.{DeltaData}
 use Rattle.segment_theorems.specs.State.{State}
