@@ -1,5 +1,5 @@
 -- The summary of a state that nothing has reached has nothing in it, and each state answers for it.
-use Rattle.std.proofs.Common.{◌≡◌, ℕ, ◌<◌, ◌×◌, ⊎_elim, List, [], ◌∷◌, map, refl, sym, ◌∙◌, subst, ap, arith}
+use Rattle.std.proofs.Common.{◌≡◌, ℕ, ◌<◌, ◌≤◌, ⊎_elim, List, [], ◌∷◌, map, refl, sym, ◌∙◌, subst, ap, arith}
 use Rattle.std.specs.List.{Contains, All}
 use Rattle.redo_core.specs.Data.{RecordData, CutData}
 use Rattle.redo_core.specs.Keys.{key_of}
@@ -42,6 +42,8 @@ pub bare_answered : (s : State) (anchor : ℕ) (summary : SummaryData) → HasAn
 bare_answered s anchor summary has bare = (
   anchor,
   has,
-  omega (arith, bare.0),
-  subst (λ (keys : List Key). All (IsCovered s anchor) keys) (sym bare.1) (λ k x within. absurd (let no : k < 0 = within in omega arith)),
+  (
+    omega (arith, bare.0),
+    subst (λ (keys : List Key). All (IsCovered s anchor) keys) (sym bare.1) (λ k x within. absurd (let no : k < 0 = within in omega arith)),
+  ),
 )

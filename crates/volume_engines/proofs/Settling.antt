@@ -33,7 +33,7 @@ use Rattle.volume.specs.declared.turns.Turn.{Turn}
 use Rattle.volume.specs.declared.turns.Turn.TheVariants as turn
 use Rattle.volume.specs.Asking.{requests_of, asks_of, asks_from, asks_at, queries_from, query_to}
 use Rattle.volume.specs.Fencing.{PullsQuorum, GoesOn, HearsFencing, RetriesFencing}
-use Rattle.volume.specs.Opening.{opened_with, at_stage, with_union, to_each, EndsAlone, ChangesNothing, IsQuorum, Plans, GoesOnPulling, HearsDelta, HearsSummary, PullsAgain, joining_of, AdmitsFresh, ProposesPlan, Knows, HearsAccepted, TakesPlan, BeginsEpoch, HearsFront, HearsHeaded, asks_in_stage, HearsLate, HearsLost, HearsOpening, asks_again, retries_opening}
+use Rattle.volume.specs.Opening.{opened_with, asking_with, asked_with, AsksWith, at_stage, with_union, to_each, EndsAlone, ChangesNothing, IsQuorum, Plans, GoesOnPulling, HearsDelta, HearsSummary, PullsAgain, joining_of, AdmitsFresh, ProposesPlan, Knows, HearsAccepted, TakesPlan, BeginsEpoch, HearsFront, HearsHeaded, asks_in_stage, HearsLate, HearsLost, HearsOpening, asks_again, retries_opening}
 use Rattle.volume.specs.Resuming.{BeginsWriting, OpensVolume}
 use Rattle.volume.specs.Sessions.{with_birth}
 use Rattle.volume.specs.Settings.{SettingsData}
@@ -132,8 +132,8 @@ again_asks o (stage.Spreading plan known) node None = query_has (CutOf (stage.Sp
 again_asks o (stage.Proposing plan accepted) node None = query_has (CutOf (stage.Proposing plan accepted)) node (query.Fence o.session.generation)
 again_asks o (stage.Taking plan reported) node None = query_has (CutOf (stage.Taking plan reported)) node (query.Fence o.session.generation)
 again_asks o (stage.Pulling left) node (Some birth) =
-    if_have (CutOf (stage.Pulling left)) (is_marked left node) (asks_at o.session.generation (errand.Pull o.summary) node (Some birth))
-    (one_has (CutOf (stage.Pulling left)) node o.session.generation (Some birth) (errand.Pull o.summary) tt)
+    if_have (CutOf (stage.Pulling left)) (is_marked left node) (asks_at o.session.generation (errand.Pull (asked_with o)) node (Some birth))
+    (one_has (CutOf (stage.Pulling left)) node o.session.generation (Some birth) (errand.Pull (asked_with o)) tt)
 again_asks o (stage.Spreading plan known) node (Some birth) = stage_asks (stage.Spreading plan known) o.session.generation node (Some birth)
 again_asks o (stage.Proposing plan accepted) node (Some birth) = stage_asks (stage.Proposing plan accepted) o.session.generation node (Some birth)
 again_asks o (stage.Taking plan reported) node (Some birth) = stage_asks (stage.Taking plan reported) o.session.generation node (Some birth)
@@ -212,10 +212,21 @@ module _ (F : Type 0) (H : State → Stage → Type 0) (W : Writing → Type 0) 
       (λ fault. ends new t fault.0 fault.2)
       says
 
+  asks_with : (u : State) (left : List Bool) (asked : Option SummaryData) (new : Opening) (t : Turn) → Seeks old.stage → AsksWith old left u asked new t
+      → Left new t
+  asks_with u left None new t seek says = absurd says
+  asks_with u left (Some asked) new t seek says =
+      let next : Stage = stage.Pulling left in
+      goes_to new (asking_with old u asked next) t (to_each old (errand.Pull asked)) says.1 says.2 (seeks u next seek tt)
+      (each_has (CutOf next) 0 old.session.generation old.session.births (errand.Pull asked) tt)
+
   goes_on_pulling : (u : State) (left : List Bool) (new : Opening) (t : Turn) → Seeks old.stage → GoesOnPulling old u left new t → Left new t
   goes_on_pulling u left new t seek says = ⊎_elim
-      (λ more. goes_to new (with_union old u (stage.Pulling left)) t [] more.1 more.2 (seeks u (stage.Pulling left) seek tt) tt)
+      (λ first. asks_with u left new.asked new t seek first.2)
+      (λ rest. ⊎_elim
+      (λ more. goes_to new (with_union old u (stage.Pulling left)) t [] more.2 more.3 (seeks u (stage.Pulling left) seek tt) tt)
       (λ all. plans u new t seek all.1)
+      rest)
       says
 
   hears_delta : (st : Stage) (delta : DeltaData) (new : Opening) (t : Turn) → old.stage ≡ st → HearsDelta old st node delta new t → Left new t
@@ -265,9 +276,9 @@ module _ (F : Type 0) (H : State → Stage → Type 0) (W : Writing → Type 0) 
       (λ no. idle new t no.1)
       (λ again.
       let next : Stage = stage.Pulling (slice_set no_nodes node true) in
-      goes_to new (at_stage old next) t (asks_at old.session.generation (errand.Pull old.summary) node (birth_at old.session.births node)) again.1 again.2
+      goes_to new (at_stage old next) t (asks_at old.session.generation (errand.Pull (asked_with old)) node (birth_at old.session.births node)) again.1 again.2
       (seeks old.union next seek tt)
-      (one_has (CutOf next) node old.session.generation (birth_at old.session.births node) (errand.Pull old.summary) tt))
+      (one_has (CutOf next) node old.session.generation (birth_at old.session.births node) (errand.Pull (asked_with old)) tt))
       says
 
   knows_more : (plan : Plan) (known more : List Bool) (new : Opening) (t : Turn) → old.stage ≡ stage.Spreading plan known → Knows quorum old plan more new t
@@ -410,23 +421,23 @@ module _ (F : Type 0) (H : State → Stage → Type 0) (W : Writing → Type 0) 
       (λ few. stops_fencing t _ few.1)
       says
 
-  pulls : (s : SettingsData) (new : Fencing) (t : Turn) → PullsQuorum s new t → Fences t
-  pulls s new (turn.Enter (phase.Opening o) actions) says = (
+  pulls : (s : SettingsData) (new : Fencing) (node birth : ℕ) (t : Turn) → PullsQuorum s new node birth t → Fences t
+  pulls s new node birth (turn.Enter (phase.Opening o) actions) says = (
     subst (λ (st : Stage). H o.union st) (sym says.0.stage) (first o.union _),
-    subst (AllHave (CutOf o.stage)) (sym says.1) (each_has (CutOf o.stage) 0 new.generation new.births (errand.Pull o.summary) tt),
+    subst (AllHave (CutOf o.stage)) (sym says.1) (one_has (CutOf o.stage) node new.generation (Some birth) (errand.Pull o.summary) tt),
   )
-  pulls s new (turn.Enter phase.Idle actions) says = absurd says
-  pulls s new (turn.Enter (phase.Creating c) actions) says = absurd says
-  pulls s new (turn.Enter (phase.Fencing g) actions) says = absurd says
-  pulls s new (turn.Enter (phase.Open w) actions) says = absurd says
-  pulls s new (turn.Stay actions) says = absurd says
-  pulls s new (turn.End actions) says = absurd says
+  pulls s new node birth (turn.Enter phase.Idle actions) says = absurd says
+  pulls s new node birth (turn.Enter (phase.Creating c) actions) says = absurd says
+  pulls s new node birth (turn.Enter (phase.Fencing g) actions) says = absurd says
+  pulls s new node birth (turn.Enter (phase.Open w) actions) says = absurd says
+  pulls s new node birth (turn.Stay actions) says = absurd says
+  pulls s new node birth (turn.End actions) says = absurd says
 
   pub fences_settling : (s : SettingsData) (node : ℕ) (shown : Reply) (t : Turn) → HearsFencing s f node shown t → Fences t
   fences_settling s node (reply.Fenced generation birth accepted) t says = ⊎_elim
       (λ own. ⊎_elim
       (λ few. enters _ t [] few.1 tt)
-      (λ enough. pulls s _ t enough.1)
+      (λ enough. pulls s _ node birth t enough.1)
       own.1)
       (λ no. stays_fencing t no.1)
       says

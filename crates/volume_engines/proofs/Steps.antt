@@ -148,6 +148,7 @@ module _ (run : VolumeRun) (h : History) (stop : ℕ) (content : ReplicaData →
       session = session_later run guards e life (life.moments n) (life.moments (suc n)) o.session in_time knows.session;
       best = knows.best;
       fresh = knows.fresh;
+      bare = knows.bare;
       at = stage_later run h stop e (life.moments n) (life.moments (suc n)) is.emitted in_time (is.upto (suc n) step) o.union o.pair o.stage knows.at;
     }
     phase_later (phase.Open w) same knows = open_later run e (life.moments n) (life.moments (suc n)) w in_time knows
@@ -214,6 +215,7 @@ module _ (run : VolumeRun) (h : History) (stop : ℕ) (content : ReplicaData →
       session = session_later run guards e life (life.moments n) (life.moments (suc n)) o.session in_time knows.session;
       best = knows.best;
       fresh = knows.fresh;
+      bare = knows.bare;
       at = stage_later run h stop e (life.moments n) (life.moments (suc n)) is.emitted in_time (is.upto (suc n) step) o.union o.pair o.stage knows.at;
     }
 
