@@ -5,12 +5,11 @@ use Rattle.redo_core.specs.Data.{RecordData, CutData}
 use Rattle.redo_core.specs.Keys.{key_of}
 use Rattle.redo_core.specs.Linked.{Linked}
 use Rattle.redo_core.specs.Linked.Linked.{start, next}
-use Rattle.redo_core.specs.Order.{Lists, RecordBefore}
 use Rattle.redo_core.specs.declared.keys.Key.{Key}
 use Rattle.redo_core.proofs.Members.{none_in, here}
 use Rattle.messages.specs.Summaries.{SummaryData}
 use Rattle.segment_theorems.specs.State.{State, empty_state, min_of}
-use Rattle.segment_theorems.specs.HasMeaning.{HasAnchor, IsLinkedIn, IsKeptBy}
+use Rattle.segment_theorems.specs.HasMeaning.{HasAnchor, IsLinkedIn}
 use Rattle.gossip_core.specs.Summarizing.{Summarizes}
 use Rattle.gossip_core.specs.Absorbing.{Answers}
 use Rattle.gossip_core.specs.Answering.{IsCovered}
