@@ -67,7 +67,8 @@ def watch(pipe, place, size):
         except sqlite3.Error as error:
             if "minimum read point" not in (said := last_message(ours)):
                 return pipe.send(f"{told(error)} {said}")
-            ours.execute("rollback")
+            if ours.in_transaction:  # an error of the disk ends it
+                ours.execute("rollback")
             continue
         if there != noted and noted != (0, 0):
             return pipe.send(f"{there} is there, and {noted} is noted")
@@ -154,6 +155,7 @@ def found(cluster, seed, size):
 def main(extension, store, disk, folder, seed, megabytes):
     load(extension)
     size = int(float(megabytes) * 1e6)
+    Path(folder).mkdir(parents=True, exist_ok=True)
     cluster = Cluster(store, Path(folder) / "c", disk, words=("--snapshot-after", max(100_000, size // 30)))
     try:
         begun = started = time.monotonic()
