@@ -116,7 +116,7 @@ class World:
 
 def filled(cluster, rows=3):
     """A table with rows, each of which was a commit, in a database that nobody has open."""
-    ours = Engine(cluster.folder / "volume")
+    ours = Engine(cluster.folder / "volume", timeout=20000)
     assert ours.opened == "open", ours.opened
     ours.run(TABLE, *["insert into t(b) values(randomblob(20))"] * rows)
     ours.close()
