@@ -324,6 +324,10 @@ impl<M: Machine> Driver<M> {
     /// Queues what the machine asks of a node, unless an opening holds it back.
     fn ask(&mut self, node: u8, request: Vec<u8>, most: usize) {
         let is_opening = self.is_opening();
+        if is_question(&request) {
+            // The machine has what it asked for, whoever has not answered that again.
+            self.peers.iter_mut().for_each(|peer| peer.awaits_pull = false);
+        }
         let Some(peer) = self.peers.get_mut(usize::from(node)) else {
             return;
         };
@@ -391,7 +395,7 @@ impl<M: Machine> Driver<M> {
         self.held.clear();
         self.given_up = None;
         for peer in &mut self.peers {
-            (peer.awaits_admission, peer.spread) = (false, Spread::default());
+            (peer.awaits_admission, peer.awaits_pull, peer.spread) = (false, false, Spread::default());
         }
         self.pause(Pause::Fence);
     }
@@ -509,7 +513,7 @@ impl<M: Machine> Driver<M> {
             return;
         }
         // While one node answers what it has, the others are idle. The machine would ask each of them for all that it has.
-        if self.peers.iter().any(|peer| peer.awaits_pull) {
+        if self.is_opening() && self.peers.iter().any(|peer| peer.awaits_pull) {
             return;
         }
         for place in 0..self.peers.len() {
