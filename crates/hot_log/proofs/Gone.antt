@@ -1,5 +1,5 @@
 -- Removals that go up by key, or take out a range of keys.
-use Rattle.std.proofs.Common.{◌≡◌, ℕ, ◌<◌, ◌≤◌, ◌↔◌, ⊎_elim, List, refl, sym, subst, arith, Bool, true, false, not}
+use Rattle.std.proofs.Common.{◌≡◌, ℕ, ◌<◌, ◌≤◌, ◌↔◌, ⊎_elim, List, refl, sym, subst, arith, Bool, true, false, not, min, max}
 use Rattle.std.specs.List.{Contains, filter}
 use Rattle.std.specs.Map.{keys_of}
 use Rattle.std.specs.BTreeMap.Range.{range_contains}
@@ -12,10 +12,12 @@ use Rattle.redo_core.specs.declared.keys.Key.{Key}
 use Rattle.redo_core.proofs.Members.{filtered, passed}
 use Rattle.redo_core.proofs.Pairs.{pair_trans}
 use Rattle.epoch_book.specs.Book.{BookData}
-use Rattle.hot_log.specs.Held.{HasKey}
+use Rattle.hot_log.specs.Held.{IsHeld, HasKey}
 use Rattle.hot_log.specs.Alive.{IsAliveBetween, PartsAtKey}
+use Rattle.hot_log.specs.Indexing.{IndexData, IsIndexOf, RaisesStart}
 use Rattle.hot_log.specs.Paged.{place_cmp, place_of, records_in, IsPaged}
 use Rattle.hot_log.specs.Removing.{IsBetween, IsFolded, Removes}
+use Rattle.hot_log.proofs.Chain.{back_below}
 use Rattle.hot_log.proofs.Keys.{pair_up_to}
 use Rattle.hot_log.proofs.Paged.{Entry, Map, seen, in_order, entry_of, own_entry, seen_in}
 use Rattle.hot_log.proofs.Places.{Place, pair_or_not}
@@ -81,6 +83,25 @@ folded_all b page version point to at end old now parts least gone none =
           let le : r.number ≤ to = least r.number p.2 p.3 in
           omega (arith, l, le),
     ))
+
+-- the point is above the backlinks of the records that are gone
+pub index_cut : (b : BookData) (page to point : ℕ) (old new : List RecordData) (was now : IndexData) → to ≤ point → IsHeld old → IsIndexOf old was → RaisesStart was point now → Removes (IsFolded b page to to) old new → IsIndexOf new now
+index_cut b page to point old new was now small form is raises removes = record {
+  listed = λ r h low.
+      let top : now.start ≡ max was.start point = raises.start in
+      (raises.keys (r.back, key_of r)).1 (is.listed r ((removes r).0 h).0 (omega (arith, low, top)), omega (arith, low, top));
+  backed = λ g e n h.
+      let t = (raises.keys (g, key_in e n)).0 h in
+      let u = is.backed g e n t.0 in
+      let up : u.0.back < u.0.number = back_below u.0 (form.shaped u.0 u.1) in
+      (u.0, (removes u.0).1 (u.1, λ f. let high : u.0.number ≤ to = f.2 in let at : u.0.back ≡ g = u.2 in let low : point ≤ g = t.1 in omega (arith, up, high, at, low, small)), u.2, u.3);
+}
+
+pub folded_to : (b : BookData) (page version point to : ℕ) (old new : List RecordData) → to ≡ min version point → Removes (IsFolded b page to to) old new → Removes (IsFolded b page version point) old new
+folded_to b page version point to old new is removes r = (
+  λ h. let t = (removes r).0 h in (t.0, λ (f : IsFolded b page version point r). let low : r.number ≤ to = let one : r.number ≤ version = f.2 in let two : r.number ≤ point = f.3 in omega (arith, one, two, is) in t.1 (f.0, f.1, low, low)),
+  λ h. (removes r).1 (h.0, λ f. let low : r.number ≤ to = f.2 in h.1 (f.0, f.1, omega (arith, low, is), omega (arith, low, is))),
+)
 
 -- a map without a range of keys of a page
 pub record Cuts (old new : Map) (page : ℕ) (above to : Key) : Type 0 where

@@ -1,5 +1,5 @@
 -- What keeps an index the index of the stored records.
-use Rattle.std.proofs.Common.{◌≡◌, ℕ, ◌⊎◌, ◌↔◌, inl, inr, ⊎_elim, List, refl, sym, ◌∙◌, ap, subst, Option, Some, None, Bool, true, false, Result, rules}
+use Rattle.std.proofs.Common.{◌≡◌, ℕ, ◌≤◌, ◌⊎◌, ◌↔◌, inl, inr, ⊎_elim, List, refl, sym, ◌∙◌, ap, subst, Option, Some, None, Bool, true, false, Result, rules}
 use Rattle.std.proofs.lemmas.Bool.{false≢true}
 use Rattle.std.specs.Option.{is_some}
 use Rattle.std.specs.Result.{is_err, OnOk, OnErr}
@@ -11,7 +11,7 @@ use Rattle.redo_core.specs.Order.{IsRising, RecordBefore}
 use Rattle.redo_core.proofs.Rising.{rising_members}
 use Rattle.hot_log.specs.Held.{IsHeld, HasKey, IsRecordAt, IsAbove, IsKeyAfter, IsKeyTo, IsGreatestHeld}
 use Rattle.hot_log.specs.Removing.{Removes}
-use Rattle.hot_log.specs.Indexing.{GainsKey, LosesKey, IsIndexBy, IsNextKey, IsLastKey, IsNextHeld, IsLastHeld, AddsPage, GainsPage, LosesPage, IsPageOf, IsAboveKey, IsLeastKey, IsKeyPages, IsRecordOf, IsGreatestKey, IsGreatestOf}
+use Rattle.hot_log.specs.Indexing.{IndexData, GainsKey, LosesKey, IsIndexBy, IsIndexOf, IsNextKey, IsLastKey, IsNextHeld, IsLastHeld, AddsPage, GainsPage, LosesPage, IsPageOf, IsAboveKey, IsLeastKey, IsKeyPages, IsRecordOf, IsGreatestKey, IsGreatestOf}
 use Rattle.hot_log.proofs.Keys.{pair_not_same}
 use Rattle.hot_log.proofs.Places.{Place}
 use Rattle.hot_log.proofs.Paged.{place_as}
@@ -28,45 +28,56 @@ one_key held rising r s h k e n =
     (rising_members RecordBefore held r s rising h k)
 
 -- one more record, one more key
-pub index_grows : (f : RecordData → ℕ) (old new : List RecordData) (keys more : List Place) (redo : RecordData) (g e n : ℕ) → IsIndexBy f old keys → ((r : RecordData) → Contains new r ↔ (Contains old r ⊎ (r ≡ redo))) → g ≡ f redo → e ≡ redo.epoch → n ≡ redo.number → GainsKey keys g (key_in e n) more → IsIndexBy f new more
-index_grows f old new keys more redo g e n is grows p q r gains = record {
-  listed = λ s h. ⊎_elim
-      (λ (u : Contains old s). (gains (f s, key_of s)).1 (inl (is.listed s u)))
-      (λ (u : s ≡ redo). (gains (f s, key_of s)).1 (inr (place_as (f s) s.epoch s.number g e n (ap f u ∙ sym p) (ap (λ (x : RecordData). x.epoch) u ∙ sym q) (ap (λ (x : RecordData). x.number) u ∙ sym r))))
+pub index_grows : (old new : List RecordData) (backs more : IndexData) (redo : RecordData) (g e n : ℕ) → IsIndexOf old backs → ((r : RecordData) → Contains new r ↔ (Contains old r ⊎ (r ≡ redo))) → g ≡ redo.back → e ≡ redo.epoch → n ≡ redo.number → GainsKey backs g (key_in e n) more → IsIndexOf new more
+index_grows old new backs more redo g e n is grows p q r gains = record {
+  listed = λ s h low. ⊎_elim
+      (λ (u : Contains old s). (gains.keys (s.back, key_of s)).1 (inl (is.listed s u (subst (λ (x : ℕ). x ≤ s.back) gains.start low))))
+      (λ (u : s ≡ redo). let at : s.back ≡ g = ap (λ (x : RecordData). x.back) u ∙ sym p in (gains.keys (s.back, key_of s)).1 (inr (
+        subst (λ (x : ℕ). backs.start ≤ x) at (subst (λ (x : ℕ). x ≤ s.back) gains.start low),
+        place_as s.back s.epoch s.number g e n at (ap (λ (x : RecordData). x.epoch) u ∙ sym q) (ap (λ (x : RecordData). x.number) u ∙ sym r),
+      )))
       ((grows s).0 h);
   backed = λ h a b k. ⊎_elim
-      (λ (u : Contains keys (h, key_in a b)). let t = is.backed h a b u in (t.0, (grows t.0).1 (inl t.1), t.2, t.3))
-      (λ (u : (h, key_in a b) ≡ (g, key_in e n)). (redo, (grows redo).1 (inr refl), sym (ap (λ (x : Place). x.0) u ∙ p), (sym (ap (λ (x : Place). x.1.epoch) u ∙ q), sym (ap (λ (x : Place). x.1.number) u ∙ r))))
-      ((gains (h, key_in a b)).0 k);
+      (λ (u : Contains backs.keys (h, key_in a b)). let t = is.backed h a b u in (t.0, (grows t.0).1 (inl t.1), t.2, t.3))
+      (λ (u : (backs.start ≤ g) × ((h, key_in a b) ≡ (g, key_in e n))). (
+        redo,
+        (grows redo).1 (inr refl),
+        sym (ap (λ (x : Place). x.0) u.1 ∙ p),
+        (sym (ap (λ (x : Place). x.1.epoch) u.1 ∙ q), sym (ap (λ (x : Place). x.1.number) u.1 ∙ r)),
+      ))
+      ((gains.keys (h, key_in a b)).0 k);
 }
 
 -- a key that was added and taken out again
-pub index_undone : (f : RecordData → ℕ) (held : List RecordData) (keys more back : List Place) (redo : RecordData) (g e n : ℕ) → IsIndexBy f held keys → IsRecordAt held (key_of redo) None → e ≡ redo.epoch → n ≡ redo.number → GainsKey keys g (key_in e n) more → LosesKey more g (key_in e n) back → IsIndexBy f held back
-index_undone f held keys more back redo g e n is free q r gains loses = record {
-  listed = λ s h. (loses (f s, key_of s)).1 (
-    (gains (f s, key_of s)).1 (inl (is.listed s h)),
+pub index_undone : (held : List RecordData) (backs more back : IndexData) (redo : RecordData) (g e n : ℕ) → IsIndexOf held backs → IsRecordAt held (key_of redo) None → e ≡ redo.epoch → n ≡ redo.number → GainsKey backs g (key_in e n) more → LosesKey more g (key_in e n) back → IsIndexOf held back
+index_undone held backs more back redo g e n is free q r gains loses = record {
+  listed = λ s h low. (loses.keys (s.back, key_of s)).1 (
+    (gains.keys (s.back, key_of s)).1 (inl (is.listed s h (subst (λ (x : ℕ). x ≤ s.back) (loses.start ∙ gains.start) low))),
     λ u. free s h (ap (λ (x : Place). x.1.epoch) u ∙ q, ap (λ (x : Place). x.1.number) u ∙ r),
   );
   backed = λ h a b k.
-      let l = (loses (h, key_in a b)).0 k in
+      let l = (loses.keys (h, key_in a b)).0 k in
       ⊎_elim
-      (λ (u : Contains keys (h, key_in a b)). is.backed h a b u)
-      (λ (u : (h, key_in a b) ≡ (g, key_in e n)). absurd (l.1 u))
-      ((gains (h, key_in a b)).0 l.0);
+      (λ (u : Contains backs.keys (h, key_in a b)). is.backed h a b u)
+      (λ (u : (backs.start ≤ g) × ((h, key_in a b) ≡ (g, key_in e n))). absurd (l.1 u.1))
+      ((gains.keys (h, key_in a b)).0 l.0);
 }
 
 -- one record less, one key less
-pub index_shrinks : (f : RecordData → ℕ) (old new : List RecordData) (keys less : List Place) (redo : RecordData) (g e n : ℕ) → IsHeld old → IsIndexBy f old keys → Contains old redo → HasKey (key_in e n) redo → g ≡ f redo → Removes (HasKey (key_in e n)) old new → LosesKey keys g (key_in e n) less → IsIndexBy f new less
-index_shrinks f old new keys less redo g e n form is among key p removes loses = record {
-  listed = λ s h.
+pub index_shrinks : (old new : List RecordData) (backs less : IndexData) (redo : RecordData) (g e n : ℕ) → IsHeld old → IsIndexOf old backs → Contains old redo → HasKey (key_in e n) redo → g ≡ redo.back → Removes (HasKey (key_in e n)) old new → LosesKey backs g (key_in e n) less → IsIndexOf new less
+index_shrinks old new backs less redo g e n form is among key p removes loses = record {
+  listed = λ s h low.
       let t = (removes s).0 h in
-      (loses (f s, key_of s)).1 (is.listed s t.0, λ u. t.1 (ap (λ (x : Place). x.1.epoch) u, ap (λ (x : Place). x.1.number) u));
+      (loses.keys (s.back, key_of s)).1 (
+        is.listed s t.0 (subst (λ (x : ℕ). x ≤ s.back) loses.start low),
+        λ u. t.1 (ap (λ (x : Place). x.1.epoch) u, ap (λ (x : Place). x.1.number) u),
+      );
   backed = λ h a b k.
-      let l = (loses (h, key_in a b)).0 k in
+      let l = (loses.keys (h, key_in a b)).0 k in
       let t = is.backed h a b l.0 in
       let other : HasKey (key_in e n) t.0 → ⊥ = λ same.
       let it : t.0 ≡ redo = one_key old form.rising t.0 redo t.1 among (same.0 ∙ sym key.0) (same.1 ∙ sym key.1) in
-      l.1 (place_as h a b g e n (sym t.2 ∙ ap f it ∙ sym p) (sym t.3.0 ∙ same.0) (sym t.3.1 ∙ same.1)) in
+      l.1 (place_as h a b g e n (sym t.2 ∙ ap (λ (x : RecordData). x.back) it ∙ sym p) (sym t.3.0 ∙ same.0) (sym t.3.1 ∙ same.1)) in
       (t.0, (removes t.0).1 (t.1, other), t.2, t.3);
 }
 
@@ -89,6 +100,19 @@ next_held f held keys g after (Some key) is next =
     let up : KeyBefore after (key_of t.0) = subst (λ (x : ℕ). KeyBefore after (key_in x t.0.number)) (sym t.3.0) (subst (λ (x : ℕ). KeyBefore after (key_in key.epoch x)) (sym t.3.1) next.1) in (
       (t.0, t.1, t.2, t.3, up),
       λ r h e p. next.2 r.epoch r.number (subst (λ (x : ℕ). Contains keys (x, key_of r)) e (is.listed r h)) p,
+    )
+
+-- in a group that the index does not leave out, it has the keys of all records
+listed_at : (held : List RecordData) (backs : IndexData) (g : ℕ) → backs.start ≤ g → IsIndexOf held backs → (r : RecordData) → Contains held r → r.back ≡ g → Contains backs.keys (g, key_of r)
+listed_at held backs g low is r h e = subst (λ (x : ℕ). Contains backs.keys (x, key_of r)) e (is.listed r h (subst (λ (x : ℕ). backs.start ≤ x) (sym e) low))
+
+pub next_from : (held : List RecordData) (backs : IndexData) (g : ℕ) (after : Key) (o : Option Key) → backs.start ≤ g → IsIndexOf held backs → IsNextKey backs.keys g after o → IsNextHeld (λ r. r.back) held g after o
+next_from held backs g after None low is next = λ r h e p. next r.epoch r.number (listed_at held backs g low is r h e) p
+next_from held backs g after (Some key) low is next =
+    let t = is.backed g key.epoch key.number next.0 in
+    let up : KeyBefore after (key_of t.0) = subst (λ (x : ℕ). KeyBefore after (key_in x t.0.number)) (sym t.3.0) (subst (λ (x : ℕ). KeyBefore after (key_in key.epoch x)) (sym t.3.1) next.1) in (
+      (t.0, t.1, t.2, t.3, up),
+      λ r h e p. next.2 r.epoch r.number (listed_at held backs g low is r h e) p,
     )
 
 pub last_held : (f : RecordData → ℕ) (held : List RecordData) (keys : List Place) (g : ℕ) (to : Key) (o : Option Key) → IsIndexBy f held keys → IsLastKey keys g to o → IsLastHeld f held g to o

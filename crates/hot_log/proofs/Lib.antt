@@ -22,6 +22,7 @@ pub mod Descending
 pub mod Sides
 pub mod Since
 pub mod Hanging
+pub mod Start
 pub mod Gone
 pub mod Rows
 pub mod Opening

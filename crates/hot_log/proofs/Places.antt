@@ -129,10 +129,10 @@ pub last_other : (keys : List Place) (g : ℕ) (to : Key) (x : Place) (t : List 
 last_other keys g to x t rising is other e n h = search (rules, last_kept)
 
 -- the range from the start of a group
-not_above_zero : (group g e n : ℕ) → group ≤ g → place_cmp (group, key_in 0 0) (g, key_in e n) ≡ Greater → ⊥
+pub not_above_zero : (group g e n : ℕ) → group ≤ g → place_cmp (group, key_in 0 0) (g, key_in e n) ≡ Greater → ⊥
 not_above_zero group g e n le h = grind arith
 
-group_le : (group : ℕ) (x : Place) → (place_cmp (group, key_in 0 0) x ≡ Greater → ⊥) → group ≤ x.0
+pub group_le : (group : ℕ) (x : Place) → (place_cmp (group, key_in 0 0) x ≡ Greater → ⊥) → group ≤ x.0
 group_le group x not = grind arith
 
 pub group_none : (keys : List Place) (group : ℕ) → filter (range_contains place_cmp (Included (group, key_in 0 0)) Unbounded) keys ≡ [] → (x : Place) → Contains keys x → group ≤ x.0 → ⊥

@@ -13,13 +13,12 @@ use Rattle.redo_core.specs.Order.{IsRising, PairBefore, RecordBefore}
 use Rattle.redo_core.specs.Standing.{IsAlive}
 use Rattle.redo_core.proofs.Members.{none_in, here, which, each, filtered, passed}
 use Rattle.redo_core.proofs.Pairs.{pair_apart, pair_trans}
-use Rattle.redo_core.proofs.Rising.{rising_filter}
 use Rattle.epoch_book.specs.Book.{BookData}
 use Rattle.hot_log.specs.Held.{IsHeld, HasKey}
-use Rattle.hot_log.specs.Indexing.{IsIndexBy, IsIndexed, IsKeyPages, LosesKey, LosesPage}
+use Rattle.hot_log.specs.Indexing.{IsKeyPages, LosesPage}
 use Rattle.hot_log.specs.Paged.{place_cmp, place_of, records_in, IsPaged}
 use Rattle.hot_log.specs.Removing.{IsBetween, IsRow, ListsWithout, Removes, RemovesRow, UnlistsRow}
-use Rattle.hot_log.proofs.Indexed.{index_shrinks, one_key, pages_shrink}
+use Rattle.hot_log.proofs.Indexed.{one_key, pages_shrink}
 use Rattle.hot_log.proofs.Keys.{pair_not_same, pair_up_to}
 use Rattle.hot_log.proofs.Paged.{Entry, Map, entry_of, held_of, own_entry, record_in, seen, seen_in}
 use Rattle.hot_log.proofs.Places.{Place, pair_or_not}
@@ -38,12 +37,6 @@ other_is e n r h k = grind arith
 is_other : (e n : ℕ) (r : RecordData) → (HasKey (key_in e n) r → ⊥) → other_key e n r ≡ true
 is_other e n r h = grind arith
 
-without_held : (e n : ℕ) (held : List RecordData) → IsHeld held → IsHeld (without e n held)
-without_held e n held form = record {
-  rising = rising_filter RecordBefore (other_key e n) held form.rising;
-  shaped = λ r h. form.shaped r (filtered (other_key e n) held r h).0;
-}
-
 without_one : (e n : ℕ) (held : List RecordData) → Removes (HasKey (key_in e n)) held (without e n held)
 without_one e n held r = (
   λ h. let t = filtered (other_key e n) held r h in (t.0, other_is e n r t.1),
@@ -51,12 +44,6 @@ without_one e n held r = (
 )
 
 -- the same records are listed in the same way
-index_same : (f : RecordData → ℕ) (old new : List RecordData) (keys : List Place) → ((r : RecordData) → Contains old r ↔ Contains new r) → IsIndexBy f old keys → IsIndexBy f new keys
-index_same f old new keys same is = record {
-  listed = λ r h. is.listed r ((same r).1 h);
-  backed = λ g e n h. let t = is.backed g e n h in (t.0, (same t.0).0 t.1, t.2, t.3);
-}
-
 pages_same : (old new : List RecordData) (keys : List (Key × ℕ)) → ((r : RecordData) → Contains old r ↔ Contains new r) → IsKeyPages old keys → IsKeyPages new keys
 pages_same old new keys same is = record {
   listed = λ r h. is.listed r ((same r).1 h);
@@ -64,24 +51,24 @@ pages_same old new keys same is = record {
 }
 
 -- what is listed are the stored records without those with P
-pub record Left (P : RecordData → Type 0) (held : List RecordData) (keys : List (Key × ℕ)) (backs : List Place) : Type 0 where
+pub record Left (P : RecordData → Type 0) (held : List RecordData) (keys : List (Key × ℕ)) : Type 0 where
   pub left : List RecordData
   pub removes : Removes P held left
-  pub indexed : IsIndexed left keys backs
+  pub pages : IsKeyPages left keys
 
-left_as : (P Q : RecordData → Type 0) (held : List RecordData) (keys : List (Key × ℕ)) (backs : List Place) → ((r : RecordData) → Contains held r → P r ↔ Q r) → Left P held keys backs → Left Q held keys backs
-left_as P Q held keys backs same is = record {
+left_as : (P Q : RecordData → Type 0) (held : List RecordData) (keys : List (Key × ℕ)) → ((r : RecordData) → Contains held r → P r ↔ Q r) → Left P held keys → Left Q held keys
+left_as P Q held keys same is = record {
   left = is.left;
   removes = λ r. (
     λ h. let t = (is.removes r).0 h in (t.0, λ q. t.1 ((same r t.0).1 q)),
     λ h. (is.removes r).1 (h.0, λ p. h.1 ((same r h.0).0 p)),
   );
-  indexed = is.indexed;
+  pages = is.pages;
 }
 
 -- one more of them leaves
-left_more : (P Q : RecordData → Type 0) (held : List RecordData) (keys less : List (Key × ℕ)) (backs fewer : List Place) (x : RecordData) (g e n : ℕ) → IsHeld held → Left P held keys backs → Contains held x → (P x → ⊥) → ((r : RecordData) → Contains held r → Q r ↔ (P r ⊎ (r ≡ x))) → g ≡ x.back → e ≡ x.epoch → n ≡ x.number → LosesPage keys (key_in e n) less → LosesKey backs g (key_in e n) fewer → Left Q held less fewer
-left_more P Q held keys less backs fewer x g e n form is among not_yet more p q s loses drops =
+left_more : (P Q : RecordData → Type 0) (held : List RecordData) (keys less : List (Key × ℕ)) (x : RecordData) (e n : ℕ) → IsHeld held → Left P held keys → Contains held x → ((r : RecordData) → Contains held r → Q r ↔ (P r ⊎ (r ≡ x))) → e ≡ x.epoch → n ≡ x.number → LosesPage keys (key_in e n) less → Left Q held less
+left_more P Q held keys less x e n form is among more q s loses =
     let removes = without_one e n is.left in
     record {
       left = without e n is.left;
@@ -95,21 +82,12 @@ left_more P Q held keys less backs fewer x g e n form is among not_yet more p q 
           λ k. h.1 ((more r h.0).1 (inr (one_key held form.rising r x h.0 among (k.0 ∙ q) (k.1 ∙ s)))),
         ),
       );
-      indexed = record {
-        form = without_held e n is.left is.indexed.form;
-        by_key = pages_shrink is.left (without e n is.left) keys less e n is.indexed.by_key removes loses;
-        by_back = index_shrinks (λ r. r.back) is.left (without e n is.left) backs fewer x g e n is.indexed.form is.indexed.by_back ((is.removes x).1 (among, not_yet)) (sym q, sym s) p removes drops;
-      };
+      pages = pages_shrink is.left (without e n is.left) keys less e n is.pages removes loses;
     }
 
-left_lists : (P : RecordData → Type 0) (held : List RecordData) (keys : List (Key × ℕ)) (backs : List Place) → Left P held keys backs → ListsWithout P held keys backs
-left_lists P held keys backs is left form removes =
-    let same : (r : RecordData) → Contains is.left r ↔ Contains left r = λ r. (λ h. (removes r).1 ((is.removes r).0 h), λ h. (is.removes r).1 ((removes r).0 h)) in
-    record {
-      form = form;
-      by_key = pages_same is.left left keys same is.indexed.by_key;
-      by_back = index_same (λ r. r.back) is.left left backs same is.indexed.by_back;
-    }
+left_lists : (P : RecordData → Type 0) (held : List RecordData) (keys : List (Key × ℕ)) → Left P held keys → ListsWithout P held keys
+left_lists P held keys is left removes =
+    pages_same is.left left keys (λ r. (λ h. (removes r).1 ((is.removes r).0 h), λ h. (is.removes r).1 ((removes r).0 h))) is.pages
 
 -- a walk over the records of a page between two keys: those passed, and those left
 pub record Walk (m : Map) (page : ℕ) (above to : Key) (xs ys : List Entry) : Type 0 where
@@ -168,20 +146,20 @@ abbrev pub InRow : List Entry → Key → RecordData → Type 0
 InRow xs start r = Contains (records_in xs) r × KeyBefore start (key_of r)
 
 -- what the walk knows: the alive of those passed are those above a key, and they are no longer listed
-pub record Rowed (b : BookData) (held : List RecordData) (above : Key) (xs : List Entry) (start : Key) (last : Option Key) (keys : List (Key × ℕ)) (backs : List Place) : Type 0 where
+pub record Rowed (b : BookData) (held : List RecordData) (above : Key) (xs : List Entry) (start : Key) (last : Option Key) (keys : List (Key × ℕ)) : Type 0 where
   pub low : (start ≡ above) ⊎ ((r : RecordData) × Contains (records_in xs) r × HasKey start r)
   pub up : (r : RecordData) → Contains (records_in xs) r → IsAlive b.cuts b.complete r.epoch r.number → KeyBefore start (key_of r)
   pub alive : (r : RecordData) → InRow xs start r → IsAlive b.cuts b.complete r.epoch r.number
   pub ends : EndsRow xs start last
-  pub left : Left (InRow xs start) held keys backs
+  pub left : Left (InRow xs start) held keys
 
-pub rowed_none : (b : BookData) (held : List RecordData) (above : Key) (keys : List (Key × ℕ)) (backs : List Place) → IsIndexed held keys backs → Rowed b held above [] above None keys backs
-rowed_none b held above keys backs is = search rules
+pub rowed_none : (b : BookData) (held : List RecordData) (above : Key) (keys : List (Key × ℕ)) → IsKeyPages held keys → Rowed b held above [] above None keys
+rowed_none b held above keys is = search rules
 
 -- an alive record is one more of the run
-pub rowed_alive : (b : BookData) (m : Map) (page : ℕ) (above to : Key) (xs rest : List Entry) (x : Entry) (start : Key) (last : Option Key) (keys less : List (Key × ℕ)) (backs fewer : List Place) (g e n : ℕ) → Walk m page above to xs (x ∷ rest) → Rowed b (seen m) above xs start last keys backs
-    → IsAlive b.cuts b.complete x.1.epoch x.1.number → g ≡ x.1.back → e ≡ x.1.epoch → n ≡ x.1.number → LosesPage keys (key_in e n) less → LosesKey backs g (key_in e n) fewer → Rowed b (seen m) above (xs ++ x ∷ []) start (Some (key_in e n)) less fewer
-rowed_alive b m page above to xs rest x start last keys less backs fewer g e n w is alive p q s loses drops = record {
+pub rowed_alive : (b : BookData) (m : Map) (page : ℕ) (above to : Key) (xs rest : List Entry) (x : Entry) (start : Key) (last : Option Key) (keys less : List (Key × ℕ)) (e n : ℕ) → Walk m page above to xs (x ∷ rest) → Rowed b (seen m) above xs start last keys
+    → IsAlive b.cuts b.complete x.1.epoch x.1.number → e ≡ x.1.epoch → n ≡ x.1.number → LosesPage keys (key_in e n) less → Rowed b (seen m) above (xs ++ x ∷ []) start (Some (key_in e n)) less
+rowed_alive b m page above to xs rest x start last keys less e n w is alive q s loses = record {
   low = ⊎_elim (λ (u : start ≡ above). inl u) (λ u. inr (u.0, (joined xs x u.0).1 (inl u.1), u.2)) is.low;
   up = λ r h a. ⊎_elim (λ (u : Contains (records_in xs) r). is.up r u a) (λ (u : r ≡ x.1). subst (λ (y : RecordData). KeyBefore start (key_of y)) (sym u) over) ((joined xs x r).0 h);
   alive = λ r h. ⊎_elim (λ (u : Contains (records_in xs) r). is.alive r (u, h.1)) (λ (u : r ≡ x.1). subst (λ (y : RecordData). IsAlive b.cuts b.complete y.epoch y.number) (sym u) alive) ((joined xs x r).0 h.0);
@@ -192,8 +170,7 @@ rowed_alive b m page above to xs rest x start last keys less backs fewer g e n w
         (λ (u : r ≡ x.1). pair_not_same e n r.epoch r.number k (q ∙ ap (λ (y : RecordData). y.epoch) (sym u)) (s ∙ ap (λ (y : RecordData). y.number) (sym u)))
         ((joined xs x r).0 h),
   );
-  left = left_more (InRow xs start) (InRow (xs ++ x ∷ []) start) (seen m) keys less backs fewer x.1 g e n (held_of m w.paged) is.left found.0
-      (λ h. pair_not_same x.1.epoch x.1.number x.1.epoch x.1.number (behind x.1 h.0) refl refl)
+  left = left_more (InRow xs start) (InRow (xs ++ x ∷ []) start) (seen m) keys less x.1 e n (held_of m w.paged) is.left found.0
       (λ r h. (
         λ k. ⊎_elim (λ (u : Contains (records_in xs) r). inl (u, k.1)) (λ (u : r ≡ x.1). inr u) ((joined xs x r).0 k.0),
         λ k. ⊎_elim
@@ -201,7 +178,7 @@ rowed_alive b m page above to xs rest x start last keys less backs fewer g e n w
             (λ (u : r ≡ x.1). ((joined xs x r).1 (inr u), subst (λ (y : RecordData). KeyBefore start (key_of y)) (sym u) over))
             k,
       ))
-      p q s loses drops;
+      q s loses;
 }
   where
     behind : (r : RecordData) → Contains (records_in xs) r → RecordBefore r x.1
@@ -217,9 +194,9 @@ rowed_alive b m page above to xs rest x start last keys less backs fewer g e n w
         is.low
 
 -- one that is not alive, before the run
-pub rowed_dead : (b : BookData) (m : Map) (page : ℕ) (above to : Key) (xs rest : List Entry) (x : Entry) (start : Key) (keys : List (Key × ℕ)) (backs : List Place) (e n : ℕ) → Walk m page above to xs (x ∷ rest) → Rowed b (seen m) above xs start None keys backs
-    → (IsAlive b.cuts b.complete x.1.epoch x.1.number → ⊥) → e ≡ x.1.epoch → n ≡ x.1.number → Rowed b (seen m) above (xs ++ x ∷ []) (key_in e n) None keys backs
-rowed_dead b m page above to xs rest x start keys backs e n w is dead q s = record {
+pub rowed_dead : (b : BookData) (m : Map) (page : ℕ) (above to : Key) (xs rest : List Entry) (x : Entry) (start : Key) (keys : List (Key × ℕ)) (e n : ℕ) → Walk m page above to xs (x ∷ rest) → Rowed b (seen m) above xs start None keys
+    → (IsAlive b.cuts b.complete x.1.epoch x.1.number → ⊥) → e ≡ x.1.epoch → n ≡ x.1.number → Rowed b (seen m) above (xs ++ x ∷ []) (key_in e n) None keys
+rowed_dead b m page above to xs rest x start keys e n w is dead q s = record {
   low = inr (x.1, (joined xs x x.1).1 (inr refl), (sym q, sym s));
   up = λ r h a. absurd (⊎_elim
       (λ (u : Contains (records_in xs) r). is.ends r u (is.up r u a))
@@ -227,7 +204,7 @@ rowed_dead b m page above to xs rest x start keys backs e n w is dead q s = reco
       ((joined xs x r).0 h));
   alive = λ r h. absurd (none_up r h.0 h.1);
   ends = none_up;
-  left = left_as (InRow xs start) (InRow (xs ++ x ∷ []) (key_in e n)) (seen m) keys backs (λ r h. (λ k. absurd (is.ends r k.0 k.1), λ k. absurd (none_up r k.0 k.1))) is.left;
+  left = left_as (InRow xs start) (InRow (xs ++ x ∷ []) (key_in e n)) (seen m) keys (λ r h. (λ k. absurd (is.ends r k.0 k.1), λ k. absurd (none_up r k.0 k.1))) is.left;
 }
   where
     none_up : (r : RecordData) → Contains (records_in (xs ++ x ∷ [])) r → KeyBefore (key_in e n) (key_of r) → ⊥
@@ -237,8 +214,8 @@ rowed_dead b m page above to xs rest x start keys backs e n w is dead q s = reco
         ((joined xs x r).0 h)
 
 -- the walk ends in front of a record that is not alive, or where none is left
-pub rowed_some : (b : BookData) (m : Map) (page : ℕ) (above to : Key) (xs ys : List Entry) (start last : Key) (keys : List (Key × ℕ)) (backs : List Place) → Walk m page above to xs ys → Rowed b (seen m) above xs start (Some last) keys backs → UnlistsRow b (seen m) page above to keys backs (Some (start, last))
-rowed_some b m page above to xs ys start last keys backs w is = (
+pub rowed_some : (b : BookData) (m : Map) (page : ℕ) (above to : Key) (xs ys : List Entry) (start last : Key) (keys : List (Key × ℕ)) → Walk m page above to xs ys → Rowed b (seen m) above xs start (Some last) keys → UnlistsRow b (seen m) page above to keys (Some (start, last))
+rowed_some b m page above to xs ys start last keys w is = (
   record {
     low = λ u. ⊎_elim
         (λ (v : start ≡ above). pair_not_same start.epoch start.number above.epoch above.number u (ap (λ (k : Key). k.epoch) v) (ap (λ (k : Key). k.number) v))
@@ -248,7 +225,7 @@ rowed_some b m page above to xs ys start last keys backs w is = (
     alive = λ r h k. is.alive r (own r h k, k.1);
     ends = (end.0, (((among end.0 end.1).0, is.alive end.0 (end.1, end.2), (among end.0 end.1).1.0), (among end.0 end.1).1.1, (among end.0 end.1).1.2), end.3);
   },
-  left_lists (IsBetween page start last) (seen m) keys backs (left_as (InRow xs start) (IsBetween page start last) (seen m) keys backs (λ r h. (
+  left_lists (IsBetween page start last) (seen m) keys (left_as (InRow xs start) (IsBetween page start last) (seen m) keys (λ r h. (
     λ k. ((among r k.0).1.0, k.1, is.ends.1 r k.0),
     λ k. (own r h k, k.1),
   )) is.left),
@@ -278,13 +255,13 @@ rowed_some b m page above to xs ys start last keys backs w is = (
     own : (r : RecordData) → Contains (seen m) r → IsBetween page start last r → Contains (records_in xs) r
     own r h k = inside r h k.0 (over r k.1) (λ p. k.2 (subst (λ (y : ℕ). KeyBefore (key_in y last.number) (key_of r)) end.3.0 (subst (λ (y : ℕ). KeyBefore (key_in end.0.epoch y) (key_of r)) end.3.1 p)))
 
-pub rowed_all : (b : BookData) (m : Map) (page : ℕ) (above to : Key) (xs : List Entry) (start : Key) (keys : List (Key × ℕ)) (backs : List Place) → Walk m page above to xs [] → Rowed b (seen m) above xs start None keys backs → UnlistsRow b (seen m) page above to keys backs None
-rowed_all b m page above to xs start keys backs w is = (
+pub rowed_all : (b : BookData) (m : Map) (page : ℕ) (above to : Key) (xs : List Entry) (start : Key) (keys : List (Key × ℕ)) → Walk m page above to xs [] → Rowed b (seen m) above xs start None keys → UnlistsRow b (seen m) page above to keys None
+rowed_all b m page above to xs start keys w is = (
   λ r h. ⊎_elim
       (λ (u : Contains (records_in xs) r). is.ends r u (is.up r u h.0.1))
       (λ (u : Contains [] r). none_in r u)
       (passes m page above to xs [] w r h.0.0 (h.0.2, h.1, h.2)),
-  left_lists (InRow xs start) (seen m) keys backs is.left (seen m) (held_of m w.paged) (λ r. (λ h. (h, λ k. is.ends r k.0 k.1), λ h. h.0)),
+  left_lists (InRow xs start) (seen m) keys is.left (seen m) (λ r. (λ h. (h, λ k. is.ends r k.0 k.1), λ h. h.0)),
 )
 
 -- without the records of the run

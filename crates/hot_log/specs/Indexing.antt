@@ -1,5 +1,5 @@
 -- Keys of records with their pages, and in groups by segment backlink or by page.
-use Rattle.std.specs.Prelude.{◌≡◌, ℕ, ◌⊎◌, ◌↔◌, List, Option, Some, None}
+use Rattle.std.specs.Prelude.{◌≡◌, ℕ, ◌≤◌, max, ◌⊎◌, ◌↔◌, List, [], Option, Some, None}
 use Rattle.std.specs.List.{Contains}
 use Rattle.redo_core.specs.Data.{RecordData}
 use Rattle.redo_core.specs.Order.{IsRising}
@@ -26,18 +26,42 @@ IsLastKey keys group to (Some key) =
     InGroup keys group key.epoch key.number × (KeyBefore to key → ⊥)
     × ((e n : ℕ) → InGroup keys group e n → (KeyBefore to (key_in e n) → ⊥) → ((e ≡ key.epoch) × (n ≡ key.number)) ⊎ KeyBefore (key_in e n) key)
 
--- the key joins its group
-abbrev pub GainsKey : List (ℕ × Key) → ℕ → Key → List (ℕ × Key) → Type 0
-GainsKey old group key new = (p : ℕ × Key) → Contains new p ↔ (Contains old p ⊎ (p ≡ (group, key)))
+-- an index: its start, and the keys of the groups from there on
+pub record IndexData : Type 0 where
+  pub start : ℕ
+  pub keys : List (ℕ × Key)
+
+abbrev pub empty_index : IndexData
+empty_index = record { start = 0; keys = [] }
+
+-- no group is below one
+abbrev pub IsFrom : ℕ → List (ℕ × Key) → Type 0
+IsFrom start keys = (p : ℕ × Key) → Contains keys p → start ≤ p.0
+
+-- the key joins its group, unless the index starts above that
+pub record GainsKey (old : IndexData) (group : ℕ) (key : Key) (new : IndexData) : Type 0 where
+  pub start : new.start ≡ old.start
+  pub keys : (p : ℕ × Key) → Contains new.keys p ↔ (Contains old.keys p ⊎ ((old.start ≤ group) × (p ≡ (group, key))))
 
 -- the key leaves its group
-abbrev pub LosesKey : List (ℕ × Key) → ℕ → Key → List (ℕ × Key) → Type 0
-LosesKey old group key new = (p : ℕ × Key) → Contains new p ↔ (Contains old p × (p ≡ (group, key) → ⊥))
+pub record LosesKey (old : IndexData) (group : ℕ) (key : Key) (new : IndexData) : Type 0 where
+  pub start : new.start ≡ old.start
+  pub keys : (p : ℕ × Key) → Contains new.keys p ↔ (Contains old.keys p × (p ≡ (group, key) → ⊥))
+
+-- the index starts at a group or higher, and the keys of the groups below that one are gone
+pub record RaisesStart (old : IndexData) (group : ℕ) (new : IndexData) : Type 0 where
+  pub start : new.start ≡ max old.start group
+  pub keys : (p : ℕ × Key) → Contains new.keys p ↔ (Contains old.keys p × (group ≤ p.0))
 
 -- the keys are those of the stored records, each in the group that `group` gives for its record
 pub record IsIndexBy (group : RecordData → ℕ) (held : List RecordData) (keys : List (ℕ × Key)) : Type 0 where
   pub listed : (r : RecordData) → Contains held r → InGroup keys (group r) r.epoch r.number
   pub backed : (g e n : ℕ) → InGroup keys g e n → (r : RecordData) × Contains held r × (group r ≡ g) × HasKey (key_in e n) r
+
+-- the keys are those of the stored records whose segment backlink is not below the start of the index, each in the group of its backlink
+pub record IsIndexOf (held : List RecordData) (backs : IndexData) : Type 0 where
+  pub listed : (r : RecordData) → Contains held r → backs.start ≤ r.back → InGroup backs.keys r.back r.epoch r.number
+  pub backed : (g e n : ℕ) → InGroup backs.keys g e n → (r : RecordData) × Contains held r × (r.back ≡ g) × HasKey (key_in e n) r
 
 -- a key has joined those that have pages
 abbrev pub GainsPage : List (Key × ℕ) → Key → ℕ → List (Key × ℕ) → Type 0
@@ -94,10 +118,10 @@ pub record IsKeyPages (held : List RecordData) (keys : List (Key × ℕ)) : Type
   pub backed : (e n page : ℕ) → Contains keys (key_in e n, page) → (r : RecordData) × Contains held r × HasKey (key_in e n) r × (r.page ≡ page)
 
 -- stored records with the page of each key and the index by segment backlink
-pub record IsIndexed (held : List RecordData) (keys : List (Key × ℕ)) (backs : List (ℕ × Key)) : Type 0 where
+pub record IsIndexed (held : List RecordData) (keys : List (Key × ℕ)) (backs : IndexData) : Type 0 where
   pub form : IsHeld held
   pub by_key : IsKeyPages held keys
-  pub by_back : IsIndexBy (λ r. r.back) held backs
+  pub by_back : IsIndexOf held backs
 
 -- the least key above the one given of the stored records of one group, or none
 abbrev pub IsNextHeld : (RecordData → ℕ) → List RecordData → ℕ → Key → Option Key → Type 0

@@ -6,11 +6,11 @@ ghost use Rattle.redo_core.specs.Order.{Lists};
 ghost use Rattle.redo_core.specs.Standing.{IsDead};
 ghost use Rattle.hot_log.specs.Held.{IsHeld, IsRecordAt, IsKeyAfter, IsKeyTo, IsGreatestHeld, HasKey, HoldsKey};
 ghost use Rattle.hot_log.specs.Found.{IsPageAfter};
-ghost use Rattle.hot_log.specs.Indexing.{AreHeldAbove, IsIndexBy, IsRecordOf, IsNextHeld, IsNextRecord, IsLastRecord};
+ghost use Rattle.hot_log.specs.Indexing.{AreHeldAbove, IsIndexOf, IsRecordOf, IsNextHeld, IsNextRecord, IsLastRecord};
 ghost use Rattle.hot_log.specs.Missing.{IsMissing};
 ghost use Rattle.hot_log.specs.Paged.{PlaceBefore};
 ghost use Rattle.hot_log.specs.Putting.{Puts, RefusesPut};
-ghost use Rattle.hot_log.specs.Removing.{IsFolded, Removes, RemovesRow};
+ghost use Rattle.hot_log.specs.Removing.{IsFolded, Removes};
 ghost use Rattle.hot_log.specs.declared.log.PutFault.TheVariants.{Memory as OfMemory};
 ghost use Rattle.std.specs.List.{Contains};
 
@@ -28,7 +28,9 @@ use thiserror::Error;
 
 /// The redo records that a segment stores, by page and key.
 ///
-/// It also has the page of each key, and the keys by segment backlink: those of the stored records and no others.
+/// It also has the page of each key, and the keys by segment backlink: those of the stored records and no others. The index by backlink
+/// starts at the greatest point up to which folded records were removed, and leaves out the records with lower backlinks: a segment
+/// searches from its base point on, which is not lower.
 #[derive(Drop)]
 pub struct HotLog {
     pub(crate) records: PagedRecords,
@@ -195,25 +197,6 @@ impl HotLog {
         self.by_back.remove(redo.back(), packed);
     }
 
-    // Removes the first run of alive records of a page between two keys, and returns its last key.
-    pub(crate) fn remove_row(
-        &mut self,
-        book: &EpochBook,
-        page: u16,
-        above: Key,
-        to: Key,
-    ) -> Option<Key>
-        ensures { RemovesRow book.now page above to self.old self.new result }
-    {
-        let (by_key, by_back) = (&mut self.by_key, &mut self.by_back);
-        let (above, to) = (PackedKey::capped(above), PackedKey::capped(to));
-        let row = self
-            .records
-            .unlist_row(by_key, by_back, book, page, above, to)?;
-        self.records.remove_between(page, row.0, row.1);
-        Some(row.1.key())
-    }
-
     // The record of a page with the least key above the one given.
     pub(crate) fn next_of_page(&self, page: u16, after: Key) -> Option<&Record>
         ensures next { IsNextRecord self.now page after (option_copied result) }
@@ -260,6 +243,9 @@ impl HotLog {
         ensures next { IsNextHeld (λ r. r.back) self.now back after result }
         ensures form { IsHeld self.now }
     {
+        if self.by_back.leaves_out(back) {
+            return self.walk_to_back(back, after);
+        }
         unpacked(self.by_back.next(back, PackedKey::capped(after)))
     }
 
@@ -269,8 +255,48 @@ impl HotLog {
         ensures some { IfSome result (λ t. IsNextHeld (λ r. r.back) self.now back after (Some t.0) × IsNextHeld (λ r. r.back) self.now back t.0 t.1) }
         ensures form { IsHeld self.now }
     {
+        if self.by_back.leaves_out(back) {
+            return self.walk_to_two(back, after);
+        }
         let (first, second) = self.by_back.next_two(back, PackedKey::capped(after))?;
         Some((first.key(), unpacked(second)))
+    }
+
+    // The same by a walk over the keys.
+    fn walk_to_two(&self, back: u64, after: Key) -> Option<(Key, Option<Key>)>
+        ensures none { IsNone result → IsNextHeld (λ r. r.back) self.now back after None }
+        ensures some { IfSome result (λ t. IsNextHeld (λ r. r.back) self.now back after (Some t.0) × IsNextHeld (λ r. r.back) self.now back t.0 t.1) }
+        ensures form { IsHeld self.now }
+    {
+        let first = self.walk_to_back(back, after)?;
+        Some((first, self.walk_to_back(back, first)))
+    }
+
+    // The least key above the one given of the records with a segment backlink, by a walk over the keys.
+    fn walk_to_back(&self, back: u64, after: Key) -> Option<Key>
+        ensures next { IsNextHeld (λ r. r.back) self.now back after result }
+        ensures form { IsHeld self.now }
+    {
+        self.opens_form();
+        let mut at = after;
+        while let Some(key) = self.next_key(at) {
+            if self.has_back(key, back) {
+                return Some(key);
+            }
+            at = key;
+        }
+        None
+    }
+
+    // Whether the record of a key has a segment backlink.
+    fn has_back(&self, key: Key, back: u64) -> bool
+        ensures { IsTrue result ↔ ((r : RecordData) × Contains self.now r × HasKey key r × (r.back ≡ back)) }
+    {
+        self.opens_form();
+        match self.get(key) {
+            Some(redo) => redo.back() == back,
+            None => false,
+        }
     }
 
     /// The least page above the one given that a stored record writes, whatever its standing; the least of all for None.
@@ -297,7 +323,10 @@ impl HotLog {
         ensures removes { Removes (IsFolded book.now page version point) self.old self.new }
         ensures form { IsHeld self.new }
     {
-        removal::remove_folded(self, book, page, version, point);
+        // The records to remove have an LSN up to the point, so their backlinks are below it.
+        self.by_back.raise(point);
+        let (records, by_key) = (&mut self.records, &mut self.by_key);
+        removal::remove_folded(records, by_key, book, page, version.min(point));
     }
 
     /// Removes the dead records.
@@ -341,11 +370,11 @@ fn hold(
     redo: Record,
 ) -> Result<(), Refused<Record, PutFault>>
     requires free { IsRecordAt records.old (key_of redo) None }
-    requires listed { IsIndexBy (λ r. r.back) records.old by_back.old }
+    requires listed { IsIndexOf records.old by_back.old }
     ensures gains { OnOk result ((r : RecordData) → Contains records.new r ↔ (Contains records.old r ⊎ (r ≡ redo))) }
     ensures refused { IfErr result (λ e. (e.value ≡ redo) × (e.fault ≡ OfMemory)) }
     ensures unchanged { OnErr result (records.new ≡ records.old) }
-    ensures still_listed { IsIndexBy (λ r. r.back) records.new by_back.new }
+    ensures still_listed { IsIndexOf records.new by_back.new }
     ensures form { IsHeld records.new }
 {
     records.opens_form();

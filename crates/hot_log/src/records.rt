@@ -8,18 +8,17 @@ ghost use Rattle.hot_log.specs.Held.{IsHeld, HasKey, IsRecordAt};
 ghost use Rattle.hot_log.specs.Alive.{IsAliveBetween};
 ghost use Rattle.hot_log.specs.Anew.{ListsAnew};
 ghost use Rattle.hot_log.specs.Found.{IsPageAfter};
-ghost use Rattle.hot_log.specs.Indexing.{IsIndexed, IsRecordOf, IsNextRecord, IsLastRecord};
+ghost use Rattle.hot_log.specs.Indexing.{IsKeyPages, IsRecordOf, IsNextRecord, IsLastRecord};
 ghost use Rattle.hot_log.specs.Missing.{IsMissing};
 ghost use Rattle.hot_log.specs.Paged.{PlaceBefore};
-ghost use Rattle.hot_log.specs.Removing.{IsBetween, Removes, UnlistsRow};
+ghost use Rattle.hot_log.specs.Removing.{IsBetween, Removes, RemovesRow, UnlistsRow};
 
 use crate::ahead::Ahead;
-use crate::index::KeyIndex;
 use crate::key_pages::KeyPages;
 use crate::packed::PackedKey;
 use crate::search::is_alive;
 use epoch_book::EpochBook;
-use redo_core::{Record, Refused};
+use redo_core::{Key, Record, Refused};
 use sorted_runs::SortedRuns;
 use std::alloc::{AllocError, Global};
 use std::marker::Model;
@@ -233,19 +232,40 @@ impl PagedRecords {
 }
 
 impl PagedRecords {
-    /// Removes the keys of the first run of alive records of a page between two keys from the lists of keys, and returns a key that
+    /// Removes the first run of alive records of a page between two keys, and their keys from those that have pages, and returns its
+    /// last key.
+    pub fn remove_row(
+        &mut self,
+        by_key: &mut KeyPages,
+        book: &EpochBook,
+        page: u16,
+        above: Key,
+        to: Key,
+    ) -> Option<Key>
+        requires { IsKeyPages self.old by_key.old }
+        ensures removes { RemovesRow book.now page above to self.old self.new result }
+        ensures pages { IsKeyPages self.new by_key.new }
+        ensures form { IsHeld self.new }
+    {
+        self.opens_form();
+        let (above, to) = (PackedKey::capped(above), PackedKey::capped(to));
+        let row = self.unlist_row(by_key, book, page, above, to)?;
+        self.remove_between(page, row.0, row.1);
+        Some(row.1.key())
+    }
+
+    /// Removes the keys of the first run of alive records of a page between two keys from those that have pages, and returns a key that
     /// the run is above, and its last one.
-    pub fn unlist_row(
+    fn unlist_row(
         &self,
         by_key: &mut KeyPages,
-        by_back: &mut KeyIndex,
         book: &EpochBook,
         page: u16,
         above: PackedKey,
         to: PackedKey,
     ) -> Option<(PackedKey, PackedKey)>
-        requires { IsIndexed self.now by_key.old by_back.old }
-        ensures { UnlistsRow book.now self.now page above to by_key.new by_back.new result }
+        requires { IsKeyPages self.now by_key.old }
+        ensures { UnlistsRow book.now self.now page above to by_key.new result }
     {
         let (from, end) = (Bound::Excluded((page, above)), Bound::Included((page, to)));
         let mut start = above;
@@ -255,7 +275,6 @@ impl PagedRecords {
             let key = redo.key();
             if is_alive(book, key.epoch, key.number) {
                 let _ = by_key.remove(packed);
-                by_back.remove(redo.back(), packed);
                 last = Some(packed);
             } else if let Some(last) = last {
                 return Some((start, last));

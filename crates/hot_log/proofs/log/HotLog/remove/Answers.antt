@@ -48,7 +48,7 @@ invariant_of-self-2 c =
     record {
       form = c.in-Some-remove-2.ensures.form;
       by_key = pages_shrink held c.remove-2.new.self c.self.inside.by_key c.remove.new.self p.epoch p.number c.self.invariant.by_key (goes c) c.in-Some-remove.ensures.loses;
-      by_back = index_shrinks (λ r. r.back) held c.remove-2.new.self c.self.inside.by_back c.remove-3.new.self redo c.back.result p.epoch p.number c.self.invariant.form
+      by_back = index_shrinks held c.remove-2.new.self c.self.inside.by_back c.remove-3.new.self redo c.back.result p.epoch p.number c.self.invariant.form
           c.self.invariant.by_back found.0 found.2 c.back.ensures.value (goes c) c.remove-3.ensures;
     }
 

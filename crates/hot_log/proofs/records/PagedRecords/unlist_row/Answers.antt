@@ -15,7 +15,7 @@ use Rattle.hot_log.proofs.Keys.{same_epoch, same_number}
 use Rattle.hot_log.proofs.records.PagedRecords.unlist_row.Goals as goal
 
 pub loop-redo-init : goal.loop-redo-init
-loop-redo-init c = rowed_none c.args.book.now c.args.self.now c.args.above c.args.by_key.now c.args.by_back.now c.requires
+loop-redo-init c = rowed_none c.args.book.now c.args.self.now c.args.above c.args.by_key.now c.requires
 
 pub loop-redo-preserved-then-is_alive : goal.loop-redo-preserved-then-is_alive
 loop-redo-preserved-then-is_alive c =
@@ -28,14 +28,13 @@ loop-redo-preserved-then-is_alive c =
     sym start ∙ rest_so_far deref_pair c.loop-redo.yielded c.into_iter-redo-iterator.result c.loop-redo.redo-iterator c.loop-redo.yielded_by ∙ ap (λ (l : List Entry). xs ++ l) c.in-Some.ensures.steps in
     let walk = walk_of m c.args.page c.args.above c.args.to es xs (x ∷ c.next.new.self) c.self.invariant (sym c.range-redo-items.ensures.between) split in
     let e = c.of-packed.result.epoch in let n = c.of-packed.result.number in
-    let so_far : Rowed b (seen m) c.args.above xs c.loop-redo.start c.loop-redo.last c.loop-redo.by_key c.loop-redo.by_back =
-    subst (λ (l : List RecordData). Rowed b l c.args.above xs c.loop-redo.start c.loop-redo.last c.loop-redo.by_key c.loop-redo.by_back) (sym c.self.view_is) c.loop-redo.invariant in
+    let so_far : Rowed b (seen m) c.args.above xs c.loop-redo.start c.loop-redo.last c.loop-redo.by_key =
+    subst (λ (l : List RecordData). Rowed b l c.args.above xs c.loop-redo.start c.loop-redo.last c.loop-redo.by_key) (sym c.self.view_is) c.loop-redo.invariant in
     let joined : map deref_pair (c.loop-redo.yielded ++ (c.in-Some.field-0-0, c.in-Some.redo) ∷ []) ≡ xs ++ x ∷ [] = rw map-append in
-    subst (λ (l : List Entry). Rowed b c.args.self.now c.args.above l c.loop-redo.start (Some (key_in e n)) c.remove.new.self c.remove-then-is_alive.new.self) (sym joined)
-    (subst (λ (l : List RecordData). Rowed b l c.args.above (xs ++ x ∷ []) c.loop-redo.start (Some (key_in e n)) c.remove.new.self c.remove-then-is_alive.new.self) c.self.view_is
-    (rowed_alive b m c.args.page c.args.above c.args.to xs c.next.new.self x c.loop-redo.start c.loop-redo.last c.loop-redo.by_key c.remove.new.self c.loop-redo.by_back c.remove-then-is_alive.new.self
-    c.back.result e n walk so_far (alive_as b c.key-key.result.epoch c.key-key.result.number x.1.epoch x.1.number (same_epoch c.key-key.ensures.value) (same_number c.key-key.ensures.value) (c.if-is_alive.ensures.alive.0 refl))
-    c.back.ensures.value (same_epoch c.of-packed.ensures.value) (same_number c.of-packed.ensures.value) c.remove.ensures.loses c.remove-then-is_alive.ensures))
+    subst (λ (l : List Entry). Rowed b c.args.self.now c.args.above l c.loop-redo.start (Some (key_in e n)) c.remove.new.self) (sym joined)
+    (subst (λ (l : List RecordData). Rowed b l c.args.above (xs ++ x ∷ []) c.loop-redo.start (Some (key_in e n)) c.remove.new.self) c.self.view_is
+    (rowed_alive b m c.args.page c.args.above c.args.to xs c.next.new.self x c.loop-redo.start c.loop-redo.last c.loop-redo.by_key c.remove.new.self e n walk so_far (alive_as b c.key-key.result.epoch c.key-key.result.number x.1.epoch x.1.number (same_epoch c.key-key.ensures.value) (same_number c.key-key.ensures.value) (c.if-is_alive.ensures.alive.0 refl))
+    (same_epoch c.of-packed.ensures.value) (same_number c.of-packed.ensures.value) c.remove.ensures.loses))
 
 pub loop-redo-preserved : goal.loop-redo-preserved
 loop-redo-preserved c =
@@ -48,16 +47,16 @@ loop-redo-preserved c =
     sym start ∙ rest_so_far deref_pair c.loop-redo.yielded c.into_iter-redo-iterator.result c.loop-redo.redo-iterator c.loop-redo.yielded_by ∙ ap (λ (l : List Entry). xs ++ l) c.in-Some.ensures.steps in
     let walk = walk_of m c.args.page c.args.above c.args.to es xs (x ∷ c.next.new.self) c.self.invariant (sym c.range-redo-items.ensures.between) split in
     let e = c.of-packed.result.epoch in let n = c.of-packed.result.number in
-    let none : Rowed b (seen m) c.args.above xs c.loop-redo.start None c.loop-redo.by_key c.loop-redo.by_back =
-    subst (λ (l : List RecordData). Rowed b l c.args.above xs c.loop-redo.start None c.loop-redo.by_key c.loop-redo.by_back) (sym c.self.view_is)
-    (subst (λ (o : Option Key). Rowed b c.args.self.now c.args.above xs c.loop-redo.start o c.loop-redo.by_key c.loop-redo.by_back) c.in_default.is c.loop-redo.invariant) in
+    let none : Rowed b (seen m) c.args.above xs c.loop-redo.start None c.loop-redo.by_key =
+    subst (λ (l : List RecordData). Rowed b l c.args.above xs c.loop-redo.start None c.loop-redo.by_key) (sym c.self.view_is)
+    (subst (λ (o : Option Key). Rowed b c.args.self.now c.args.above xs c.loop-redo.start o c.loop-redo.by_key) c.in_default.is c.loop-redo.invariant) in
     let dead = λ (a : IsAlive b.cuts b.complete x.1.epoch x.1.number).
     let is = c.if-is_alive.ensures.alive.1 (alive_as b x.1.epoch x.1.number c.key-key.result.epoch c.key-key.result.number (sym (same_epoch c.key-key.ensures.value)) (sym (same_number c.key-key.ensures.value)) a) in absurd (false≢true is) in
     let joined : map deref_pair (c.loop-redo.yielded ++ (c.in-Some.field-0-0, c.in-Some.redo) ∷ []) ≡ xs ++ x ∷ [] = rw map-append in
-    subst (λ (o : Option Key). Rowed b c.args.self.now c.args.above (map deref_pair (c.loop-redo.yielded ++ (c.in-Some.field-0-0, c.in-Some.redo) ∷ [])) (key_in e n) o c.loop-redo.by_key c.loop-redo.by_back) (sym c.in_default.is)
-    (subst (λ (l : List Entry). Rowed b c.args.self.now c.args.above l (key_in e n) None c.loop-redo.by_key c.loop-redo.by_back) (sym joined)
-    (subst (λ (l : List RecordData). Rowed b l c.args.above (xs ++ x ∷ []) (key_in e n) None c.loop-redo.by_key c.loop-redo.by_back) c.self.view_is
-    (rowed_dead b m c.args.page c.args.above c.args.to xs c.next.new.self x c.loop-redo.start c.loop-redo.by_key c.loop-redo.by_back e n walk none dead (same_epoch c.of-packed.ensures.value) (same_number c.of-packed.ensures.value))))
+    subst (λ (o : Option Key). Rowed b c.args.self.now c.args.above (map deref_pair (c.loop-redo.yielded ++ (c.in-Some.field-0-0, c.in-Some.redo) ∷ [])) (key_in e n) o c.loop-redo.by_key) (sym c.in_default.is)
+    (subst (λ (l : List Entry). Rowed b c.args.self.now c.args.above l (key_in e n) None c.loop-redo.by_key) (sym joined)
+    (subst (λ (l : List RecordData). Rowed b l c.args.above (xs ++ x ∷ []) (key_in e n) None c.loop-redo.by_key) c.self.view_is
+    (rowed_dead b m c.args.page c.args.above c.args.to xs c.next.new.self x c.loop-redo.start c.loop-redo.by_key e n walk none dead (same_epoch c.of-packed.ensures.value) (same_number c.of-packed.ensures.value))))
 
 pub returns-in-Some-last : goal.returns-in-Some-last
 returns-in-Some-last c =
@@ -70,10 +69,10 @@ returns-in-Some-last c =
     sym start ∙ rest_so_far deref_pair c.loop-redo.yielded c.into_iter-redo-iterator.result c.loop-redo.redo-iterator c.loop-redo.yielded_by ∙ ap (λ (l : List Entry). xs ++ l) c.in-Some.ensures.steps in
     let walk = walk_of m c.args.page c.args.above c.args.to es xs (x ∷ c.next.new.self) c.self.invariant (sym c.range-redo-items.ensures.between) split in
     let last = c.in-Some-last.last in
-    subst (λ (l : List RecordData). UnlistsRow b l c.args.page c.args.above c.args.to c.loop-redo.by_key c.loop-redo.by_back (Some (c.loop-redo.start, last))) c.self.view_is
-    (rowed_some b m c.args.page c.args.above c.args.to xs (x ∷ c.next.new.self) c.loop-redo.start last c.loop-redo.by_key c.loop-redo.by_back walk
-    (subst (λ (l : List RecordData). Rowed b l c.args.above xs c.loop-redo.start (Some last) c.loop-redo.by_key c.loop-redo.by_back) (sym c.self.view_is)
-    (subst (λ (o : Option Key). Rowed b c.args.self.now c.args.above xs c.loop-redo.start o c.loop-redo.by_key c.loop-redo.by_back) c.in-Some-last.is c.loop-redo.invariant)))
+    subst (λ (l : List RecordData). UnlistsRow b l c.args.page c.args.above c.args.to c.loop-redo.by_key (Some (c.loop-redo.start, last))) c.self.view_is
+    (rowed_some b m c.args.page c.args.above c.args.to xs (x ∷ c.next.new.self) c.loop-redo.start last c.loop-redo.by_key walk
+    (subst (λ (l : List RecordData). Rowed b l c.args.above xs c.loop-redo.start (Some last) c.loop-redo.by_key) (sym c.self.view_is)
+    (subst (λ (o : Option Key). Rowed b c.args.self.now c.args.above xs c.loop-redo.start o c.loop-redo.by_key) c.in-Some-last.is c.loop-redo.invariant)))
 
 pub returns-in_err-last : goal.returns-in_err-last
 returns-in_err-last c =
@@ -84,11 +83,11 @@ returns-in_err-last c =
     let split : es ≡ xs ++ [] =
     sym start ∙ rest_so_far deref_pair c.loop-redo.yielded c.into_iter-redo-iterator.result c.loop-redo.redo-iterator c.loop-redo.yielded_by ∙ ap (λ (l : List Entry). xs ++ l) c.in-None.ensures.steps.0 in
     let walk = walk_of m c.args.page c.args.above c.args.to es xs [] c.self.invariant (sym c.range-redo-items.ensures.between) split in
-    subst (λ o. UnlistsRow b c.args.self.now c.args.page c.args.above c.args.to c.loop-redo.by_key c.loop-redo.by_back o) (sym c.from_residual.ensures)
-    (subst (λ (l : List RecordData). UnlistsRow b l c.args.page c.args.above c.args.to c.loop-redo.by_key c.loop-redo.by_back None) c.self.view_is
-    (rowed_all b m c.args.page c.args.above c.args.to xs c.loop-redo.start c.loop-redo.by_key c.loop-redo.by_back walk
-    (subst (λ (l : List RecordData). Rowed b l c.args.above xs c.loop-redo.start None c.loop-redo.by_key c.loop-redo.by_back) (sym c.self.view_is)
-    (subst (λ (o : Option Key). Rowed b c.args.self.now c.args.above xs c.loop-redo.start o c.loop-redo.by_key c.loop-redo.by_back) c.in_err-last.was c.loop-redo.invariant))))
+    subst (λ o. UnlistsRow b c.args.self.now c.args.page c.args.above c.args.to c.loop-redo.by_key o) (sym c.from_residual.ensures)
+    (subst (λ (l : List RecordData). UnlistsRow b l c.args.page c.args.above c.args.to c.loop-redo.by_key None) c.self.view_is
+    (rowed_all b m c.args.page c.args.above c.args.to xs c.loop-redo.start c.loop-redo.by_key walk
+    (subst (λ (l : List RecordData). Rowed b l c.args.above xs c.loop-redo.start None c.loop-redo.by_key) (sym c.self.view_is)
+    (subst (λ (o : Option Key). Rowed b c.args.self.now c.args.above xs c.loop-redo.start o c.loop-redo.by_key) c.in_err-last.was c.loop-redo.invariant))))
 
 pub returns : goal.returns
 returns c =
@@ -100,7 +99,7 @@ returns c =
     sym start ∙ rest_so_far deref_pair c.loop-redo.yielded c.into_iter-redo-iterator.result c.loop-redo.redo-iterator c.loop-redo.yielded_by ∙ ap (λ (l : List Entry). xs ++ l) c.in-None.ensures.steps.0 in
     let walk = walk_of m c.args.page c.args.above c.args.to es xs [] c.self.invariant (sym c.range-redo-items.ensures.between) split in
     let last = c.in_ok-last.field-0 in
-    subst (λ (l : List RecordData). UnlistsRow b l c.args.page c.args.above c.args.to c.loop-redo.by_key c.loop-redo.by_back (Some (c.loop-redo.start, last))) c.self.view_is
-    (rowed_some b m c.args.page c.args.above c.args.to xs [] c.loop-redo.start last c.loop-redo.by_key c.loop-redo.by_back walk
-    (subst (λ (l : List RecordData). Rowed b l c.args.above xs c.loop-redo.start (Some last) c.loop-redo.by_key c.loop-redo.by_back) (sym c.self.view_is)
-    (subst (λ (o : Option Key). Rowed b c.args.self.now c.args.above xs c.loop-redo.start o c.loop-redo.by_key c.loop-redo.by_back) c.in_ok-last.was c.loop-redo.invariant)))
+    subst (λ (l : List RecordData). UnlistsRow b l c.args.page c.args.above c.args.to c.loop-redo.by_key (Some (c.loop-redo.start, last))) c.self.view_is
+    (rowed_some b m c.args.page c.args.above c.args.to xs [] c.loop-redo.start last c.loop-redo.by_key walk
+    (subst (λ (l : List RecordData). Rowed b l c.args.above xs c.loop-redo.start (Some last) c.loop-redo.by_key) (sym c.self.view_is)
+    (subst (λ (o : Option Key). Rowed b c.args.self.now c.args.above xs c.loop-redo.start o c.loop-redo.by_key) c.in_ok-last.was c.loop-redo.invariant)))
