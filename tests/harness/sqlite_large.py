@@ -38,22 +38,31 @@ def patience(size):
 
 
 def fill(pipe, place, seed, size):
-    """Inserts rows until the database has its size, and deletes some; sends the size after each commit."""
+    """Inserts rows until the database has its size, and deletes some; sends the size after each commit, or why one failed."""
     ours = connect(place, keep=KEPT, timeout=patience(size))
-    ours.executescript(f"begin; {TABLES} commit")
-    last, old = 0, "from t where a % 37 = ? and a > ?"
-    while (has := one(ours, "pragma page_count") * 4096) < size:
-        ours.execute("begin immediate")
-        new = [(number, body(seed, number)) for number in range(last + 1, last + ROWS + 1)]
-        ours.executemany("insert into t values(?, ?)", new)
-        last += ROWS
-        which = last // ROWS % 37, last - 20 * ROWS
-        rows, size_of_old = ours.execute(f"select count(*), sum(length(b)) {old}", which).fetchone()
-        ours.execute(f"delete {old}", which)
-        more = len(new) - rows, sum(len(it) for _, it in new) - size_of_old
-        ours.execute("update total set rows = rows + ?, bytes = bytes + ?, last = ?", (*more, last))
-        ours.execute("commit")
-        pipe.send(has)
+    try:
+        ours.executescript(f"begin; {TABLES} commit")
+        last = 0
+        while (has := one(ours, "pragma page_count") * 4096) < size:
+            last = insert(ours, seed, last)
+            pipe.send(has)
+    except sqlite3.Error as error:
+        pipe.send(f"{told(error)} {last_message(ours)}")
+
+
+def insert(ours, seed, last):
+    """Commits the rows after the last one, and deletes some of the old ones. Returns the new last row."""
+    ours.execute("begin immediate")
+    new = [(number, body(seed, number)) for number in range(last + 1, last + ROWS + 1)]
+    ours.executemany("insert into t values(?, ?)", new)
+    last += ROWS
+    old, which = "from t where a % 37 = ? and a > ?", (last // ROWS % 37, last - 20 * ROWS)
+    rows, size_of_old = ours.execute(f"select count(*), sum(length(b)) {old}", which).fetchone()
+    ours.execute(f"delete {old}", which)
+    more = len(new) - rows, sum(len(it) for _, it in new) - size_of_old
+    ours.execute("update total set rows = rows + ?, bytes = bytes + ?, last = ?", (*more, last))
+    ours.execute("commit")
+    return last
 
 
 def watch(pipe, place, size):
@@ -121,9 +130,10 @@ def fill_and_kill(cluster, seed, size):
             if not writer.pipe.poll(0.5):
                 continue
             try:
-                writer.pipe.recv()
+                said = writer.pipe.recv()
             except EOFError:
                 break
+            assert isinstance(said, int), said
             watcher = watcher or Child(watch, place, size)
             if is_killed and choose.random() < 0.2:
                 cluster.start()
