@@ -14,6 +14,7 @@ from harness.sqlite_schedules import SCHEDULES
 
 pytestmark = [pytest.mark.xdist_group("sqlite_nodes"), *test_sqlite.pytestmark[1:]]
 SECONDS = 240  # until a run counts as not ended
+PROCESSES = 8  # that play rounds at the same time
 
 # Faults of the driver: the schedule that finds each, a file, and what is there with what is put in its place.
 MUTANTS = {
@@ -42,15 +43,23 @@ MUTANTS = {
 }
 
 
-def run(module, extension, store, disk, folder, *words):
-    """What a module of the harness prints, in a process of its own; its end is to be good."""
-    folder.mkdir()
-    command = [sys.executable, "-m", f"harness.{module}", extension, store, disk, folder, *map(str, words)]
+def ran(module, *words):
+    """A module of the harness that has run in a process of its own."""
+    command = [sys.executable, "-m", f"harness.{module}", *map(str, words)]
     return subprocess.run(command, cwd=ROOT / "tests", stdout=subprocess.PIPE, stderr=subprocess.STDOUT, text=True, timeout=SECONDS, check=False)
 
 
+def run(module, extension, store, disk, folder, *words):
+    """A module that was given programs and a new folder."""
+    folder.mkdir()
+    return ran(module, extension, store, disk, folder, *words)
+
+
 def test_crash_rounds(parts, tmp_path, seed, seconds):
-    done = run("sqlite_rounds", *parts, tmp_path / "s", seed, 2 * seconds)
+    """200 rounds by default, if they take less than two minutes."""
+    extension, store, _ = parts
+    bounds = ("--rounds", int(20 * seconds), "--seconds", 12 * seconds, "--processes", PROCESSES)
+    done = ran("many_rounds", tmp_path / "s", "--extension", extension, "--store", store, "--seed", seed, *bounds)
     assert done.returncode == 0, done.stdout[-3000:]
     print(done.stdout)
 

@@ -1,14 +1,15 @@
-"""Pictures of a volume: the messages between engines and nodes in a run of the model (`tests/model/volume.py`), from the top down.
+"""Pictures of a volume: the messages between engines and nodes in a run of the model, from the top down.
 
-The requests, the answers and the states of the nodes come from the model; the headings say what each step is for. Nodes and births
-count from 1 here, and from 0 in the model.
+The model makes the choices of the built machine (`tests/model/volume_machine.py`). The requests, the answers and the states of the nodes
+come from it; the headings say what each step is for. Nodes and births count from 1 here, and from 0 in the model.
 """
 
 from typing import NamedTuple
 
 import svg_forms as forms
-from model.volume import World, view
-from model.volume_schedules import Schedule
+from model.machine_schedules import MachineSchedule
+from model.volume import view
+from model.volume_machine import Machines
 
 MARGIN, WIDTH = 16, 956
 ENGINE, APART = 64, 96  # where the first engine is, and how far the next one is to its right
@@ -41,7 +42,7 @@ class Note(NamedTuple):
 # Runs
 
 
-class Recorder(World):
+class Recorder(Machines):
     """A world that keeps what its nodes are asked and answer."""
 
     def __init__(self):
@@ -50,16 +51,24 @@ class Recorder(World):
 
     def serve(self, i, request):
         answer = super().serve(i, request)
-        self.rows.append(Exchange(request, i, answer))
+        self.rows.append(Exchange(request, i, beyond_asked(request, answer)))
         return answer
 
 
-class Story(Schedule):
+def beyond_asked(request, answer):
+    """The answer as it is sent: the model's answer to a pull has all facts of the node, also those that the request names."""
+    if request[0] != "pull" or answer[0] != "pulled":
+        return answer
+    return (*answer[:-1], answer[-1] - request[-1])
+
+
+class Story(MachineSchedule):
     """A schedule of which a part is drawn: from `begin` on."""
+
+    kind = Recorder
 
     def __init__(self):
         super().__init__()
-        self.world = Recorder()
         self.before = []
 
     def begin(self):
@@ -81,8 +90,9 @@ class Story(Schedule):
         return self.world.engines[engine]
 
     def crashed(self):
-        """A committed transaction at nodes 1 and 2, half of another at node 2; then node 1 loses its files."""
+        """A committed transaction, which gossip brings node 3, and half of another at node 2; then node 1 loses its files."""
         a = self.committed()
+        self.gossip_all([2])
         self.do("write", a, 1, 0)
         self.give(a, [1], "take")
         self.do("wipe", 0)
@@ -107,8 +117,9 @@ def opening(story):
     story.heading("1  Fence all nodes, and go on with two that answer; they answer no older engine any more")
     story.give(b, [0, 1, 2], "fence")
     story.note(b, f"quorum: nodes {' and '.join(str(i + 1) for i in engine.quorum)}; node 1 may be admitted under its new birth")
-    story.heading("2  Ask, now that both are fenced, what they have; U is the union")
-    story.give(b, [1, 2], "pull")
+    story.heading("2  Ask, now that both are fenced, one for all that it has, and then each for what U lacks; U is the union")
+    story.give(b, [engine.quorum[-1]], "pull")
+    story.give(b, engine.quorum, "pull")
     story.heading("3  Find lo")
     seen = view(engine.union)
     story.note(b, f"no truncation is pending; U is complete up to {seen.complete}, and its last commit point is lo = {engine.lo}")
@@ -190,7 +201,9 @@ def request_words(request):
         return f"propose {head} {cut_words(rest[2])}"
     if kind == "take":
         return f"as {head} take {fact_words(rest[2])}"
-    return f"as {head} " + {"pull": "what do you have?", "push": "absorb U"}[kind]
+    if kind == "pull":
+        return f"as {head} what do you have" + (" beyond U?" if rest[2] else "?")
+    return f"as {head} absorb U"
 
 
 def answer_words(answer):
