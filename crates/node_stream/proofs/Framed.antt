@@ -1,16 +1,15 @@
 -- Answer frames of bytes.
-use Rattle.std.proofs.Common.{◌≡◌, ℕ, ◌-◌, ◌<◌, ◌≤◌, ◌^◌, Bool, true, List, [], ◌∷◌, ◌++◌, length, Result, Ok, Err, refl, sym, ap, ◌∙◌, arith, length-append}
-use Rattle.std.specs.Prelude.{codes, IfOk, OnErr, IsOk}
+use Rattle.std.proofs.Common.{◌≡◌, ℕ, ◌≤◌, Bool, true, List, [], ◌∷◌, ◌++◌, length, Result, Ok, Err, sym, ap, ◌∙◌, arith, length-append}
+use Rattle.std.specs.Prelude.{codes, IfOk}
 use Rattle.std.specs.Fmt.{decimal}
-use Rattle.std.proofs.lemmas.Fmt.{length-decimal-le, length-decimal-le_succ}
-use Rattle.std.proofs.lemmas.List.{length-take}
+use Rattle.std.proofs.lemmas.Fmt.{length-decimal-le_succ}
 use Rattle.redo_wire.specs.Faults.{fault_number}
 use Rattle.redo_wire.specs.declared.faults.WireFault.{WireFault}
 use Rattle.redo_wire.specs.declared.faults.WireFault.TheVariants.{Short, UnknownTag, Shape, Order, Rest, TooLong}
 use Rattle.framing.specs.AnswerBytes.{bytes_of}
 use Rattle.framing.specs.declared.frames.answer.FrameAnswer.{FrameAnswer}
-use Rattle.node_stream.specs.FrameTelling.{unended, fitted, bytes_frame, value_frame}
-use Rattle.node_stream.specs.Telling.{one_number, fault_line}
+use Rattle.node_stream.specs.FrameTelling.{fitted, bytes_frame, value_frame}
+use Rattle.node_stream.specs.Telling.{fault_line}
 use Rattle.node_stream.specs.declared.faults.LineFault.TheVariants as line
 use Rattle.node_stream.proofs.Long.{frame_of_bytes}
 
@@ -33,22 +32,6 @@ pub value_told : {E : Type 0} (r : Result FrameAnswer E) (word bytes begun items
 value_told r word bytes begun items is_long front all not_long h =
     told_as r (bytes_frame word bytes) (value_frame word is_long bytes) (sym (frame_of_bytes word bytes is_long not_long)) (bytes_told r word bytes begun items front all h)
 
--- a number of pieces has ten digits at most
-pub few_digits : {E : Type 0} (r : Result FrameAnswer E) (text : List ℕ) (pieces : ℕ) → pieces < 2 ^ 32 → text ≡ one_number (codes "frozen ") pieces
-    → OnErr r (4294967296 < length text) → IsOk r
-few_digits (Ok a) text pieces short is h = refl
-few_digits (Err e) text pieces short is h =
-    let digits = length-decimal-le 10 pieces (omega arith) (omega (arith, short)) (omega (arith, short)) in
-    absurd (omega (arith, h, ap length is, digits, length-append (decimal pieces) (10 ∷ [])))
-
--- so that their answer has 17 bytes at most
-pub few_bytes : {E : Type 0} (r : Result FrameAnswer E) (text : List ℕ) (pieces : ℕ) → pieces < 2 ^ 32 → text ≡ one_number (codes "frozen ") pieces
-    → IfOk r (λ a. bytes_of a ≡ unended text) → IfOk r (λ a. length (bytes_of a) ≤ 17)
-few_bytes (Ok a) text pieces short is h =
-    let digits = length-decimal-le 10 pieces (omega arith) (omega (arith, short)) (omega (arith, short)) in
-    omega (arith, ap length h, ap length is, digits, length-take (length text - 1) text, length-append (decimal pieces) (10 ∷ []))
-few_bytes (Err e) text pieces short is h = tt
-
 -- ---- faults
 few_faults : (f : WireFault) → fault_number f ≤ 6
 few_faults Short = omega arith
@@ -59,10 +42,8 @@ few_faults Rest = omega arith
 few_faults TooLong = omega arith
 
 -- the answer with the number of a fault has 17 bytes at most
-pub fault_is_short : {E : Type 0} (r : Result FrameAnswer E) (text : List ℕ) (f : WireFault) → text ≡ fault_line (line.Wire f)
-    → IfOk r (λ a. bytes_of a ≡ unended text) → IfOk r (λ a. length (bytes_of a) ≤ 17)
-fault_is_short (Ok a) text f is h =
+pub fault_is_short : (text : List ℕ) (f : WireFault) → text ++ codes "\n" ≡ fault_line (line.Wire f) → length text ≤ 17
+fault_is_short text f is =
     let few = few_faults f in
     let digits = length-decimal-le_succ (fault_number f) (omega (arith, few)) in
-    omega (arith, few, ap length h, ap length is, digits, length-take (length text - 1) text, length-append (decimal (fault_number f)) (10 ∷ []))
-fault_is_short (Err e) text f is h = tt
+    omega (arith, few, ap length is, digits, length-append text (10 ∷ []), length-append (decimal (fault_number f)) (10 ∷ []))

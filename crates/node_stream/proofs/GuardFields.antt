@@ -1,6 +1,6 @@
 -- What a guard is asked by numbers is asked by their first fields: no request has as many as are looked at.
-use Rattle.std.proofs.Common.{◌≡◌, ℕ, ◌<◌, ◌≤◌, List, length, Option, Some, None, refl, ap, ◌∙◌, arith}
-use Rattle.text.specs.Fields.{Form, numbers_of, made_by}
+use Rattle.std.proofs.Common.{◌≡◌, ℕ, ◌<◌, List, length, Option, None, ap, ◌∙◌, arith}
+use Rattle.text.specs.Fields.{Form, made_by}
 use Rattle.text.specs.Parts.{◌>>=◌, parts_at, most_parts, first_parts}
 use Rattle.text.proofs.FirstParts.{few_are_all}
 use Rattle.text.proofs.Forms.{numbers_apart}

@@ -3,7 +3,7 @@ pub mod Framed
 pub mod GuardFields
 pub mod Headed
 pub mod Long
-pub mod Short
 pub mod Together
 pub mod Turns
 pub mod Unchanged
+pub mod Worded

@@ -9,7 +9,7 @@ use Rattle.framing.proofs.FramesAnswered.{joined}
 use Rattle.framing.proofs.Headers.{length-header}
 use Rattle.framing.proofs.Nested.{first_inside, none_inside}
 use Rattle.guard.specs.Data.{GuardData}
-use Rattle.node_stream.specs.Answering.{Spoken, by_frames, LacksMemory, AnswersAsked, AnswersRequest, OnlyReads, ReadsAsked, AnswersOneOf, AnswersInTurn, AnswersAll}
+use Rattle.node_stream.specs.Answering.{Spoken, by_frames, AnswersAsked, AnswersRequest, ReadsAsked, AnswersOneOf, AnswersInTurn, AnswersAll}
 use Rattle.node_stream.specs.Gathering.{HasPlaceFor, Gathers, gathered_bytes, gathered_room}
 use Rattle.node_stream.specs.GuardReading.{guard_request}
 use Rattle.node_stream.specs.GuardTelling.{sure_for}

@@ -1,7 +1,6 @@
 -- A stream makes turns of the guard, and those of the replica inside.
 use Rattle.std.proofs.Common.{◌≡◌, ℕ, ◌+◌, ◌⊎◌, List, [], ◌∷◌, ◌++◌, length, Option, Some, None, Result, Ok, Err, inl, inr, ⊎_elim, refl, sym, ap, ◌∙◌, subst, add-zero}
-use Rattle.std.specs.Prelude.{IsTrue, map}
-use Rattle.std.specs.List.{AllByRecursion}
+use Rattle.std.specs.Prelude.{IsTrue}
 use Rattle.redo_core.specs.declared.facts.Fact.{Fact}
 use Rattle.framing.specs.Inside.{Exceeds}
 use Rattle.framing.specs.Lines as lines
@@ -19,8 +18,8 @@ use Rattle.guard.specs.declared.requests.Request.TheVariants as request
 use Rattle.guard.specs.declared.replies.Reply.{Reply}
 use Rattle.guard.specs.declared.replies.Reply.TheVariants as reply
 use Rattle.guard.proofs.Plainly.{plain_runs}
-use Rattle.node_stream.specs.Answering.{Spoken, by_lines, by_frames, AnswersAsked, AnswersRequest, ReadsAsked, AnswersOneOf, AnswersInTurn, AnswersThese, IsAnswerBy, IsAnswer, IsFrameAnswer}
-use Rattle.node_stream.specs.Carried.{carried_before, carried_out, AreCarriedOut}
+use Rattle.node_stream.specs.Answering.{Spoken, by_lines, by_frames, AnswersAsked, AnswersRequest, ReadsAsked, AnswersOneOf, AnswersInTurn, AnswersThese, IsAnswerBy}
+use Rattle.node_stream.specs.Carried.{carried_before, carried_out}
 use Rattle.node_stream.specs.Running.{IsTurn, MakesNoTurn, MakesRequest, IsTurnOver, MakesOneOf, MakeInTurn, MakeEach, MakesThese, MakesBelow, MakeTurns, RunsBringing, RunsInside, Run, AnswersRun, FramesRun, PlainStream, PlainlyRun}
 use Rattle.node_stream.specs.declared.asked.GuardAsked.{GuardAsked}
 use Rattle.node_stream.specs.declared.faults.LineFault.{LineFault}

@@ -30,7 +30,7 @@ use Rattle.replica.specs.declared.requests.Request.{Request}
 use Rattle.replica.specs.declared.requests.Request.TheVariants as request
 use Rattle.replica.specs.declared.replies.Reply.{Reply}
 use Rattle.replica.specs.declared.replies.Reply.TheVariants as reply
-use Rattle.guard.specs.Data.{GuardData, around}
+use Rattle.guard.specs.Data.{GuardData}
 use Rattle.guard.specs.Guarding.{IsGuardReply, NamesNode}
 use Rattle.guard.specs.Refusing.{IsGuardRefusal, IsAfterGuardRefusal}
 use Rattle.guard.specs.declared.requests.Request.{Request as GuardRequest}

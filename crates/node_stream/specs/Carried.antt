@@ -1,5 +1,5 @@
 -- Which of a guard's turns its replica carried out.
-use Rattle.std.specs.Prelude.{◌≡◌, List, [], ◌∷◌, Option, Some, None, map}
+use Rattle.std.specs.Prelude.{◌≡◌, List, [], ◌∷◌, map}
 use Rattle.replica.specs.Meaning.{Turn}
 use Rattle.replica.specs.declared.requests.Request.{Request as ReplicaRequest}
 use Rattle.replica.specs.declared.replies.Reply.{Reply as ReplicaReply}

@@ -1,6 +1,6 @@
 -- What a line or a frame asks of a guard.
 use Rattle.std.specs.Prelude.{ℕ, List, [], ◌∷◌, Option, Some, None, Result, Ok, Err, codes, bytes_eq, if◌then◌else◌}
-use Rattle.redo_core.specs.Data.{CutData, cut_of}
+use Rattle.redo_core.specs.Data.{cut_of}
 use Rattle.redo_core.specs.Shape.{max_number, cut_fault}
 use Rattle.redo_core.specs.declared.shapes.ShapeFault.{ShapeFault}
 use Rattle.guard.specs.declared.requests.AcceptedCut.{AcceptedCut}

@@ -1,5 +1,5 @@
 -- The line and the frame that answer a guard's reply.
-use Rattle.std.specs.Prelude.{ℕ, ◌≤◌, Bool, true, false, List, [], ◌∷◌, ◌++◌, Option, Some, None, codes}
+use Rattle.std.specs.Prelude.{ℕ, Bool, true, false, List, [], ◌∷◌, ◌++◌, Option, Some, None, codes}
 use Rattle.std.specs.Fmt.{decimal}
 use Rattle.guard.specs.declared.requests.AcceptedCut.{AcceptedCut}
 use Rattle.guard.specs.declared.requests.Request.{Request}
@@ -7,7 +7,6 @@ use Rattle.guard.specs.declared.requests.Request.TheVariants as request
 use Rattle.guard.specs.declared.replies.Reply.{Reply}
 use Rattle.guard.specs.declared.replies.Reply.TheVariants as reply
 use Rattle.segment_core.specs.declared.answers.Front.{Front}
-use Rattle.replica.specs.declared.replies.Reply.{Reply as ReplicaReply}
 use Rattle.node_stream.specs.Telling.{line_of, TakesMemory}
 use Rattle.node_stream.specs.FrameTelling.{unended, fitted, frame_of}
 use Rattle.node_stream.specs.declared.asked.Window.{Window}

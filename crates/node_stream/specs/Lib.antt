@@ -10,6 +10,5 @@ pub mod GuardReading
 pub mod GuardTelling
 pub mod Reading
 pub mod Refusing
-pub mod Room
 pub mod Running
 pub mod Telling

@@ -140,11 +140,6 @@ TakesMemory (reply.Malformed index) = Unit {0}
 TakesMemory (reply.Next r) = Unit {0}
 TakesMemory told = ⊥
 
--- the same, and the reply whose line is written into room that was taken before its request was carried out
-abbrev pub TakesRoom : Reply → Type 0
-TakesRoom (reply.Frozen pieces) = Unit {0}
-TakesRoom told = TakesMemory told
-
 -- ---- lines that encode no request
 -- a value's fault goes by its number
 abbrev pub fault_line : LineFault → List ℕ

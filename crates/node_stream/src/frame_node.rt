@@ -5,30 +5,20 @@ ghost use Rattle.framing.specs.AnswerBytes.{bytes_of};
 ghost use Rattle.framing.specs.Frames.{IsShort};
 ghost use Rattle.node_stream.specs.Answering.{AnswersAsked, AnswersRequest, ReadsAsked, by_frames};
 ghost use Rattle.node_stream.specs.Asking.{IsInside};
-ghost use Rattle.node_stream.specs.Room.{HasRoom};
-ghost use Rattle.node_stream.specs.FrameTelling.{fault_frame};
 ghost use Rattle.node_stream.specs.GuardReading.{guard_request};
 ghost use Rattle.node_stream.specs.GuardTelling.{guard_frame, NeedsMemory, sure_for, sure_of};
 ghost use Rattle.node_stream.specs.Refusing.{TellsFault};
 ghost use Rattle.node_stream.specs.declared.job.Form.TheVariants as stream;
 
 use crate::asked::{GuardAsked, Window};
-use crate::faults::{LineError, LineFault};
+use crate::faults::LineError;
 use crate::frame_telling::fault as fault_answer;
 use crate::guard_frames::answer;
 use crate::guard_requests::read_request;
 use crate::job::Form;
-use crate::room::room;
 use framing::frames::FrameAnswer;
 use guard::{Guard, Reply};
 use std::alloc::Global;
-
-/// A request, and the room that was taken for its answer.
-#[derive(Drop)]
-pub struct Ready {
-    pub asked: GuardAsked,
-    pub room: String,
-}
 
 /// The answer where memory ran out.
 pub fn memory() -> FrameAnswer
@@ -39,59 +29,40 @@ pub fn memory() -> FrameAnswer
 }
 
 /// The answer frame of a reply, or where there is no memory for it, the one that says so.
-fn answer_reply(alloc: Global, window: Window, reply: &Reply, room: String) -> FrameAnswer
-    requires inside { IsInside window }
-    requires room { HasRoom room }
+fn answer_reply(alloc: Global, window: Window, reply: &Reply) -> FrameAnswer
+    requires { IsInside window }
     ensures bytes { (bytes_of result ≡ guard_frame window reply.now) ⊎ ((bytes_of result ≡ codes "memory") × NeedsMemory reply.now) }
     ensures long { sure_of reply.now < length (bytes_of result) → NeedsMemory reply.now }
     ensures short { IsShort (bytes_of result) }
 {
-    match answer(alloc, window, reply, room) {
+    match answer(alloc, window, reply) {
         Ok(answer) => answer,
         Err(_) => memory(),
     }
 }
 
 /// Carries out a request, and answers with the reply. An answer of more bytes than are sure to have room only reads.
-pub fn answer_request(alloc: Global, guard: &mut Guard, ready: Ready) -> FrameAnswer
-    requires inside { IsInside ready.asked.window }
-    requires room { HasRoom ready.room }
-    ensures answers { AnswersAsked by_frames (Ok ready.asked) guard.old (bytes_of result) guard.new }
-    ensures long { sure_for ready.asked.request < length (bytes_of result)
-        → ReadsAsked by_frames (Ok ready.asked) guard.old (bytes_of result) guard.new }
+pub fn answer_request(alloc: Global, guard: &mut Guard, asked: GuardAsked) -> FrameAnswer
+    requires { IsInside asked.window }
+    ensures answers { AnswersAsked by_frames (Ok asked) guard.old (bytes_of result) guard.new }
+    ensures long { sure_for asked.request < length (bytes_of result) → ReadsAsked by_frames (Ok asked) guard.old (bytes_of result) guard.new }
     ensures short { IsShort (bytes_of result) }
 {
-    let window = ready.asked.window;
-    let reply = guard.step(ready.asked.request);
-    answer_reply(alloc, window, &reply, ready.room)
+    let window = asked.window;
+    let reply = guard.step(asked.request);
+    answer_reply(alloc, window, &reply)
 }
 
-/// Answers with why a frame encodes no request.
-fn answer_fault(alloc: Global, fault: LineFault) -> FrameAnswer
-    ensures bytes { (bytes_of result ≡ codes "memory") ⊎ (bytes_of result ≡ fault_frame fault) }
-    ensures few { length (bytes_of result) ≤ 17 }
-{
-    match fault_answer(alloc, fault) {
-        Ok(answer) => answer,
-        Err(_) => memory(),
-    }
-}
-
-/// What a frame asks, with room for the answer; or the answer where it encodes no request, or where memory ran out.
-pub fn read_ready(alloc: Global, frame: &[u8]) -> Result<Ready, FrameAnswer>
-    ensures asks { IfOk result (λ r. guard_request stream.Frames frame.now ≡ Ok r.asked) }
-    ensures inside { IfOk result (λ r. IsInside r.asked.window) }
-    ensures room { IfOk result (λ r. HasRoom r.room) }
+/// What a frame asks; or the answer where it encodes no request, or where memory ran out.
+pub fn read_asked(alloc: Global, frame: &[u8]) -> Result<GuardAsked, FrameAnswer>
+    ensures asks { IfOk result (λ a. guard_request stream.Frames frame.now ≡ Ok a) }
+    ensures inside { IfOk result (λ a. IsInside a.window) }
     ensures fault { IfErr result (λ a. TellsFault frame.now (bytes_of a)) }
     ensures few { IfErr result (λ a. length (bytes_of a) ≤ 17) }
 {
-    // The room is taken first, so that a request for whose answer memory lacks is not carried out.
-    let Ok(room) = room(alloc) else {
-        return Err(memory());
-    };
     match read_request(alloc, Form::Frames, frame) {
-        Ok(asked) => Ok(Ready { asked, room }),
-        Err(LineError::Fault(fault)) => Err(answer_fault(alloc, fault)),
+        Ok(asked) => Ok(asked),
+        Err(LineError::Fault(fault)) => Err(fault_answer(fault)),
         Err(LineError::Memory) => Err(memory()),
     }
 }
@@ -105,8 +76,8 @@ pub fn answer_one(alloc: Global, guard: &mut Guard, frame: &[u8]) -> FrameAnswer
     ensures answers { AnswersRequest by_frames guard.old frame.now (bytes_of result) guard.new }
     ensures short { IsShort (bytes_of result) }
 {
-    match read_ready(alloc, frame) {
-        Ok(ready) => answer_request(alloc, guard, ready),
+    match read_asked(alloc, frame) {
+        Ok(asked) => answer_request(alloc, guard, asked),
         Err(answer) => answer,
     }
 }

@@ -1,6 +1,6 @@
 //! Answer frames.
 
-ghost use Rattle.std.specs.Prelude.{◌≡◌, ◌<◌, ◌≤◌, length, string_bytes, IfOk, OnErr, IsOk, codes};
+ghost use Rattle.std.specs.Prelude.{◌≡◌, ◌<◌, ◌≤◌, length, IfOk, OnErr, codes};
 ghost use Rattle.redo_core.specs.declared.facts.Fact.TheVariants as fact;
 ghost use Rattle.redo_wire.specs.Facts.{fact_bytes};
 ghost use Rattle.redo_wire.specs.Summaries.{summary_bytes, is_long_summary};
@@ -10,16 +10,16 @@ ghost use Rattle.framing.specs.AnswerText.{text_of};
 ghost use Rattle.framing.specs.AnswerBytes.{bytes_of};
 ghost use Rattle.framing.specs.Frames.{IsShort};
 ghost use Rattle.node_stream.specs.Asking.{IsInside};
-ghost use Rattle.node_stream.specs.Room.{HasRoom};
-ghost use Rattle.node_stream.specs.Telling.{TakesMemory, TakesRoom, one_number, window_of};
+ghost use Rattle.node_stream.specs.Telling.{TakesMemory, window_of};
 ghost use Rattle.node_stream.specs.FrameTelling.{unended, fitted, bytes_frame, value_frame, frame_of, fault_frame};
 
 use crate::answers::line;
 use crate::asked::Window;
 use crate::faults::LineFault;
-use crate::frozen::frozen;
-use crate::wording::fault as fault_line;
+use crate::short::frozen;
+use crate::wording::wire;
 use bytes::BytesMut;
+use framing::Short;
 use framing::frames::FrameAnswer;
 use framing::lines::Answer;
 use redo_core::{Fact, Page, Record};
@@ -40,6 +40,7 @@ pub fn unended(answer: Answer) -> Result<FrameAnswer, AllocError>
 {
     match answer {
         Answer::Fixed(text) => fixed(text.as_bytes()),
+        Answer::Short(text) => Ok(shortened(text)),
         Answer::Made(text) => made(text),
     }
 }
@@ -56,17 +57,25 @@ fn fixed(line: &'static [u8]) -> Result<FrameAnswer, AllocError>
     Ok(FrameAnswer::Fixed(front))
 }
 
-fn made(line: String) -> Result<FrameAnswer, AllocError>
-    ensures bytes { IfOk result (λ a. bytes_of a ≡ unended (string_bytes line)) }
-    ensures short { IfOk result (λ a. IsShort (bytes_of a)) }
-    ensures long { OnErr result (4294967296 < length (string_bytes line)) }
+fn shortened(mut line: Short) -> FrameAnswer
+    ensures bytes { bytes_of result ≡ unended line.items }
+    ensures short { IsShort (bytes_of result) }
 {
-    let mut bytes = line.into_bytes();
-    bytes.pop();
-    if bytes.len() > LONGEST {
+    let len = line.len();
+    line.truncate(len.saturating_sub(1));
+    FrameAnswer::Short(line)
+}
+
+fn made(mut line: Vec<u8>) -> Result<FrameAnswer, AllocError>
+    ensures bytes { IfOk result (λ a. bytes_of a ≡ unended line.items) }
+    ensures short { IfOk result (λ a. IsShort (bytes_of a)) }
+    ensures long { OnErr result (4294967296 < length line.items) }
+{
+    line.pop();
+    if line.len() > LONGEST {
         return Err(AllocError);
     }
-    Ok(FrameAnswer::Made(bytes))
+    Ok(FrameAnswer::Made(line))
 }
 
 /// A word and a space, after which bytes are to follow.
@@ -156,64 +165,32 @@ fn piece(alloc: Global, piece: &Piece) -> Result<FrameAnswer, AllocError>
     }
 }
 
-/// How many pieces the kept snapshot has, in the room that was taken.
-fn frozen_frame(room: String, pieces: u32) -> Result<FrameAnswer, AllocError>
-    requires { HasRoom room }
-    ensures bytes { IfOk result (λ a. bytes_of a ≡ unended (one_number (codes "frozen ") pieces)) }
-    ensures short { IfOk result (λ a. IsShort (bytes_of a)) }
-    ensures few { IfOk result (λ a. length (bytes_of a) ≤ 17) }
-    ensures ok { IsOk result }
-{
-    unended(frozen(room, pieces))
-}
-
-/// The answer frame of a reply, none of it in room that was taken before. It fails only if memory runs out.
+/// The answer frame of a reply. It fails only if memory runs out, and not for a reply to a request that has changed something.
 pub fn frame(alloc: Global, window: Window, reply: &Reply) -> Result<FrameAnswer, AllocError>
     requires { IsInside window }
-    ensures frame { IfOk result (λ a. bytes_of a ≡ frame_of window reply.now) }
-    ensures short { IfOk result (λ a. IsShort (bytes_of a)) }
-    ensures long { IfOk result (λ a. 17 < length (bytes_of a) → TakesRoom reply.now) }
-    ensures memory { OnErr result (TakesRoom reply.now) }
-{
-    match reply {
-        Reply::Page { image } => page(alloc, window, image),
-        Reply::Summary { summary: told } => summary(alloc, told),
-        Reply::Delta { delta: told } => delta(alloc, told),
-        Reply::Piece { piece: told } => piece(alloc, told),
-        Reply::Next { redo } => record(alloc, redo),
-        _ => unended(line(alloc, window, reply)?),
-    }
-}
-
-/// The answer frame of a reply; `room` is for that of a snapshot which is kept.
-///
-/// It fails only if memory runs out, and not for a reply to a request that has changed something.
-pub fn told(
-    alloc: Global,
-    window: Window,
-    reply: &Reply,
-    room: String,
-) -> Result<FrameAnswer, AllocError>
-    requires inside { IsInside window }
-    requires room { HasRoom room }
     ensures frame { IfOk result (λ a. bytes_of a ≡ frame_of window reply.now) }
     ensures short { IfOk result (λ a. IsShort (bytes_of a)) }
     ensures long { IfOk result (λ a. 17 < length (bytes_of a) → TakesMemory reply.now) }
     ensures memory { OnErr result (TakesMemory reply.now) }
 {
     match reply {
-        Reply::Frozen { pieces } => frozen_frame(room, *pieces),
-        _ => frame(alloc, window, reply),
+        Reply::Page { image } => page(alloc, window, image),
+        Reply::Summary { summary: told } => summary(alloc, told.value()),
+        Reply::Delta { delta: told } => delta(alloc, told.value()),
+        Reply::Piece { piece: told } => piece(alloc, told.value()),
+        Reply::Next { redo } => record(alloc, redo),
+        Reply::Frozen { pieces } => Ok(FrameAnswer::Short(frozen(Short::new(), *pieces))),
+        _ => unended(line(alloc, window, reply)?),
     }
 }
 
 /// Why a frame encodes no request.
-pub fn fault(alloc: Global, fault: LineFault) -> Result<FrameAnswer, AllocError>
-    ensures bytes { IfOk result (λ a. bytes_of a ≡ fault_frame fault) }
-    ensures few { IfOk result (λ a. length (bytes_of a) ≤ 17) }
+pub fn fault(fault: LineFault) -> FrameAnswer
+    ensures bytes { bytes_of result ≡ fault_frame fault }
+    ensures few { length (bytes_of result) ≤ 17 }
 {
     match fault {
-        LineFault::Form | LineFault::Hex => Ok(FrameAnswer::Fixed("bad request".as_bytes())),
-        LineFault::Wire(_) => unended(fault_line(alloc, fault)?),
+        LineFault::Form | LineFault::Hex => FrameAnswer::Fixed("bad request".as_bytes()),
+        LineFault::Wire(why) => FrameAnswer::Short(wire(why)),
     }
 }

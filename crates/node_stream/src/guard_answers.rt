@@ -1,71 +1,67 @@
 //! From a guard's reply to an answer line.
 
-ghost use Rattle.std.specs.Prelude.{◌≡◌, ◌++◌, ◌+◌, ◌*◌, ◌≤◌, Some, None, IfOk, OnErr, codes, length, string_bytes, string_len, string_capacity};
+ghost use Rattle.std.specs.Prelude.{◌≡◌, ◌++◌, ◌+◌, ◌*◌, ◌≤◌, Some, None, IfOk, OnErr, length};
 ghost use Rattle.framing.specs.AnswerText.{text_of};
 ghost use Rattle.node_stream.specs.Asking.{IsInside};
-ghost use Rattle.node_stream.specs.Room.{HasRoom};
 ghost use Rattle.node_stream.specs.GuardTelling.{pair_numbers, guard_numbers, numbers_behind, status_numbers, heading, guard_line, NeedsMemory, IsOwn};
 
-use crate::answers::{headed, told};
+use crate::answers::{headed, line};
 use crate::asked::Window;
-use crate::room::put_numbers;
+use crate::short::{put, put_numbers};
+use framing::Short;
 use framing::lines::Answer;
 use guard::{AcceptedCut, Reply};
 use segment_core::Front;
 use std::alloc::{AllocError, Global};
 
-/// What stands before the reply of a replica that was asked under a generation, in the room that was taken.
-pub fn head(mut room: String, generation: u64, birth: u64) -> String
-    requires { HasRoom room }
-    ensures bytes { string_bytes result ≡ heading generation birth }
-    ensures len { string_len result ≤ 45 }
-    ensures few { length (string_bytes result) ≤ 45 }
-    ensures room { 256 ≤ string_capacity result }
+/// What precedes the reply of a replica that was asked under a generation.
+pub fn head(generation: u64, birth: u64) -> Short
+    ensures bytes { result.items ≡ heading generation birth }
+    ensures few { length result.items ≤ 45 }
 {
-    room.push_str("as").unwrap();
-    put_numbers(&mut room, &[generation, birth]);
-    room.push_str(" ").unwrap();
-    room
+    let mut text = Short::new();
+    put(&mut text, "as".as_bytes());
+    put_numbers(&mut text, &[generation, birth]);
+    put(&mut text, " ".as_bytes());
+    text
 }
 
 /// The numbers of an accepted truncation, each after a space.
-fn put_pair(room: &mut String, pair: AcceptedCut)
-    requires { string_len room.old + 84 ≤ string_capacity room.old }
-    ensures bytes { string_bytes room.new ≡ string_bytes room.old ++ numbers_behind (pair_numbers (Some pair)) }
-    ensures len { string_len room.new ≤ string_len room.old + 84 }
-    ensures room { string_capacity room.old ≤ string_capacity room.new }
+fn put_pair(text: &mut Short, pair: AcceptedCut)
+    requires { length text.old.items + 84 ≤ 256 }
+    ensures items { text.new.items ≡ text.old.items ++ numbers_behind (pair_numbers (Some pair)) }
+    ensures len { length text.new.items ≤ length text.old.items + 84 }
 {
     let epoch = u64::from(pair.cut.epoch());
     put_numbers(
-        room,
+        text,
         &[pair.generation, epoch, pair.cut.lo(), pair.cut.hi()],
     );
 }
 
-/// A word and numbers, with those of an accepted truncation, in the room that was taken.
-fn worded(mut room: String, word: &str, numbers: &[u64], pair: Option<AcceptedCut>) -> Answer
-    requires room { HasRoom room }
-    requires few { length word.now + 21 * length numbers.now ≤ 132 }
+/// A word and numbers, with those of an accepted truncation.
+fn worded(word: &str, numbers: &[u64], pair: Option<AcceptedCut>) -> Answer
+    requires { length word.now + 21 * length numbers.now ≤ 132 }
     ensures line { text_of result ≡ guard_numbers word.now numbers.now pair }
     ensures few { length (text_of result) ≤ 220 }
 {
-    room.push_str(word).unwrap();
-    put_numbers(&mut room, numbers);
+    let mut text = Short::new();
+    put(&mut text, word.as_bytes());
+    put_numbers(&mut text, numbers);
     if let Some(pair) = pair {
-        put_pair(&mut room, pair);
+        put_pair(&mut text, pair);
     }
-    room.push_str("\n").unwrap();
-    Answer::Made(room)
+    put(&mut text, "\n".as_bytes());
+    Answer::Short(text)
 }
 
 /// A word and numbers.
-fn numbered(room: String, word: &str, numbers: &[u64]) -> Answer
-    requires room { HasRoom room }
-    requires few { length word.now + 21 * length numbers.now ≤ 132 }
+fn numbered(word: &str, numbers: &[u64]) -> Answer
+    requires { length word.now + 21 * length numbers.now ≤ 132 }
     ensures line { text_of result ≡ guard_numbers word.now numbers.now None }
     ensures few { length (text_of result) ≤ 220 }
 {
-    worded(room, word, numbers, None)
+    worded(word, numbers, None)
 }
 
 /// The numbers of a node's status; its membership is 1 for a member.
@@ -77,17 +73,9 @@ fn status_numbers(generation: u64, birth: u64, is_member: bool, front: Front) ->
     [generation, birth, member, epoch, front.complete, front.min]
 }
 
-/// The answer line of a guard's reply; `room` is for that to a request which changes something.
-///
-/// It fails only if memory runs out, and not for a reply to a request that has changed something.
-pub fn answer(
-    alloc: Global,
-    window: Window,
-    reply: &Reply,
-    room: String,
-) -> Result<Answer, AllocError>
-    requires inside { IsInside window }
-    requires room { HasRoom room }
+/// The answer line of a guard's reply. It fails only if memory runs out, and not for a reply to a request that has changed something.
+pub fn answer(alloc: Global, window: Window, reply: &Reply) -> Result<Answer, AllocError>
+    requires { IsInside window }
     ensures line { IfOk result (λ a. text_of a ≡ guard_line window reply.now) }
     ensures few { IfOk result (λ a. IsOwn reply.now → length (text_of a) ≤ 220) }
     ensures memory { OnErr result (NeedsMemory reply.now) }
@@ -101,34 +89,33 @@ pub fn answer(
             accepted,
         } => {
             let numbers = status_numbers(*generation, *birth, *is_member, *front);
-            Ok(worded(room, "status", &numbers, *accepted))
+            Ok(worded("status", &numbers, *accepted))
         }
         Reply::Fenced {
             generation,
             birth,
             accepted,
-        } => Ok(worded(room, "fenced", &[*generation, *birth], *accepted)),
-        Reply::Stale(generation) => Ok(numbered(room, "stale", &[*generation])),
-        Reply::Fresh(birth) => Ok(numbered(room, "fresh", &[*birth])),
+        } => Ok(worded("fenced", &[*generation, *birth], *accepted)),
+        Reply::Stale(generation) => Ok(numbered("stale", &[*generation])),
+        Reply::Fresh(birth) => Ok(numbered("fresh", &[*birth])),
         Reply::Headed {
             generation,
             birth,
             reply: own,
-        } => headed(alloc, window, head(room, *generation, *birth), own),
+        } => headed(alloc, window, head(*generation, *birth), own),
         Reply::Accepted {
             generation,
             birth,
             epoch,
-        } => Ok(numbered(room, "accepted", &[*generation, *birth, u64::from(*epoch)])),
-        Reply::Admitted { generation, birth } => {
-            Ok(numbered(room, "admitted", &[*generation, *birth]))
-        }
+        } => Ok(numbered("accepted", &[*generation, *birth, u64::from(*epoch)])),
+        Reply::Admitted { generation, birth } => Ok(numbered("admitted", &[*generation, *birth])),
         Reply::Member => Ok(Answer::Fixed("member\n")),
-        Reply::Stranger(birth) => Ok(numbered(room, "stranger", &[*birth])),
-        Reply::Behind { epoch, complete } => {
-            Ok(numbered(room, "behind", &[u64::from(*epoch), *complete]))
-        }
+        Reply::Stranger(birth) => Ok(numbered("stranger", &[*birth])),
+        Reply::Behind { epoch, complete } => Ok(numbered(
+            "behind",
+            &[u64::from(*epoch), *complete],
+        )),
         Reply::Unguarded => Ok(Answer::Fixed("unguarded\n")),
-        Reply::Plain(own) => told(alloc, window, own, room),
+        Reply::Plain(own) => line(alloc, window, own),
     }
 }

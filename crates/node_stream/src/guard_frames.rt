@@ -1,83 +1,67 @@
 //! From a guard's reply to an answer frame.
 
-ghost use Rattle.std.specs.Prelude.{◌≡◌, ◌++◌, ◌+◌, ◌<◌, ◌≤◌, IfOk, OnErr, IsOk, codes, length, string_bytes, string_len, string_capacity};
+ghost use Rattle.std.specs.Prelude.{◌≡◌, ◌++◌, ◌+◌, ◌<◌, ◌≤◌, IfOk, OnErr, codes, length};
 ghost use Rattle.framing.specs.AnswerBytes.{bytes_of};
 ghost use Rattle.framing.specs.Frames.{IsShort};
 ghost use Rattle.node_stream.specs.Asking.{IsInside};
-ghost use Rattle.node_stream.specs.Room.{HasRoom};
-ghost use Rattle.node_stream.specs.Telling.{TakesMemory, one_number};
-ghost use Rattle.node_stream.specs.FrameTelling.{unended, fitted, frame_of};
+ghost use Rattle.node_stream.specs.Telling.{TakesMemory};
+ghost use Rattle.node_stream.specs.FrameTelling.{fitted, frame_of};
 ghost use Rattle.node_stream.specs.GuardTelling.{guard_frame, NeedsMemory, sure_of};
 
+use crate::answers::glued;
 use crate::asked::Window;
-use crate::frame_telling::{LONGEST, frame, told, unended};
-use crate::frozen::frozen;
+use crate::frame_telling::{LONGEST, frame, unended};
 use crate::guard_answers::{answer as answer_line, head};
+use crate::short::{frozen, put};
+use framing::Short;
 use framing::frames::FrameAnswer;
 use guard::Reply;
 use std::alloc::{AllocError, Global};
 
-/// The bytes of a frame after what is in the room that was taken; a text in their place where they have no room in a frame.
+/// The bytes of a frame after the head, in it where there is room; a text in their place where they have no room in a frame.
 #[tactic(auto, unfolding(crate::specs::FrameTelling::fitted))]
-fn joined(head: String, answer: FrameAnswer) -> Result<FrameAnswer, AllocError>
-    ensures bytes { IfOk result (λ a. bytes_of a ≡ fitted (codes "too long") (string_bytes head ++ bytes_of answer)) }
+fn joined(alloc: Global, mut head: Short, frame: &[u8]) -> Result<FrameAnswer, AllocError>
+    ensures bytes { IfOk result (λ a. bytes_of a ≡ fitted (codes "too long") (head.items ++ frame.now)) }
     ensures short { IfOk result (λ a. IsShort (bytes_of a)) }
-    ensures full { OnErr result (string_capacity head < string_len head + length (bytes_of answer)) }
+    ensures full { OnErr result (256 < length head.items + length frame.now) }
 {
-    let mut bytes = head.into_bytes();
-    bytes.extend_from_slice(answer.as_bytes())?;
+    if frame.len() <= head.remaining_capacity() {
+        put(&mut head, frame);
+        return Ok(FrameAnswer::Short(head));
+    }
+    let bytes = glued(alloc, head.as_slice(), frame)?;
     if bytes.len() > LONGEST {
         return Ok(FrameAnswer::Fixed("too long".as_bytes()));
     }
     Ok(FrameAnswer::Made(bytes))
 }
 
-/// How many pieces the kept snapshot has, after what is in the room that was taken, with room for 18 bytes more.
-fn frozen_after(head: String, pieces: u32) -> Result<FrameAnswer, AllocError>
-    requires free { string_len head + 18 ≤ string_capacity head }
-    requires few { length (string_bytes head) ≤ 45 }
-    ensures bytes { IfOk result (λ a. bytes_of a ≡ fitted (codes "too long") (string_bytes head ++ unended (one_number (codes "frozen ") pieces))) }
-    ensures short { IfOk result (λ a. IsShort (bytes_of a)) }
-    ensures few { IfOk result (λ a. length (bytes_of a) ≤ 63) }
-    ensures ok { IsOk result }
-{
-    unended(frozen(head, pieces))
-}
-
-/// The answer frame of a reply after what is in the room that was taken, with room for 18 bytes more.
-///
-/// It fails only if memory runs out, and not for a reply to a request that has changed something.
+/// The answer frame of a reply after the head. It fails only if memory runs out, and not for a reply to a request that has changed something.
 fn headed(
     alloc: Global,
     window: Window,
-    head: String,
+    head: Short,
     reply: &replica::Reply,
 ) -> Result<FrameAnswer, AllocError>
     requires inside { IsInside window }
-    requires free { string_len head + 18 ≤ string_capacity head }
-    requires few { length (string_bytes head) ≤ 45 }
-    ensures frame { IfOk result (λ a. bytes_of a ≡ fitted (codes "too long") (string_bytes head ++ frame_of window reply.now)) }
+    requires few { length head.items ≤ 45 }
+    ensures frame { IfOk result (λ a. bytes_of a ≡ fitted (codes "too long") (head.items ++ frame_of window reply.now)) }
     ensures short { IfOk result (λ a. IsShort (bytes_of a)) }
     ensures long { IfOk result (λ a. 220 < length (bytes_of a) → TakesMemory reply.now) }
     ensures memory { OnErr result (TakesMemory reply.now) }
 {
     match reply {
-        replica::Reply::Frozen { pieces } => frozen_after(head, *pieces),
-        _ => joined(head, frame(alloc, window, reply)?),
+        replica::Reply::Frozen { pieces } => Ok(FrameAnswer::Short(frozen(head, *pieces))),
+        _ => {
+            let own = frame(alloc, window, reply)?;
+            joined(alloc, head, own.as_bytes())
+        }
     }
 }
 
-/// The answer frame of a guard's reply; `room` is for that to a request which changes something.
-///
-/// It fails only if memory runs out, and not for a reply to a request that has changed something.
-pub fn answer(
-    alloc: Global,
-    window: Window,
-    reply: &Reply,
-    room: String,
-) -> Result<FrameAnswer, AllocError>
-    requires inside { IsInside window }
-    requires room { HasRoom room }
+/// The answer frame of a guard's reply. It fails only if memory runs out, and not for a reply to a request that has changed something.
+pub fn answer(alloc: Global, window: Window, reply: &Reply) -> Result<FrameAnswer, AllocError>
+    requires { IsInside window }
     ensures frame { IfOk result (λ a. bytes_of a ≡ guard_frame window reply.now) }
     ensures short { IfOk result (λ a. IsShort (bytes_of a)) }
     ensures long { IfOk result (λ a. sure_of reply.now < length (bytes_of a) → NeedsMemory reply.now) }
@@ -88,8 +72,8 @@ pub fn answer(
             generation,
             birth,
             reply: own,
-        } => headed(alloc, window, head(room, *generation, *birth), own),
-        Reply::Plain(own) => told(alloc, window, own, room),
-        _ => unended(answer_line(alloc, window, reply, room)?),
+        } => headed(alloc, window, head(*generation, *birth), own),
+        Reply::Plain(own) => frame(alloc, window, own),
+        _ => unended(answer_line(alloc, window, reply)?),
     }
 }

@@ -10,10 +10,10 @@ ghost use Rattle.node_stream.specs.FrameReading.{many_in};
 ghost use Rattle.node_stream.specs.Gathering.{HasPlaceFor, gathered_bytes};
 ghost use Rattle.node_stream.specs.GuardReading.{guard_request};
 ghost use Rattle.node_stream.specs.GuardTelling.{sure_for};
-ghost use Rattle.node_stream.specs.Room.{HasRoom};
 ghost use Rattle.node_stream.specs.declared.job.Form.TheVariants as stream;
 
-use crate::frame_node::{Ready, answer_one, answer_request, memory, read_ready};
+use crate::asked::GuardAsked;
+use crate::frame_node::{answer_one, answer_request, memory, read_asked};
 use crate::frame_requests::halves;
 use crate::gathered::Gathered;
 use framing::frames::{FrameAnswer, count_frames, split_frame};
@@ -49,22 +49,27 @@ fn sure_for(request: &Request) -> usize
 
 /// Carries out a request, and appends the answer to the others. It is not carried out where the longest answer that reports a change
 /// exceeds the limit, which is answered `long`, or lacks memory.
-fn put_reply(alloc: Global, guard: &mut Guard, ready: Ready, answers: &mut Gathered, others: usize)
+fn put_reply(
+    alloc: Global,
+    guard: &mut Guard,
+    asked: GuardAsked,
+    answers: &mut Gathered,
+    others: usize,
+)
     requires place { HasPlaceFor answers.old (others + 1) }
-    requires inside { IsInside ready.asked.window }
-    requires room { HasRoom ready.room }
-    ensures answers { (frame : List ℕ) → guard_request stream.Frames frame ≡ Ok ready.asked → (told : List ℕ)
+    requires inside { IsInside asked.window }
+    ensures answers { (frame : List ℕ) → guard_request stream.Frames frame ≡ Ok asked → (told : List ℕ)
         × AnswersOneOf by_frames (length (gathered_bytes answers.old)) others guard.old frame told guard.new
         × (gathered_bytes answers.new ≡ gathered_bytes answers.old ++ framed told) × IsShort told }
     ensures room { HasPlaceFor answers.new others }
 {
-    let sure = sure_for(&ready.asked.request);
+    let sure = sure_for(&asked.request);
     if !answers.fits(sure, others) {
         answers.put_short("long".as_bytes(), others);
     } else if !answers.make_room(sure, others) {
         answers.put_short("memory".as_bytes(), others);
     } else {
-        let answer = answer_request(alloc, guard, ready);
+        let answer = answer_request(alloc, guard, asked);
         answers.put(answer.as_bytes(), others);
     }
 }
@@ -76,8 +81,8 @@ fn put_answer(alloc: Global, guard: &mut Guard, frame: &[u8], answers: &mut Gath
         × (gathered_bytes answers.new ≡ gathered_bytes answers.old ++ framed told) × IsShort told }
     ensures room { HasPlaceFor answers.new others }
 {
-    match read_ready(alloc, frame) {
-        Ok(ready) => put_reply(alloc, guard, ready, answers, others),
+    match read_asked(alloc, frame) {
+        Ok(asked) => put_reply(alloc, guard, asked, answers, others),
         Err(answer) => answers.put_short(answer.as_bytes(), others),
     }
 }

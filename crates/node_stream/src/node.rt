@@ -6,17 +6,14 @@ ghost use Rattle.guard.specs.Data.{fresh_guard};
 ghost use Rattle.framing.specs.AnswerText.{text_of};
 ghost use Rattle.node_stream.specs.Answering.{AnswersAsked, IsAnswer, by_lines};
 ghost use Rattle.node_stream.specs.Asking.{IsInside};
-ghost use Rattle.node_stream.specs.Room.{HasRoom};
-ghost use Rattle.node_stream.specs.Telling.{fault_line};
 ghost use Rattle.node_stream.specs.GuardTelling.{guard_line, NeedsMemory};
 
 use crate::asked::{GuardAsked, Window};
-use crate::faults::{LineError, LineFault};
+use crate::faults::LineError;
 use crate::guard_answers::answer;
 use crate::guard_requests::read_request;
 use crate::job::Form;
 use crate::many::answer_frame;
-use crate::room::room;
 use crate::wording::fault as fault_answer;
 use framing::frames::{FrameAnswer, FrameMachine};
 use framing::lines::{Answer, LineMachine};
@@ -30,36 +27,24 @@ use std::marker::Model;
 const MEMORY: &str = "memory\n";
 
 /// The answer line of a reply, or where there is no memory for it, the one that says so.
-fn answer_reply(alloc: Global, window: Window, reply: &Reply, room: String) -> Answer
-    requires inside { IsInside window }
-    requires room { HasRoom room }
+fn answer_reply(alloc: Global, window: Window, reply: &Reply) -> Answer
+    requires { IsInside window }
     ensures { (text_of result ≡ guard_line window reply.now) ⊎ ((text_of result ≡ codes "memory\n") × NeedsMemory reply.now) }
 {
-    match answer(alloc, window, reply, room) {
+    match answer(alloc, window, reply) {
         Ok(answer) => answer,
         Err(_) => Answer::Fixed(MEMORY),
     }
 }
 
 /// Carries out a request, and answers with the reply.
-fn answer_request(alloc: Global, guard: &mut Guard, asked: GuardAsked, room: String) -> Answer
-    requires inside { IsInside asked.window }
-    requires room { HasRoom room }
+fn answer_request(alloc: Global, guard: &mut Guard, asked: GuardAsked) -> Answer
+    requires { IsInside asked.window }
     ensures { AnswersAsked by_lines (Ok asked) guard.old (text_of result) guard.new }
 {
     let window = asked.window;
     let reply = guard.step(asked.request);
-    answer_reply(alloc, window, &reply, room)
-}
-
-/// Answers with why a line encodes no request.
-fn answer_fault(alloc: Global, fault: LineFault) -> Answer
-    ensures { (text_of result ≡ codes "memory\n") ⊎ (text_of result ≡ fault_line fault) }
-{
-    match fault_answer(alloc, fault) {
-        Ok(answer) => answer,
-        Err(_) => Answer::Fixed(MEMORY),
-    }
+    answer_reply(alloc, window, &reply)
 }
 
 /// Answers a request line, which is given without its LF, by a line: that of the reply where it encodes a request, else why it encodes
@@ -70,13 +55,9 @@ fn answer_fault(alloc: Global, fault: LineFault) -> Answer
 pub fn answer_line(alloc: Global, guard: &mut Guard, line: &[u8]) -> Answer
     ensures { IsAnswer guard.old line.now (text_of result) guard.new }
 {
-    // The room is taken first, so that a request for whose answer memory lacks is not carried out.
-    let Ok(room) = room(alloc) else {
-        return Answer::Fixed(MEMORY);
-    };
     match read_request(alloc, Form::Lines, line) {
-        Ok(asked) => answer_request(alloc, guard, asked, room),
-        Err(LineError::Fault(fault)) => answer_fault(alloc, fault),
+        Ok(asked) => answer_request(alloc, guard, asked),
+        Err(LineError::Fault(fault)) => fault_answer(fault),
         Err(LineError::Memory) => Answer::Fixed(MEMORY),
     }
 }

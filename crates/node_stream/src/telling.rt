@@ -25,7 +25,7 @@ fn digits(alloc: Global, word: &str, bytes: &[u8]) -> Result<Answer, AllocError>
 {
     let digits = hex::encode(alloc, bytes)?;
     let text = format!(in alloc; "{word} {digits}\n")?;
-    Ok(Answer::Made(text))
+    Ok(Answer::Made(text.into_bytes()))
 }
 
 /// The bytes of a page that are shown.

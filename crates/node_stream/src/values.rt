@@ -7,6 +7,7 @@ use redo_core::Fact;
 use redo_wire::{
     Delta, Piece, Summary, WireError, decode_delta, decode_fact, decode_piece, decode_summary,
 };
+use replica::Boxed;
 use std::alloc::Global;
 use text::decoded;
 
@@ -42,11 +43,11 @@ pub fn fact(alloc: Global, digits: &[u8]) -> Result<Fact, LineError>
 }
 
 /// The summary that the bytes encode.
-pub fn summary_in(alloc: Global, bytes: &[u8]) -> Result<Summary, LineError>
+pub fn summary_in(alloc: Global, bytes: &[u8]) -> Result<Boxed<Summary>, LineError>
     ensures { Gives (λ x. x) result (summary_in bytes.now) }
 {
     match decode_summary(alloc, bytes) {
-        Ok(summary) => Ok(summary),
+        Ok(summary) => Ok(Boxed::new(alloc, summary)?),
         Err(WireError::Memory) => Err(LineError::Memory),
         Err(WireError::Fault(fault)) => Err(LineError::Fault(LineFault::Wire(fault))),
     }
@@ -54,7 +55,7 @@ pub fn summary_in(alloc: Global, bytes: &[u8]) -> Result<Summary, LineError>
 
 /// The summary that the digits encode.
 #[tactic(auto, unfolding(crate::specs::Reading::summary_of_digits))]
-pub fn summary(alloc: Global, digits: &[u8]) -> Result<Summary, LineError>
+pub fn summary(alloc: Global, digits: &[u8]) -> Result<Boxed<Summary>, LineError>
     ensures { Gives (λ x. x) result (summary_of_digits digits.now) }
 {
     let bytes = bytes(alloc, digits)?;
@@ -62,11 +63,11 @@ pub fn summary(alloc: Global, digits: &[u8]) -> Result<Summary, LineError>
 }
 
 /// The delta that the bytes encode.
-pub fn delta_in(alloc: Global, bytes: &[u8]) -> Result<Delta, LineError>
+pub fn delta_in(alloc: Global, bytes: &[u8]) -> Result<Boxed<Delta>, LineError>
     ensures { Gives (λ x. x) result (delta_in bytes.now) }
 {
     match decode_delta(alloc, bytes) {
-        Ok(delta) => Ok(delta),
+        Ok(delta) => Ok(Boxed::new(alloc, delta)?),
         Err(WireError::Memory) => Err(LineError::Memory),
         Err(WireError::Fault(fault)) => Err(LineError::Fault(LineFault::Wire(fault))),
     }
@@ -74,7 +75,7 @@ pub fn delta_in(alloc: Global, bytes: &[u8]) -> Result<Delta, LineError>
 
 /// The delta that the digits encode.
 #[tactic(auto, unfolding(crate::specs::Reading::delta_of_digits))]
-pub fn delta(alloc: Global, digits: &[u8]) -> Result<Delta, LineError>
+pub fn delta(alloc: Global, digits: &[u8]) -> Result<Boxed<Delta>, LineError>
     ensures { Gives (λ x. x) result (delta_of_digits digits.now) }
 {
     let bytes = bytes(alloc, digits)?;
@@ -82,11 +83,11 @@ pub fn delta(alloc: Global, digits: &[u8]) -> Result<Delta, LineError>
 }
 
 /// The piece that the bytes encode.
-pub fn piece_in(alloc: Global, bytes: &[u8]) -> Result<Piece, LineError>
+pub fn piece_in(alloc: Global, bytes: &[u8]) -> Result<Boxed<Piece>, LineError>
     ensures { Gives (λ x. x) result (piece_in bytes.now) }
 {
     match decode_piece(alloc, bytes) {
-        Ok(piece) => Ok(piece),
+        Ok(piece) => Ok(Boxed::new(alloc, piece)?),
         Err(WireError::Memory) => Err(LineError::Memory),
         Err(WireError::Fault(fault)) => Err(LineError::Fault(LineFault::Wire(fault))),
     }
@@ -94,7 +95,7 @@ pub fn piece_in(alloc: Global, bytes: &[u8]) -> Result<Piece, LineError>
 
 /// The piece that the digits encode.
 #[tactic(auto, unfolding(crate::specs::Reading::piece_of_digits))]
-pub fn piece(alloc: Global, digits: &[u8]) -> Result<Piece, LineError>
+pub fn piece(alloc: Global, digits: &[u8]) -> Result<Boxed<Piece>, LineError>
     ensures { Gives (λ x. x) result (piece_of_digits digits.now) }
 {
     let bytes = bytes(alloc, digits)?;

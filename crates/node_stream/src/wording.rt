@@ -1,106 +1,121 @@
 //! Answer lines of words and numbers.
 
-ghost use Rattle.std.specs.Prelude.{◌≡◌, ◌++◌, [], ◌∷◌, IfOk, codes};
+ghost use Rattle.std.specs.Prelude.{◌≡◌, ◌++◌, ◌+◌, ◌*◌, ◌≤◌, [], ◌∷◌, IfOk, codes, length};
 ghost use Rattle.framing.specs.AnswerText.{text_of};
 ghost use Rattle.text.specs.Wording.{worded_line};
 ghost use Rattle.node_stream.specs.Telling.{three_numbers, held_line, refusal_line, shown_line};
 ghost use Rattle.node_stream.specs.Telling.{gap_line, status_start, status_end, fault_line};
+ghost use Rattle.node_stream.specs.declared.faults.LineFault.TheVariants as line;
 
 use crate::faults::LineFault;
+use crate::short::{ended, put, put_numbers};
 use epoch_book::Held;
+use framing::Short;
 use framing::lines::Answer;
 use gossip_core::Shown;
 use redo_core::Cut;
+use redo_wire::WireFault;
 use replica::Status;
 use segment_core::{Front, Gap, Refusal};
 use std::alloc::{AllocError, Global};
-use text::{labelled, worded_line};
+use text::labelled;
 
-/// Words, and numbers after them.
-pub fn numbers(alloc: Global, words: &str, numbers: &[u64]) -> Result<Answer, AllocError>
-    ensures { IfOk result (λ a. text_of a ≡ worded_line words.now numbers.now) }
+/// Words, and numbers after them, without the LF of their line.
+#[tactic(auto, using(crate::proofs::Worded::words_and_end))]
+pub fn worded(words: &str, numbers: &[u64]) -> Short
+    requires { length words.now + 21 * length numbers.now ≤ 255 }
+    ensures line { result.items ++ codes "\n" ≡ worded_line words.now numbers.now }
+    ensures few { length result.items ≤ 255 }
 {
-    Ok(Answer::Made(worded_line(alloc, words, numbers)?))
+    let mut text = Short::new();
+    put(&mut text, words.as_bytes());
+    put_numbers(&mut text, numbers);
+    text
 }
 
-/// Words, and a number after them.
-pub fn one(alloc: Global, words: &str, number: u64) -> Result<Answer, AllocError>
-    ensures { IfOk result (λ a. text_of a ≡ worded_line words.now (number ∷ [])) }
+/// The line of words, and numbers after them.
+pub fn numbers(words: &str, numbers: &[u64]) -> Answer
+    requires { length words.now + 21 * length numbers.now ≤ 255 }
+    ensures { text_of result ≡ worded_line words.now numbers.now }
 {
-    numbers(alloc, words, &[number])
+    ended(worded(words, numbers))
 }
 
-fn cut(alloc: Global, words: &str, cut: Cut) -> Result<Answer, AllocError>
-    ensures { IfOk result (λ a. text_of a ≡ worded_line words.now (cut.epoch ∷ cut.lo ∷ cut.hi ∷ [])) }
+/// The same with one number.
+pub fn one(words: &str, number: u64) -> Answer
+    requires { length words.now ≤ 100 }
+    ensures { text_of result ≡ worded_line words.now (number ∷ []) }
 {
-    numbers(alloc, words, &[u64::from(cut.epoch()), cut.lo(), cut.hi()])
+    numbers(words, &[number])
 }
 
-fn held(alloc: Global, held: Held) -> Result<Answer, AllocError>
-    ensures { IfOk result (λ a. text_of a ≡ held_line held) }
+fn cut(words: &str, cut: Cut) -> Answer
+    requires { length words.now ≤ 100 }
+    ensures { text_of result ≡ worded_line words.now (cut.epoch ∷ cut.lo ∷ cut.hi ∷ []) }
+{
+    numbers(words, &[u64::from(cut.epoch()), cut.lo(), cut.hi()])
+}
+
+fn held(held: Held) -> Answer
+    ensures { text_of result ≡ held_line held }
 {
     match held {
-        Held::Min(point) => one(alloc, "refused by least", point),
+        Held::Min(point) => one("refused by least", point),
         Held::Advance(advance) => {
             let epoch = u64::from(advance.epoch());
             let reader = u64::from(advance.reader());
-            numbers(alloc, "refused by min", &[epoch, advance.point(), reader])
+            numbers("refused by min", &[epoch, advance.point(), reader])
         }
-        Held::Cut(held) => cut(alloc, "refused by cut", held),
+        Held::Cut(held) => cut("refused by cut", held),
     }
 }
 
 /// Why a fact or a delta is refused.
-pub fn refusal(alloc: Global, why: Refusal) -> Result<Answer, AllocError>
-    ensures { IfOk result (λ a. text_of a ≡ refusal_line why) }
+pub fn refusal(why: Refusal) -> Answer
+    ensures { text_of result ≡ refusal_line why }
 {
     match why {
         Refusal::OtherRoster { own, shown } => {
-            numbers(
-                alloc,
-                "refused by roster",
-                &[u64::from(own), u64::from(shown)],
-            )
+            numbers("refused by roster", &[u64::from(own), u64::from(shown)])
         }
-        Refusal::OtherCut(other) => cut(alloc, "refused by other cut", other),
-        Refusal::Contradiction(what) => held(alloc, what),
-        Refusal::OtherRecord => Ok(Answer::Fixed("refused by record\n")),
-        Refusal::Memory => Ok(Answer::Fixed("refused by memory\n")),
+        Refusal::OtherCut(other) => cut("refused by other cut", other),
+        Refusal::Contradiction(what) => held(what),
+        Refusal::OtherRecord => Answer::Fixed("refused by record\n"),
+        Refusal::Memory => Answer::Fixed("refused by memory\n"),
     }
 }
 
 /// What of a summary is not answered for.
-pub fn uncovered(alloc: Global, shown: Shown) -> Result<Answer, AllocError>
-    ensures { IfOk result (λ a. text_of a ≡ shown_line shown) }
+pub fn uncovered(shown: Shown) -> Answer
+    ensures { text_of result ≡ shown_line shown }
 {
     match shown {
-        Shown::Anchor(anchor) => one(alloc, "uncovered anchor", anchor),
-        Shown::Key(key) => numbers(alloc, "uncovered key", &[u64::from(key.epoch), key.number]),
+        Shown::Anchor(anchor) => one("uncovered anchor", anchor),
+        Shown::Key(key) => numbers("uncovered key", &[u64::from(key.epoch), key.number]),
     }
 }
 
 /// How far the segment has come.
-pub fn front(alloc: Global, front: Front) -> Result<Answer, AllocError>
-    ensures { IfOk result (λ a. text_of a ≡ three_numbers (codes "front ") front.epoch front.complete front.min) }
+pub fn front(front: Front) -> Answer
+    ensures { text_of result ≡ three_numbers (codes "front ") front.epoch front.complete front.min }
 {
     numbers(
-        alloc,
         "front",
         &[u64::from(front.epoch), front.complete, front.min],
     )
 }
 
 /// What the complete point waits for.
-pub fn gap(alloc: Global, gap: Gap) -> Result<Answer, AllocError>
-    ensures { IfOk result (λ a. text_of a ≡ gap_line gap) }
+pub fn gap(gap: Gap) -> Answer
+    ensures { text_of result ≡ gap_line gap }
 {
     match gap {
-        Gap::Record { number } => one(alloc, "gap record", number),
-        Gap::Truncation { epoch } => one(alloc, "gap truncation", u64::from(epoch)),
+        Gap::Record { number } => one("gap record", number),
+        Gap::Truncation { epoch } => one("gap truncation", u64::from(epoch)),
     }
 }
 
-/// What is stored, in numbers.
+/// What is stored, in numbers. It fails only if memory runs out.
 pub fn state(alloc: Global, status: Status) -> Result<Answer, AllocError>
     ensures { IfOk result (λ a. text_of a ≡ status_start status ++ status_end status) }
 {
@@ -118,16 +133,24 @@ pub fn state(alloc: Global, status: Status) -> Result<Answer, AllocError>
     ];
     let mut text = labelled(alloc, &numbers)?;
     text.push_str("\n")?;
-    Ok(Answer::Made(text))
+    Ok(Answer::Made(text.into_bytes()))
+}
+
+/// The number of a value's fault, without the LF of its line.
+pub fn wire(fault: WireFault) -> Short
+    ensures line { result.items ++ codes "\n" ≡ fault_line (line.Wire fault) }
+    ensures few { length result.items ≤ 255 }
+{
+    worded("wire", &[u64::from(fault.number())])
 }
 
 /// Why a line encodes no request.
-pub fn fault(alloc: Global, fault: LineFault) -> Result<Answer, AllocError>
-    ensures { IfOk result (λ a. text_of a ≡ fault_line fault) }
+pub fn fault(fault: LineFault) -> Answer
+    ensures { text_of result ≡ fault_line fault }
 {
     match fault {
-        LineFault::Form => Ok(Answer::Fixed("bad line\n")),
-        LineFault::Hex => Ok(Answer::Fixed("bad hex\n")),
-        LineFault::Wire(wire) => one(alloc, "wire", u64::from(wire.number())),
+        LineFault::Form => Answer::Fixed("bad line\n"),
+        LineFault::Hex => Answer::Fixed("bad hex\n"),
+        LineFault::Wire(why) => ended(wire(why)),
     }
 }

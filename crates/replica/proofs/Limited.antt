@@ -20,6 +20,21 @@ abbrev pub ReportsBroken : (A : Type 0) → State → SummaryData → Result A R
 ReportsBroken A s summary answer =
     (page n : ℕ) → (answer ≡ Err (fault.BrokenBlockChain page n)) ↔ ((summary.anchor < s.base) × IsFirstBreak s page n)
 
+-- a delta that is moved reports what it reported
+pub still_whole : (A B : Type 0) (s : State) (summary : SummaryData) (a : A) (b : B) → ReportsBroken A s summary (Ok a) → ReportsBroken B s summary (Ok b)
+still_whole A B s summary a b broken = λ page n. (
+  λ (e : Ok b ≡ Err (fault.BrokenBlockChain page n)). absurd (cc),
+  λ h. let e : Ok a ≡ Err (fault.BrokenBlockChain page n) = (broken page n).1 h in absurd (cc),
+)
+
+-- and one for which there is no memory was whole
+pub lost_whole : (A B : Type 0) (s : State) (summary : SummaryData) (a : A) → ReportsBroken A s summary (Ok a)
+    → ReportsBroken B s summary (Err fault.Memory)
+lost_whole A B s summary a broken = λ page n. (
+  λ (e : Err fault.Memory ≡ Err (fault.BrokenBlockChain page n)). absurd (cc),
+  λ h. let e : Ok a ≡ Err (fault.BrokenBlockChain page n) = (broken page n).1 h in absurd (cc),
+)
+
 is_large : (most : ℕ) (d : DeltaData) → most < delta_len d → reply.Large ≡ limited_reply most (reply.Delta d)
 is_large most d lt = let n = delta_len d in let t : ltb most n ≡ true = grind (arith, nat_tests) in rw t refl
 

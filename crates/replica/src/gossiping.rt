@@ -1,20 +1,55 @@
 //! The requests of gossip.
+ghost use Rattle.std.specs.Prelude.{◌≡◌, ◌<◌, ◌⊎◌, ◌↔◌, ℕ, Err, IfOk, IfErr};
+ghost use Rattle.segment_core.specs.Forgetting.{IsSoundState, IsWhole, IsFirstBreak};
+ghost use Rattle.segment_core.specs.declared.answers.ReadFault.TheVariants.{Memory as MemoryOf, BrokenBlockChain as BrokenAt};
+ghost use Rattle.gossip_core.specs.Replying.{AnswersSummary, FillsSummary, IsLeastBreak};
+ghost use Rattle.replica.specs.declared.replies.Reply.TheVariants.{Memory as MemoryReply, Summary as SummaryReply};
 ghost use Rattle.replica.specs.Gossiping.{Asks, RepliesTo, RepliesWithin, Absorbs};
 
+use crate::boxes::Boxed;
 use crate::replies::Reply;
 use crate::replying::{absorbed_reply, delta_reply, fault_reply};
 use gossip_core::{reply, reply_size, summary};
 use messages::{Delta, Summary};
 use read_cache::CachedSegment;
-use segment_core::Segment;
+use segment_core::{ReadFault, Segment};
+use std::alloc::Global;
 
 /// Returns the segment's summary.
 pub fn ask(segment: &Segment) -> Reply
     ensures asks { Asks segment.now result }
 {
     match summary(segment) {
+        Ok(summary) => summary_reply(segment.allocator(), summary),
+        Err(_) => Reply::Memory,
+    }
+}
+
+/// The reply that has a summary, unless memory runs out.
+fn summary_reply(alloc: Global, summary: Summary) -> Reply
+    ensures { (result ≡ MemoryReply) ⊎ (result ≡ SummaryReply summary) }
+{
+    match Boxed::new(alloc, summary) {
         Ok(summary) => Reply::Summary { summary },
         Err(_) => Reply::Memory,
+    }
+}
+
+/// What the segment has beyond a summary, as its reply has it.
+fn boxed_answer(segment: &Segment, summary: &Summary) -> Result<Boxed<Delta>, ReadFault>
+    ensures fills { IfOk result (FillsSummary segment.now summary.now) }
+    ensures sound { IfErr result (λ e. IsSoundState segment.now → e ≡ MemoryOf) }
+    ensures answers { IfOk result (AnswersSummary segment.now summary.now) }
+    ensures refused { IfErr result (λ e. (e ≡ MemoryOf) ⊎ ((summary.now.anchor < segment.now.base) × IsLeastBreak segment.now e)) }
+    ensures whole { IfOk result (λ _. summary.now.anchor < segment.now.base → IsWhole segment.now) }
+    ensures broken { (page n : ℕ) → (result ≡ Err (BrokenAt page n)) ↔ ((summary.now.anchor < segment.now.base) × IsFirstBreak segment.now page n) }
+{
+    match reply(segment, summary) {
+        Ok(delta) => match Boxed::new(segment.allocator(), delta) {
+            Ok(boxed) => Ok(boxed),
+            Err(_) => Err(ReadFault::Memory),
+        },
+        Err(fault) => Err(fault),
     }
 }
 
@@ -22,7 +57,7 @@ pub fn ask(segment: &Segment) -> Reply
 pub fn answer(segment: &Segment, summary: &Summary) -> Reply
     ensures replies { RepliesTo segment.now summary.now result }
 {
-    delta_reply(reply(segment, summary))
+    delta_reply(boxed_answer(segment, summary))
 }
 
 /// Returns what the segment has beyond a summary, if that has at most `limit` bytes; its size is computed before any of it is built.

@@ -1,13 +1,17 @@
 //! The requests of snapshots and stagings.
+ghost use Rattle.std.specs.Prelude.{◌≡◌, ◌⊎◌};
+ghost use Rattle.replica.specs.declared.replies.Reply.TheVariants.{Memory as MemoryReply, Piece as PieceReply};
 ghost use Rattle.replica.specs.Hydrating.{FreezesAs, Pieces, AddsTo, Finishes, EndsInUnion, JoinsStaged};
 
 use crate::at_segment::put;
+use crate::boxes::Boxed;
 use crate::replies::Reply;
 use crate::replying::{refusal_reply, unadded_reply, unfinished_reply};
 use messages::Piece;
 use read_cache::CachedSegment;
 use segment_core::Segment;
 use snapshot::{FreezeFault, Snapshot, Staging, freeze};
+use std::alloc::Global;
 
 /// Replaces the kept snapshot by one of the segment.
 pub fn freeze_as(segment: &Segment, name: u64, snapshot: &mut Option<Snapshot>) -> Reply
@@ -25,7 +29,7 @@ pub fn freeze_as(segment: &Segment, name: u64, snapshot: &mut Option<Snapshot>) 
 }
 
 /// Replies with a piece of the snapshot.
-pub fn piece(snapshot: &Option<Snapshot>, index: u32) -> Reply
+pub fn piece(alloc: Global, snapshot: &Option<Snapshot>, index: u32) -> Reply
     ensures pieces { Pieces snapshot.now index result }
 {
     let Some(snapshot) = snapshot else {
@@ -35,6 +39,16 @@ pub fn piece(snapshot: &Option<Snapshot>, index: u32) -> Reply
         return Reply::NoPiece;
     }
     match snapshot.piece(index) {
+        Ok(piece) => piece_reply(alloc, piece),
+        Err(_) => Reply::Memory,
+    }
+}
+
+/// The reply that has a piece, unless memory runs out.
+fn piece_reply(alloc: Global, piece: Piece) -> Reply
+    ensures { (result ≡ MemoryReply) ⊎ (result ≡ PieceReply piece) }
+{
+    match Boxed::new(alloc, piece) {
         Ok(piece) => Reply::Piece { piece },
         Err(_) => Reply::Memory,
     }

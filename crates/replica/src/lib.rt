@@ -8,6 +8,7 @@
 #![tactic(auto)]
 
 mod at_segment;
+mod boxes;
 mod gossiping;
 mod hydrating;
 pub mod laws;
@@ -16,6 +17,7 @@ mod replies;
 mod replying;
 mod requests;
 
+pub use boxes::Boxed;
 pub use machine::Replica;
 pub use replies::{Reply, Status};
 pub use requests::Request;

@@ -62,12 +62,12 @@ impl Replica {
             Request::State => state(self.cached.segment()),
             Request::Read { page, point } => read(&mut self.cached, page, point),
             Request::Ask => ask(self.cached.segment()),
-            Request::Answer { summary } => answer(self.cached.segment(), &summary),
+            Request::Answer { summary } => answer(self.cached.segment(), summary.value()),
             Request::AnswerWithin { summary, most } => {
-                answer_within(self.cached.segment(), &summary, most)
+                answer_within(self.cached.segment(), summary.value(), most)
             }
             Request::Absorb { summary, delta } => {
-                absorb_delta(&mut self.cached, &summary, &delta)
+                absorb_delta(&mut self.cached, summary.value(), delta.value())
             }
             Request::Fold { page } => fold(&mut self.cached, page),
             Request::Discard => discard(&mut self.cached),
@@ -75,13 +75,17 @@ impl Replica {
             Request::Freeze { name } => {
                 freeze_as(self.cached.segment(), name, &mut self.snapshot)
             }
-            Request::Piece { index } => piece(&self.snapshot, index),
+            Request::Piece { index } => piece(
+                self.cached.segment().allocator(),
+                &self.snapshot,
+                index,
+            ),
             Request::Stage { name, total } => {
                 let alloc = self.cached.segment().allocator();
                 self.staging = Some(Staging::new(alloc, name, total));
                 Reply::Staged
             }
-            Request::Add { piece } => add(&mut self.staging, piece),
+            Request::Add { piece } => add(&mut self.staging, piece.into_value()),
             Request::Finish => finish(&mut self.cached, &mut self.staging),
             Request::Unite => unite(&mut self.cached, &mut self.staging),
             Request::Next { after } => next(self.cached.segment(), after),

@@ -1,3 +1,4 @@
+use crate::boxes::Boxed;
 use gossip_core::Shown;
 use messages::{Delta, Piece, Summary};
 use redo_core::{Page, Record};
@@ -26,8 +27,8 @@ pub enum Reply {
     Above { complete: u64 },
     /// The block chain of the page is broken at the record with this LSN. It does not come over a sound log.
     BrokenBlockChain { page: u16, number: u64 },
-    Summary { summary: Summary },
-    Delta { delta: Delta },
+    Summary { summary: Boxed<Summary> },
+    Delta { delta: Boxed<Delta> },
     /// The delta would have more bytes than the request allows.
     Large,
     /// The segment means what it meant and what the answering one meant.
@@ -41,7 +42,7 @@ pub enum Reply {
     Frozen { pieces: u32 },
     /// The snapshot would have more than 2^32 - 1 pieces.
     TooMany,
-    Piece { piece: Piece },
+    Piece { piece: Boxed<Piece> },
     /// No snapshot is kept.
     NoSnapshot,
     /// The index is not below the count of the snapshot's pieces.

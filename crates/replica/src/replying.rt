@@ -5,6 +5,7 @@ ghost use Rattle.replica.specs.Replying.{read_reply as read_reply_of, tidied_rep
 ghost use Rattle.replica.specs.Replying.{gap_reply as gap_reply_of};
 ghost use Rattle.replica.specs.Replying.{absorbed_reply as absorbed_reply_of, unadded_reply as unadded_reply_of, unfinished_reply as unfinished_reply_of};
 
+use crate::boxes::Boxed;
 use crate::replies::Reply;
 use gossip_core::AbsorbRefusal;
 use messages::Delta;
@@ -76,7 +77,7 @@ pub fn tidied_reply(tidied: Result<(), ReadFault>) -> Reply
 }
 
 /// The reply for the result of an answer to a summary: `Delta`, or that of the fault.
-pub fn delta_reply(replied: Result<Delta, ReadFault>) -> Reply
+pub fn delta_reply(replied: Result<Boxed<Delta>, ReadFault>) -> Reply
     ensures { result ≡ delta_reply_of replied }
 {
     match replied {

@@ -1,5 +1,6 @@
 ghost use Rattle.std.specs.Prelude.{◌≡◌, ◌≤◌, ◌++◌, ◌∷◌, [], None, IfOk, OnOk, map};
 ghost use Rattle.volume.specs.Asking.{takes_and_reports, admission, asks_of, asks_from, asks_at, queries_from, query_to, request_of_query};
+ghost use Rattle.replica.specs.declared.requests.Request.TheVariants.{Absorb as AbsorbOf};
 ghost use Rattle.guard.specs.declared.requests.Request.TheVariants.{As as AsOf};
 ghost use Rattle.volume.specs.declared.actions.Action.TheVariants.{Ask as AsksNode};
 
@@ -7,7 +8,7 @@ use crate::actions::Action;
 use guard::{AcceptedCut, Admission, Request};
 use messages::{Delta, Summary};
 use redo_core::{Advance, Cut, Fact, Record};
-use replica::Request as SegmentRequest;
+use replica::{Boxed, Request as SegmentRequest};
 use std::alloc::{AllocError, Global};
 
 /// What an engine asks of a node under its generation, in the birth that it knows of the node.
@@ -98,6 +99,19 @@ fn push_taking(
     push_under(actions, node, generation, birth, SegmentRequest::Front)
 }
 
+/// The request to absorb a copy of a delta, which answers the summary.
+fn absorb_request(
+    alloc: Global,
+    summary: &Summary,
+    delta: &Delta,
+) -> Result<SegmentRequest, AllocError>
+    ensures { IfOk result (λ r. r ≡ AbsorbOf summary.now delta.now) }
+{
+    let summary = Boxed::new(alloc, summary.copy()?)?;
+    let delta = Boxed::new(alloc, delta.copy()?)?;
+    Ok(SegmentRequest::Absorb { summary, delta })
+}
+
 /// Adds the requests of an errand to one node.
 pub(crate) fn push_errand(
     actions: &mut Vec<Action>,
@@ -108,9 +122,10 @@ pub(crate) fn push_errand(
 ) -> Result<(), AllocError>
     ensures { OnOk result (actions.new.items ≡ actions.old.items ++ asks_of node generation birth errand.now) }
 {
+    let alloc = *actions.allocator();
     match errand {
         Errand::Pull(summary) => {
-            let summary = summary.copy()?;
+            let summary = Boxed::new(alloc, summary.copy()?)?;
             push_under(
                 actions,
                 node,
@@ -121,8 +136,7 @@ pub(crate) fn push_errand(
         }
         Errand::Ask => push_under(actions, node, generation, birth, SegmentRequest::Ask),
         Errand::Push(summary, delta) => {
-            let (summary, delta) = (summary.copy()?, delta.copy()?);
-            let request = SegmentRequest::Absorb { summary, delta };
+            let request = absorb_request(alloc, summary, delta)?;
             push_under(actions, node, generation, birth, request)?;
             push_under(actions, node, generation, birth, SegmentRequest::Front)
         }
@@ -162,8 +176,7 @@ pub(crate) fn push_errand(
         Errand::Report => push_under(actions, node, generation, birth, SegmentRequest::Front),
         Errand::Found => push_admission(actions, node, generation, birth, &Joining::at_start()),
         Errand::Join(summary, delta, joining) => {
-            let (summary, delta) = (summary.copy()?, delta.copy()?);
-            let request = Request::Plain(SegmentRequest::Absorb { summary, delta });
+            let request = Request::Plain(absorb_request(alloc, summary, delta)?);
             actions.push(ask(node, request))?;
             push_admission(actions, node, generation, birth, joining)
         }

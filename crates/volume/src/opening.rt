@@ -110,8 +110,10 @@ fn hear_headed(
     ensures unchanged { OnErr result (opening.new ≡ opening.old) }
 {
     match reply {
-        SegmentReply::Delta { delta } => hear_delta(alloc, opening, node, &delta),
-        SegmentReply::Summary { summary } => hear_summary(alloc, opening, node, summary),
+        SegmentReply::Delta { delta } => hear_delta(alloc, opening, node, delta.value()),
+        SegmentReply::Summary { summary } => {
+            hear_summary(alloc, opening, node, summary.into_value())
+        }
         SegmentReply::Front { front } => hear_front(alloc, quorum, opening, node, &front),
         _ => Ok(nothing(alloc)),
     }

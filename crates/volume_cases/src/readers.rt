@@ -1,7 +1,7 @@
 use crate::world::World;
 use guard::{Reply, Request};
 use redo_core::Page;
-use replica::{Reply as SegmentReply, Request as SegmentRequest};
+use replica::{Boxed, Reply as SegmentReply, Request as SegmentRequest};
 use segment_core::Front;
 use std::alloc::AllocError;
 
@@ -80,7 +80,7 @@ impl World {
     /// A node takes what another one has beyond it.
     pub fn gossip(&mut self, node: u8, other: u8) -> Result<String, AllocError> {
         if let SegmentReply::Summary { summary } = self.ask_plainly(node, SegmentRequest::Ask) {
-            let shown = summary.copy()?;
+            let shown = Boxed::new(self.alloc, summary.value().copy()?)?;
             let request = SegmentRequest::Answer { summary };
             if let SegmentReply::Delta { delta } = self.ask_plainly(other, request) {
                 let summary = shown;

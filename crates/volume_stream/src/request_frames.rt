@@ -84,8 +84,10 @@ fn put_segment_request(out: &mut BytesMut, request: &SegmentRequest) -> Result<(
         }
         SegmentRequest::Front => out.extend_from_slice(b"front".as_slice()),
         SegmentRequest::Ask => out.extend_from_slice(b"ask".as_slice()),
-        SegmentRequest::Answer { summary } => put_answer(out, summary),
-        SegmentRequest::Absorb { summary, delta } => put_absorb(out, summary, delta),
+        SegmentRequest::Answer { summary } => put_answer(out, summary.value()),
+        SegmentRequest::Absorb { summary, delta } => {
+            put_absorb(out, summary.value(), delta.value())
+        }
         _ => out.extend_from_slice(NO_REQUEST),
     }
 }

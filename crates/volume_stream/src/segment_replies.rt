@@ -11,7 +11,7 @@ use crate::words::{SHORT, read_numbers};
 use node_stream::halves;
 use redo_core::MAX_NUMBER;
 use redo_wire::{WireError, decode_delta, decode_summary};
-use replica::Reply;
+use replica::{Boxed, Reply};
 use segment_core::Front;
 use std::alloc::{AllocError, Global};
 use text::is_word;
@@ -70,7 +70,10 @@ fn summary(alloc: Global, bytes: &[u8]) -> Result<Option<Reply>, AllocError>
     ensures { IfOk result (λ o. o ≡ decoded_as (decoded_summary bytes.now) segment.Summary) }
 {
     match decode_summary(alloc, bytes) {
-        Ok(summary) => Ok(Some(Reply::Summary { summary })),
+        Ok(summary) => {
+            let summary = Boxed::new(alloc, summary)?;
+            Ok(Some(Reply::Summary { summary }))
+        }
         Err(WireError::Memory) => Err(AllocError),
         Err(WireError::Fault(_)) => Ok(None),
     }
@@ -80,7 +83,10 @@ fn delta(alloc: Global, bytes: &[u8]) -> Result<Option<Reply>, AllocError>
     ensures { IfOk result (λ o. o ≡ decoded_as (decoded_delta bytes.now) segment.Delta) }
 {
     match decode_delta(alloc, bytes) {
-        Ok(delta) => Ok(Some(Reply::Delta { delta })),
+        Ok(delta) => {
+            let delta = Boxed::new(alloc, delta)?;
+            Ok(Some(Reply::Delta { delta }))
+        }
         Err(WireError::Memory) => Err(AllocError),
         Err(WireError::Fault(_)) => Ok(None),
     }

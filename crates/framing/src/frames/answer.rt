@@ -3,10 +3,13 @@
 ghost use Rattle.std.specs.Prelude.{◌≡◌};
 ghost use Rattle.framing.specs.AnswerBytes.{bytes_of};
 
-/// The bytes of an answer frame: fixed ones, which need no memory, or bytes that were made.
+use crate::short::Short;
+
+/// The bytes of an answer frame: fixed ones or short ones, which need no memory, or bytes that were made.
 #[derive(Drop)]
 pub enum FrameAnswer {
     Fixed(&'static [u8]),
+    Short(Short),
     Made(Vec<u8>),
 }
 
@@ -17,6 +20,7 @@ impl FrameAnswer {
     {
         match self {
             FrameAnswer::Fixed(bytes) => bytes,
+            FrameAnswer::Short(bytes) => bytes.as_slice(),
             FrameAnswer::Made(bytes) => bytes.as_slice(),
         }
     }

@@ -3,11 +3,14 @@
 ghost use Rattle.std.specs.Prelude.{◌≡◌};
 ghost use Rattle.framing.specs.AnswerText.{text_of};
 
-/// An answer line with its LF: a fixed one, which needs no memory, or one that was made.
+use crate::short::Short;
+
+/// An answer line with its LF: a fixed one or a short one, which need no memory, or one that was made.
 #[derive(Drop)]
 pub enum Answer {
     Fixed(&'static str),
-    Made(String),
+    Short(Short),
+    Made(Vec<u8>),
 }
 
 impl Answer {
@@ -17,7 +20,8 @@ impl Answer {
     {
         match self {
             Answer::Fixed(text) => text.as_bytes(),
-            Answer::Made(text) => text.as_bytes(),
+            Answer::Short(text) => text.as_slice(),
+            Answer::Made(text) => text.as_slice(),
         }
     }
 }

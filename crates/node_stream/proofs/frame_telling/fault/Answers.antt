@@ -1,9 +1,11 @@
-use Rattle.std.proofs.Common.{ap, ◌∙◌}
-use Rattle.framing.specs.AnswerText.{text_of}
-use Rattle.node_stream.specs.Telling.{fault_line}
+use Rattle.std.proofs.Common.{ap, ◌∙◌, sym}
+use Rattle.node_stream.specs.FrameTelling.{unended, fault_frame}
 use Rattle.node_stream.proofs.Framed.{fault_is_short}
+use Rattle.node_stream.proofs.Worded.{unended_at}
 use Rattle.node_stream.proofs.frame_telling.fault.Goals as goal
 
-pub returns-in_ok-fault-in-Wire-clause-few : goal.returns-in_ok-fault-in-Wire-clause-few
-returns-in_ok-fault-in-Wire-clause-few c = fault_is_short c.unended.result (text_of c.in_ok-fault-in-Wire.field-0) c.in-Wire.field-0
-    (c.in_ok-fault-in-Wire.ensures ∙ ap fault_line c.in-Wire.is) c.unended.ensures.bytes
+pub returns-in-Wire-clause-bytes : goal.returns-in-Wire-clause-bytes
+returns-in-Wire-clause-bytes c = sym (unended_at c.wire.result.items) ∙ ap unended c.wire.ensures.line ∙ sym (ap fault_frame c.in-Wire.is)
+
+pub returns-in-Wire-clause-few : goal.returns-in-Wire-clause-few
+returns-in-Wire-clause-few c = fault_is_short c.wire.result.items c.in-Wire.why c.wire.ensures.line

@@ -1,21 +1,24 @@
-use Rattle.std.proofs.Common.{◌≡◌, ℕ, List, ◌++◌, ap, ◌∙◌, sym, subst}
-use Rattle.std.specs.Prelude.{codes, IfOk, string_bytes, string_len, string_capacity}
-use Rattle.framing.specs.AnswerBytes.{bytes_of}
-use Rattle.framing.specs.AnswerText.{text_of}
-use Rattle.replica.specs.declared.replies.Reply.{Reply}
-use Rattle.replica.specs.declared.replies.Reply.TheVariants as reply
-use Rattle.node_stream.specs.FrameTelling.{fitted, frame_of}
-use Rattle.node_stream.proofs.Headed.{joined_frame, joined_long, joined_lacks}
+use Rattle.std.proofs.Common.{◌++◌, length, ap, ◌∙◌, sym, arith}
+use Rattle.std.specs.Prelude.{codes}
+use Rattle.std.specs.Fmt.{decimal}
+use Rattle.node_stream.specs.FrameTelling.{frame_of}
+use Rattle.node_stream.proofs.Headed.{short_frame, joined_frame, joined_long, joined_lacks}
+use Rattle.node_stream.proofs.Worded.{frozen_words}
 use Rattle.node_stream.proofs.guard_frames.headed.Goals as goal
 
-pub returns-in_ok-frame-in_default : goal.returns-in_ok-frame-in_default
-returns-in_ok-frame-in_default c =
-    let out : (pieces : ℕ) → c.args.reply.now ≡ reply.Frozen pieces → ⊥ = c.in_default.not-Frozen in record {
-      frame = joined_frame c.joined.result (string_bytes c.args.head) (bytes_of c.in_ok-frame-in_default.field-0) (frame_of c.args.window c.args.reply.now)
-          c.in_ok-frame-in_default.ensures.frame c.joined.ensures.bytes;
-      short = c.joined.ensures.short;
-      long = joined_long c.joined.result (string_bytes c.args.head) (bytes_of c.in_ok-frame-in_default.field-0) c.args.reply.now c.requires.few
-          c.in_ok-frame-in_default.ensures.long out c.joined.ensures.bytes;
-      memory = joined_lacks c.joined.result (string_len c.args.head) (string_capacity c.args.head) (bytes_of c.in_ok-frame-in_default.field-0)
-          c.args.reply.now c.requires.free c.in_ok-frame-in_default.ensures.long out c.joined.ensures.full;
-    }
+pub returns-in-Frozen-clause-frame : goal.returns-in-Frozen-clause-frame
+returns-in-Frozen-clause-frame c = short_frame c.frozen.result.items c.args.head.items (frame_of c.args.window c.args.reply.now)
+    (codes "frozen " ++ decimal c.in-Frozen.pieces) (omega (arith, c.frozen.ensures.few, c.requires.few)) c.frozen.ensures.words
+    (frozen_words c.in-Frozen.pieces ∙ sym (ap (frame_of c.args.window) c.in-Frozen.is))
+
+pub returns-in_ok-own-in_default-clause-frame : goal.returns-in_ok-own-in_default-clause-frame
+returns-in_ok-own-in_default-clause-frame c = joined_frame c.joined.result c.args.head.items c.as_bytes.result.now (frame_of c.args.window c.args.reply.now)
+    (c.as_bytes.ensures ∙ c.in_ok-own-in_default.ensures.frame) c.joined.ensures.bytes
+
+pub returns-in_ok-own-in_default-clause-long : goal.returns-in_ok-own-in_default-clause-long
+returns-in_ok-own-in_default-clause-long c = joined_long c.joined.result c.args.head.items c.as_bytes.result.now c.args.reply.now c.requires.few
+    (λ lt. c.in_ok-own-in_default.ensures.long (omega (arith, lt, ap length c.as_bytes.ensures))) c.joined.ensures.bytes
+
+pub returns-in_ok-own-in_default-clause-memory : goal.returns-in_ok-own-in_default-clause-memory
+returns-in_ok-own-in_default-clause-memory c = joined_lacks c.joined.result c.args.head.items c.as_bytes.result.now c.args.reply.now c.requires.few
+    (λ lt. c.in_ok-own-in_default.ensures.long (omega (arith, lt, ap length c.as_bytes.ensures))) c.joined.ensures.full
