@@ -167,6 +167,7 @@ class Proxy:
 
     def __init__(self, folder, number, spent):
         self.place, self.server, self.spent = f"{folder}/p{number}", f"{folder}/n{number}/socket", spent
+        self.lock = threading.Lock()
         self.left = None  # no bound
         self.drops = 0  # how often what was held back has been dropped
         self.listener = socket.socket(socket.AF_UNIX)
@@ -180,12 +181,19 @@ class Proxy:
 
     def may_pass(self, request):
         """Questions for the status and reads spend nothing."""
-        if self.left is None or request.startswith((b"status", b"read ", b"front")):
-            return True
-        self.left -= 1
-        if self.left < 0:
-            self.spent.set()
-        return self.left >= 0
+        with self.lock:
+            if self.left is None or request.startswith((b"status", b"read ", b"front")):
+                return True
+            self.left -= 1
+            if self.left < 0:
+                self.spent.set()
+            return self.left >= 0
+
+    def bound(self, left, drops):
+        """Sets how many requests may pass, or None for all, and drops what is held back where it is so."""
+        with self.lock:
+            self.drops += drops
+            self.left = left
 
     def serve(self, engine):
         with contextlib.suppress(OSError), socket.socket(socket.AF_UNIX) as server:
@@ -217,8 +225,7 @@ def run_proxies(pipe, folder):
         if word == "bound":
             spent.clear()
             for proxy, left in zip(proxies, value or [None] * NODES):
-                proxy.drops += drops
-                proxy.left = left
+                proxy.bound(left, drops)
             pipe.send("done")
         else:
             pipe.send(spent.wait(value))

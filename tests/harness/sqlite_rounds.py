@@ -175,7 +175,7 @@ class Rounds:
                     break
             self.proxies.bound([choose.choice([0, choose.randrange(6), choose.randrange(60), choose.randrange(300)]) for _ in range(NODES)])
         if how == "time":
-            time.sleep(choose.randrange(500) / 1000)
+            time.sleep(choose.randrange(900) / 1000)
         else:
             self.wait_until_spent(child)
             time.sleep(choose.choice([0, 0.005, 0.05]))
