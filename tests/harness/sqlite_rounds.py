@@ -25,6 +25,7 @@ MOST_LOST = 2  # servers at a time that have lost their files and are not admitt
 PATIENCE = 20000  # milliseconds of an engine that is to succeed
 SPENDING = 4  # seconds until an engine has spent a bound: twice as long as a reader waits for another engine's opening
 ROUNDS = 150  # of one cluster
+GOSSIP = 50, 200, 500  # milliseconds between two exchanges of a server: seldom ones leave more to engines, and cost less
 OFTEN, NEVER = 200_000, 1 << 40  # bytes of a log after which servers make snapshots
 
 
@@ -128,7 +129,7 @@ class Rounds:
         self.last, self.reached, self.watcher, self.counts = 0, 0, None, {"rounds": 0, "returned": 0, "in doubt": 0, "lost by off": 0, "deaths": 0}
 
     def servers(self, store, folder, disk, words):
-        return Cluster(store, folder, disk, words=words)
+        return Cluster(store, folder, disk, random.Random(f"{self.seed} gossip").choice(GOSSIP), words)
 
     def child(self, function, *words):
         return Child(function, *words)
