@@ -7,7 +7,7 @@ import pytest
 
 from harness import environment, stores
 from harness.shims import kit
-from harness.store_checks import check_answers, check_damage, check_full, check_kills, check_lock
+from harness.store_checks import check_answers, check_damage, check_full, check_kills, check_lock, check_readers
 
 pytestmark = pytest.mark.xdist_group("store_mutants")  # which share what is built
 
@@ -22,7 +22,8 @@ def check_client(program, folder, _disk, _choose):
 
 
 LOG, STORE, CALLS, ANSWERS = "embedding/src/store/log.rs", "embedding/src/store/mod.rs", "client/src/calls.rs", "client/src/answers.rs"
-ENTRIES, FOLDER, ENGINE = "embedding/src/store/entries.rs", "embedding/src/store/folder.rs", "store/src/engine.rs"
+ENTRIES, FOLDER = "embedding/src/store/entries.rs", "embedding/src/store/folder.rs"
+ENGINE, SNAPSHOTS = "store/src/engine.rs", "store/src/snapshots.rs"
 MUTANTS = {
     "acknowledges_before_the_flush": (LOG, "self.flush()?;", "", check_kills),
     "counts_unchanged": (CALLS, "Ok(self.front()?.has(last))", "self.front().map(|front| front.epoch >= last.epoch)", check_client),
@@ -31,6 +32,7 @@ MUTANTS = {
     "shares_a_folder": (FOLDER, "match lock.try_lock() {", "match Ok::<(), TryLockError>(()) {", check_lock),
     "ignores_an_answer": (STORE, ".find(|(request, answer)| !requests::has_changed(request, answer))", ".find(|_| false)", check_answers),
     "leaves_what_a_full_disk_took": (LOG, "match self.file.set_len(self.length) {", "match Ok::<(), io::Error>(()) {", check_full),
+    "freezes_for_everybody": (SNAPSHOTS, "is_free = held.is_none_or(", "is_free = true || held.is_none_or(", check_readers),
     "answers_on_a_full_disk": (ENGINE, "Err(Refusal::DiskFull))", "Ok(vec![b\"changed\".to_vec(); job.requests.len()]))", check_full),
 }
 
@@ -43,7 +45,7 @@ def target(tmp_path_factory):
 @pytest.mark.parametrize("name", [None, *MUTANTS], ids=lambda it: it or "none")
 def test_mutants(archive, target, disk, tmp_path, monkeypatch, seed, name):
     stores.copy_of_packages(tmp_path)
-    checks = {check_kills, check_client, check_damage, check_answers, check_full, check_lock}
+    checks = {check_kills, check_client, check_damage, check_answers, check_full, check_lock, check_readers}
     if name:
         file, old, new, check = MUTANTS[name]
         text = (tmp_path / file).read_text()

@@ -62,6 +62,36 @@ def test_a_wiped_store_is_whole_again(store):
     assert other.ask(b"front") == b"front 0 2000 0" and shows(other.client(), 2000)
 
 
+def test_a_long_delta_of_a_peer_that_lags_is_written_once(store):
+    """A peer that lacks a record sends what it has above that again and again."""
+    one, other = store("one"), store("other").start()
+    one.words = ("--peer", other.address, "--gossip-every", 20)
+    one.start()
+    for it, facts in ((one, takes(1, 3000)), (other, takes(2, 3000))):
+        assert told(it.client(), [*facts, advance(3000)]) == [b"changed"] * (len(facts) + 1)
+    rounds = f'yieldcleat_peer_rounds_total{{peer="{other.address}"}}'
+    begun, length = one.metrics()[rounds], one.file("log").stat().st_size
+    assert until(lambda: one.metrics()[rounds] >= begun + 2)
+    assert one.file("log").stat().st_size - length < 1_000_000
+    length = one.file("log").stat().st_size
+    assert until(lambda: one.metrics()[rounds] >= begun + 4)
+    assert one.file("log").stat().st_size == length
+
+
+def test_two_stores_become_whole_at_once(store):
+    """Both read snapshots of one peer, which keeps one at a time."""
+    one = store("one", "--gossip-bytes", 4000).start()
+    for first in range(1, 2000, 100):
+        assert told(one.client(), takes(first, first + 99)) == [b"changed"] * 100
+    others = [store(name, "--peer", one.address, "--gossip-every", 20, "--gossip-bytes", 4000) for name in ("two", "three")]
+    for it in others:
+        it.run()
+    for it in others:
+        it.wait()
+    for it in others:
+        assert equal(it, one, b"front 0 2000 0") and shows(it.client(), 2000)
+
+
 def test_a_stopped_peer_stops_nobody(store):
     one, other = pair(store, "--patience", 300)
     other.process.send_signal(signal.SIGSTOP)

@@ -130,7 +130,7 @@ pub enum Error {
     DiskFull,
     /// The node does not carry out this request for a client.
     NotAllowed,
-    /// The node has as many connections as it takes, or it is about to end.
+    /// The node has as many connections as it takes, or it is about to end, or another client reads its snapshot.
     Busy,
     /// The node serves another engine, or none, or is not to be admitted.
     Declined(Declined),

@@ -13,12 +13,12 @@ use std::time::Duration;
 use yieldcleat_client::{answers, frames, requests, Address, Calls, Connection, Error, Limits, MOST_NUMBER};
 
 /// How many pieces of a snapshot are on their way at a time.
-const PIECES: u32 = 16;
+const PIECES: u32 = 64;
 /// The longest and the first pause after rounds that failed.
 const LONGEST_PAUSE: Duration = Duration::from_secs(5);
 const FIRST_PAUSE: Duration = Duration::from_millis(100);
-/// A delta of so many bytes at most is remembered, so that it is not absorbed twice.
-const REMEMBERED: usize = 1 << 16;
+/// A delta with nothing new delays the next round by one pause for each so many of its bytes.
+const USELESS: usize = 1 << 16;
 
 /// The own segment, through the queue of requests.
 struct Local {
@@ -61,14 +61,15 @@ pub struct Gossip {
     place: usize,
     address: Address,
     local: Local,
-    /// The last delta, which has nothing new where it comes again.
-    last: Vec<u8>,
+    /// A hash of the last delta, which has nothing new where it comes again.
+    last: Option<u64>,
+    hasher: RandomState,
 }
 
 impl Gossip {
     pub fn new(terms: Arc<Terms>, place: usize, address: Address) -> Gossip {
         let local = Local { handle: terms.handle.clone(), answer: Vec::new() };
-        Gossip { terms, place, address, local, last: Vec::new() }
+        Gossip { terms, place, address, local, last: None, hasher: RandomState::new() }
     }
 
     /// Gossips until the own segment has stopped.
@@ -76,9 +77,10 @@ impl Gossip {
         let (mut connection, mut pause) = (None, FIRST_PAUSE);
         loop {
             match self.turn(&mut connection) {
-                Ok(()) => {
+                Ok(useless) => {
                     pause = FIRST_PAUSE;
-                    thread::sleep(self.terms.every);
+                    let times = u32::try_from(1 + useless / USELESS).unwrap_or(u32::MAX);
+                    thread::sleep(self.terms.every.saturating_mul(times).min(LONGEST_PAUSE));
                 }
                 Err(Error::Stopped(_)) => return,
                 Err(error) => {
@@ -90,8 +92,8 @@ impl Gossip {
         }
     }
 
-    /// One round, over a new connection where there is none.
-    fn turn(&mut self, connection: &mut Option<Connection>) -> Result<(), Error> {
+    /// One round, over a new connection where there is none. Returns the bytes of a delta with nothing new.
+    fn turn(&mut self, connection: &mut Option<Connection>) -> Result<usize, Error> {
         let limits = Limits { connect: self.terms.patience, answer: self.terms.patience, longest: frames::LONGEST };
         let mut peer = match connection.take().filter(Connection::is_open) {
             Some(peer) => peer,
@@ -102,42 +104,48 @@ impl Gossip {
         done
     }
 
-    fn round(&mut self, peer: &mut Connection) -> Result<(), Error> {
+    fn round(&mut self, peer: &mut Connection) -> Result<usize, Error> {
         let front = peer.front()?;
         let summary = self.local.summary()?;
-        match peer.reply_within(&summary, self.terms.most) {
-            Ok(delta) => self.absorb(&summary, delta)?,
-            Err(Error::Large) => self.bring_snapshot(peer)?,
+        let useless = match peer.reply_within(&summary, self.terms.most) {
+            Ok(delta) => self.absorb(&summary, &delta)?,
+            Err(Error::Large) => self.bring_snapshot(peer).map(|()| 0)?,
             Err(error) => return Err(error),
-        }
+        };
         self.terms.metrics.with_peer(self.place, |it| {
             (it.is_up, it.front, it.trouble) = (true, Some(front), None);
             it.rounds += 1;
         });
-        Ok(())
+        Ok(useless)
     }
 
-    fn absorb(&mut self, summary: &[u8], delta: Vec<u8>) -> Result<(), Error> {
-        if delta == self.last {
-            return Ok(());
+    /// Absorbs a delta, unless it is the last one again. A peer that lags sends what it has above its own anchor each time, so a delta may be
+    /// long and have nothing new. Returns the bytes of such a delta.
+    fn absorb(&mut self, summary: &[u8], delta: &[u8]) -> Result<usize, Error> {
+        let hash = Some(self.hasher.hash_one(delta));
+        if hash == self.last {
+            return Ok(delta.len());
         }
-        match self.local.absorb(summary, &delta) {
-            Ok(()) if delta.len() <= REMEMBERED => self.last = delta,
+        self.last = match self.local.absorb(summary, delta) {
+            Ok(()) => hash,
             // The segment has folded meanwhile: the next round asks with another summary.
-            Ok(()) | Err(Error::Uncovered(_)) => self.last.clear(),
+            Err(Error::Uncovered(_)) => None,
             Err(error) => return Err(error),
-        }
-        Ok(())
+        };
+        Ok(0)
     }
 
-    /// Brings a snapshot of the peer, and unites it with the segment.
+    /// Brings a snapshot of the peer, and unites it with the segment. A later round tries again where the peer's snapshot is another one's.
     fn bring_snapshot(&mut self, peer: &mut Connection) -> Result<(), Error> {
         let terms = self.terms.clone();
         let Ok(_one) = terms.staging.try_lock() else {
             return Ok(());
         };
         let name = RandomState::new().build_hasher().finish() & MOST_NUMBER;
-        let total = peer.freeze(name)?;
+        let total = match peer.freeze(name) {
+            Err(Error::Busy) => return Ok(()),
+            frozen => frozen?,
+        };
         crate::say(format_args!("{} has much that is missing here: its snapshot comes in {total} pieces", self.address));
         self.local.stage(name, total)?;
         for first in (0..total).step_by(PIECES as usize) {

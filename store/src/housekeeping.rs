@@ -2,9 +2,11 @@
 //! place of a log that has grown.
 
 use crate::metrics::Metrics;
+use crate::snapshots::{Owner, Snapshots};
 use std::collections::hash_map::RandomState;
 use std::hash::{BuildHasher, Hasher};
 use std::sync::atomic::Ordering::Relaxed;
+use std::sync::Arc;
 use std::time::{Duration, Instant};
 use yieldcleat::{Store, StoreError};
 use yieldcleat_client::{answers, frames, requests};
@@ -12,9 +14,7 @@ use yieldcleat_client::{answers, frames, requests};
 /// The most pages of a slice.
 const SLICE: usize = 256;
 const PAGES: usize = 1 << 16;
-/// No snapshot is made within this time after a request for a piece of another one, which it would displace, unless the log has
-/// `OVERDUE` times the bytes at which one is scheduled.
-const QUIET: Duration = Duration::from_secs(10);
+/// A snapshot displaces one that a connection reads where the log has so many times the bytes at which a snapshot is scheduled.
 const OVERDUE: f64 = 4.0;
 /// No snapshot is tried within this time after one that failed.
 const AGAIN: Duration = Duration::from_secs(10);
@@ -37,7 +37,7 @@ pub struct Housekeeping {
     snapshot_after: u64,
     /// From 1 to 2: nodes with logs of one size make their snapshots at different times.
     stagger: f64,
-    quiet_until: Instant,
+    snapshots: Arc<Snapshots>,
     again_at: Instant,
     /// When the snapshot began that is being written, the generation before it, and when its next pieces are written.
     began: Option<Instant>,
@@ -46,7 +46,7 @@ pub struct Housekeeping {
 }
 
 impl Housekeeping {
-    pub fn new(every: Duration, snapshot_after: u64) -> Housekeeping {
+    pub fn new(every: Duration, snapshot_after: u64, snapshots: Arc<Snapshots>) -> Housekeeping {
         let (now, random) = (Instant::now(), RandomState::new().build_hasher().finish() >> 11);
         Housekeeping {
             every,
@@ -58,7 +58,7 @@ impl Housekeeping {
             aim: 0,
             snapshot_after,
             stagger: 1.0 + random as f64 / (1u64 << 53) as f64,
-            quiet_until: now,
+            snapshots,
             again_at: now,
             began: None,
             generation: 0,
@@ -98,7 +98,6 @@ impl Housekeeping {
                 self.pages.fill(true);
                 self.has_pages = true;
             }
-            b"freeze" | b"piece" => self.quiet_until = Instant::now() + QUIET,
             _ => {}
         }
     }
@@ -161,8 +160,13 @@ impl Housekeeping {
     fn begin_snapshot(&mut self, store: &mut Store) -> Result<(), StoreError> {
         let activity = store.activity();
         let (least, now) = (self.snapshot_after.max(2 * activity.snapshot) as f64 * self.stagger, Instant::now());
-        let enough = if now < self.quiet_until { OVERDUE * least } else { least };
-        if self.began.is_some() || (activity.log as f64) < enough || now < self.again_at {
+        let log = activity.log as f64;
+        if self.began.is_some() || log < least || now < self.again_at {
+            return Ok(());
+        }
+        if log >= OVERDUE * least {
+            self.snapshots.seize();
+        } else if !self.snapshots.take(Owner::Server) {
             return Ok(());
         }
         (self.began, self.generation) = (Some(now), activity.generation);
@@ -186,6 +190,7 @@ impl Housekeeping {
             Err(error) => self.put_off(&error.to_string()),
         }
         self.began = None;
+        self.snapshots.release(Owner::Server);
         Ok(())
     }
 
@@ -220,7 +225,7 @@ mod tests {
 
     #[test]
     fn slices_go_round() {
-        let mut it = Housekeeping::new(Duration::ZERO, 1);
+        let mut it = Housekeeping::new(Duration::ZERO, 1, Arc::default());
         assert!((1.0..2.0).contains(&it.stagger));
         let slice: Vec<usize> = (0..SLICE).collect();
         it.aim = 5;

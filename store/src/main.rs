@@ -20,6 +20,7 @@ mod server;
 mod session;
 #[allow(unsafe_code)]
 mod signals;
+mod snapshots;
 
 use options::{Command, HELP};
 use std::fmt::Arguments;

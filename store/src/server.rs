@@ -8,9 +8,10 @@ use crate::metrics::Metrics;
 use crate::options::Options;
 use crate::session::{self, Service};
 use crate::signals::Stop;
+use crate::snapshots::Snapshots;
 use crate::{http, say};
 use std::io;
-use std::sync::atomic::{AtomicBool, AtomicUsize, Ordering::Relaxed, Ordering::SeqCst};
+use std::sync::atomic::{AtomicBool, AtomicU64, AtomicUsize, Ordering::Relaxed, Ordering::SeqCst};
 use std::sync::{Arc, Mutex};
 use std::thread::{self, Builder};
 use std::time::{Duration, Instant};
@@ -74,9 +75,10 @@ pub fn run(options: &Options) -> Result<(), Failure> {
         say(format_args!("{} bytes of an entry that was not acknowledged are cut off", recovery.torn));
     }
     let metrics = Arc::new(Metrics::new(options.memory_bytes, options.peers.iter().map(Address::to_string)));
-    let housekeeping = Housekeeping::new(options.fold_every, options.snapshot_after);
+    let snapshots = Arc::new(Snapshots::default());
+    let housekeeping = Housekeeping::new(options.fold_every, options.snapshot_after, snapshots.clone());
     let (engine, handle) = Engine::new(store, options.queue, metrics.clone(), housekeeping);
-    let service = Arc::new(service(options, &handle, &metrics));
+    let service = Arc::new(service(options, &handle, &metrics, &snapshots));
     let listeners = bind(options)?;
     let engine = spawn("engine", move || engine.run())?;
     let sockets = start(options, listeners, &service)?;
@@ -90,10 +92,12 @@ pub fn run(options: &Options) -> Result<(), Failure> {
     ended.map_err(Failure::Store)
 }
 
-fn service(options: &Options, handle: &Handle, metrics: &Arc<Metrics>) -> Service {
+fn service(options: &Options, handle: &Handle, metrics: &Arc<Metrics>, snapshots: &Arc<Snapshots>) -> Service {
     Service {
         handle: handle.clone(),
         metrics: metrics.clone(),
+        snapshots: snapshots.clone(),
+        connections: AtomicU64::new(0),
         frame_bytes: options.frame_bytes,
         delta_bytes: options.gossip_bytes,
         patience: options.patience,

@@ -4,8 +4,9 @@ use crate::budget::Share;
 use crate::engine::{Handle, Refusal};
 use crate::gate::{judge, Verdict};
 use crate::metrics::Metrics;
+use crate::snapshots::{Owner, Snapshots};
 use std::io::{self, BufRead, BufReader, ErrorKind, Read, Write};
-use std::sync::atomic::{AtomicBool, AtomicUsize, Ordering::Relaxed, Ordering::SeqCst};
+use std::sync::atomic::{AtomicBool, AtomicU64, AtomicUsize, Ordering::Relaxed, Ordering::SeqCst};
 use std::sync::Arc;
 use std::time::{Duration, Instant};
 use yieldcleat_client::{frames, Stream};
@@ -14,6 +15,9 @@ use yieldcleat_client::{frames, Stream};
 pub struct Service {
     pub handle: Handle,
     pub metrics: Arc<Metrics>,
+    pub snapshots: Arc<Snapshots>,
+    /// How many connections have been served, for their numbers.
+    pub connections: AtomicU64,
     pub frame_bytes: u32,
     pub delta_bytes: u32,
     /// How long a client may stall within a frame, and read no answer.
@@ -37,13 +41,20 @@ enum Frame<'a> {
 ///
 /// Errors are those of the socket: the client has left, or stalls.
 pub fn serve(stream: Stream, service: &Service) -> io::Result<()> {
+    let connection = service.connections.fetch_add(1, Relaxed);
+    let ended = serve_as(connection, stream, service);
+    service.snapshots.release(Owner::Connection(connection));
+    ended
+}
+
+fn serve_as(connection: u64, stream: Stream, service: &Service) -> io::Result<()> {
     stream.set_timeouts(Some(service.patience), Some(service.patience))?;
     let mut writer = stream.try_clone()?;
     let mut reader = BufReader::with_capacity(1 << 16, stream);
     while wait(&mut reader, service)? {
         let frames = gather(&mut reader, service)?;
         service.busy.fetch_add(1, SeqCst);
-        let answered = answer(frames, service).map_or(Ok(true), |bytes| {
+        let answered = answer(connection, frames, service).map_or(Ok(true), |bytes| {
             service.metrics.sent.fetch_add(bytes.len() as u64, Relaxed);
             writer.write_all(&bytes).map(|()| false)
         });
@@ -111,14 +122,14 @@ fn read<'a>(reader: &mut BufReader<Stream>, length: u32, share: Option<Share<'a>
 }
 
 /// The frames of the answers; nothing where the server is about to end, and nobody may take a missing answer for one.
-fn answer(frames: Vec<Frame>, service: &Service) -> Option<Vec<u8>> {
+fn answer(connection: u64, frames: Vec<Frame>, service: &Service) -> Option<Vec<u8>> {
     let (mut verdicts, mut asked, mut shares) = (Vec::new(), Vec::new(), Vec::new());
     for frame in frames {
         verdicts.push(match frame {
             Frame::TooLong => Some(b"long frame".to_vec()),
             Frame::Whole(request, share) => {
                 shares.push(share);
-                own_answer(request, &mut asked, service)
+                own_answer(connection, request, &mut asked, service)
             }
         });
     }
@@ -137,7 +148,10 @@ fn answer(frames: Vec<Frame>, service: &Service) -> Option<Vec<u8>> {
 }
 
 /// What the server answers by itself. Otherwise the segment is asked.
-fn own_answer(request: Vec<u8>, asked: &mut Vec<Vec<u8>>, service: &Service) -> Option<Vec<u8>> {
+fn own_answer(connection: u64, request: Vec<u8>, asked: &mut Vec<Vec<u8>>, service: &Service) -> Option<Vec<u8>> {
+    if !service.snapshots.allows(connection, &request) {
+        return Some(b"busy".to_vec());
+    }
     match judge(request, service.delta_bytes) {
         Verdict::Answer(answer) => Some(answer),
         Verdict::Report => Some(service.metrics.report().into_bytes()),

@@ -187,3 +187,19 @@ def check_lock(program, folder, _disk, _choose):
     finally:
         one.close()
         other.close()
+
+
+def check_readers(program, folder, disk, _choose):
+    """A segment keeps one snapshot, so a second reader waits until the first has left."""
+    it = Store(program, folder, shim=disk).start()
+    try:
+        one, other = it.client(), it.client()
+        assert told(one, takes(1, 20)) == [b"changed"] * 20
+        assert it.ask(b"freeze 1").startswith(b"frozen ")  # that connection has ended
+        assert until(lambda: one.ask(b"freeze 7").startswith(b"frozen "))
+        assert [other.ask(b"freeze 8"), one.ask(b"freeze 9")[:7]] == [b"busy", b"frozen "]
+        assert other.ask(b"piece 0") == one.ask(b"piece 0")
+        one.close()
+        assert until(lambda: other.ask(b"freeze 8").startswith(b"frozen "))
+    finally:
+        it.close()
