@@ -190,11 +190,11 @@ class Rounds:
         choose = random.Random(f"{self.seed} round {round_}")
         mode = choose.choice(["full", "normal", "off"])
         kind, victims = self.disturb(choose)
-        deaths, well = [], self.last
+        deaths, well, most = [], self.last, self.last
         for _ in range(choose.choice([1, 1, 2])):
             how, numbers, words = self.run_and_kill(choose, mode)
             deaths.append((how, max(numbers, default=None), words[-1:]))
-            well = max([well, *numbers])
+            well, most = max([well, *numbers]), max(numbers, default=most) + 1  # each engine leaves a commit in doubt
             self.counts["deaths"] += 1
             if numbers and len(deaths) == 1 and choose.random() < 0.5:
                 break
@@ -203,7 +203,7 @@ class Rounds:
         where, least = f"round {round_}: {mode}, {kind} {victims}, {deaths}: {well} returned", self.last if mode == "off" else well
         for writes in [True] if choose.random() < 0.6 else [False, True]:
             [(is_good, now, found)] = self.child(look, self.folder / "volume", writes).said()
-            wrong = str(is_good) if is_good is not True else self.judge(least, now, well + 1, found)
+            wrong = str(is_good) if is_good is not True else self.judge(least, now, most, found)
             if wrong:
                 return f"{where}; {'a writer' if writes else 'a reader'}: {wrong}"
             least = now
@@ -214,7 +214,7 @@ class Rounds:
             return f"{where}; a reader sees {seen if isinstance(seen, str) else 'another content'}"
         self.counts["rounds"] += 1
         self.counts["returned"] += max(0, well - self.last)
-        self.counts["in doubt"] += now == well + 1
+        self.counts["in doubt"] += now > well
         self.counts["lost by off"] += now < well
         self.last = now
         return ""
