@@ -43,10 +43,10 @@ MUTANTS = {
 }
 
 
-def ran(module, *words):
+def ran(module, *words, limit=SECONDS):
     """A module of the harness that has run in a process of its own."""
     command = [sys.executable, "-m", f"harness.{module}", *map(str, words)]
-    return subprocess.run(command, cwd=ROOT / "tests", stdout=subprocess.PIPE, stderr=subprocess.STDOUT, text=True, timeout=SECONDS, check=False)
+    return subprocess.run(command, cwd=ROOT / "tests", stdout=subprocess.PIPE, stderr=subprocess.STDOUT, text=True, timeout=limit, check=False)
 
 
 def run(module, extension, store, disk, folder, *words):
@@ -59,7 +59,7 @@ def test_crash_rounds(parts, tmp_path, seed, seconds):
     """200 rounds by default, if they take less than two minutes."""
     extension, store, _ = parts
     bounds = ("--rounds", int(20 * seconds), "--seconds", 12 * seconds, "--processes", PROCESSES)
-    done = ran("many_rounds", tmp_path / "s", "--extension", extension, "--store", store, "--seed", seed, *bounds)
+    done = ran("many_rounds", tmp_path / "s", "--extension", extension, "--store", store, "--seed", seed, *bounds, limit=SECONDS + 12 * seconds)
     assert done.returncode == 0, done.stdout[-3000:]
     print(done.stdout)
 

@@ -17,7 +17,7 @@ const PIECES: u32 = 64;
 /// The longest and the first pause after rounds that failed.
 const LONGEST_PAUSE: Duration = Duration::from_secs(5);
 const FIRST_PAUSE: Duration = Duration::from_millis(100);
-/// A delta with nothing new delays the next round by one pause for each so many of its bytes.
+/// A delta with nothing new lengthens the pause before the next round, by `every` for each so many bytes.
 const USELESS: usize = 1 << 16;
 
 /// The own segment, through the queue of requests.
@@ -61,7 +61,7 @@ pub struct Gossip {
     place: usize,
     address: Address,
     local: Local,
-    /// A hash of the last delta, which has nothing new where it comes again.
+    /// A hash of the last delta: the same delta again has nothing new.
     last: Option<u64>,
     hasher: RandomState,
 }
@@ -92,7 +92,7 @@ impl Gossip {
         }
     }
 
-    /// One round, over a new connection where there is none. Returns the bytes of a delta with nothing new.
+    /// One round, over a new connection where there is none. Returns the length of a delta with nothing new, else 0.
     fn turn(&mut self, connection: &mut Option<Connection>) -> Result<usize, Error> {
         let limits = Limits { connect: self.terms.patience, answer: self.terms.patience, longest: frames::LONGEST };
         let mut peer = match connection.take().filter(Connection::is_open) {
@@ -119,8 +119,8 @@ impl Gossip {
         Ok(useless)
     }
 
-    /// Absorbs a delta, unless it is the last one again. A peer that lags sends what it has above its own anchor each time, so a delta may be
-    /// long and have nothing new. Returns the bytes of such a delta.
+    /// Absorbs a delta, unless it is the last one again. A peer that lags sends all that it has above its own anchor in each round, so such a
+    /// delta may be long. Returns its length, else 0.
     fn absorb(&mut self, summary: &[u8], delta: &[u8]) -> Result<usize, Error> {
         let hash = Some(self.hasher.hash_one(delta));
         if hash == self.last {
@@ -135,7 +135,7 @@ impl Gossip {
         Ok(0)
     }
 
-    /// Brings a snapshot of the peer, and unites it with the segment. A later round tries again where the peer's snapshot is another one's.
+    /// Brings a snapshot of the peer, and unites it with the segment. If the peer is busy with another reader, a later round tries again.
     fn bring_snapshot(&mut self, peer: &mut Connection) -> Result<(), Error> {
         let terms = self.terms.clone();
         let Ok(_one) = terms.staging.try_lock() else {

@@ -14,7 +14,7 @@ use yieldcleat_client::{answers, frames, requests};
 /// The most pages of a slice.
 const SLICE: usize = 256;
 const PAGES: usize = 1 << 16;
-/// A snapshot displaces one that a connection reads where the log has so many times the bytes at which a snapshot is scheduled.
+/// A log of so many times the bytes at which a snapshot is scheduled waits for no reader of the present snapshot.
 const OVERDUE: f64 = 4.0;
 /// No snapshot is tried within this time after one that failed.
 const AGAIN: Duration = Duration::from_secs(10);

@@ -1,13 +1,13 @@
-//! Whose snapshot a segment keeps: it keeps one at a time, so a second reader of pieces waits until the first has all of them.
+//! The owner of the snapshot that a segment keeps. A segment keeps one at a time, so a second reader waits until the first has all pieces.
 
 use std::sync::{Mutex, MutexGuard, PoisonError};
 use std::time::{Duration, Instant};
 use yieldcleat_client::{frames, requests};
 
-/// A reader that asks for no piece within this time may lose its snapshot to another one.
+/// A reader that asks for no piece within this time may lose the snapshot to another reader.
 const LEASE: Duration = Duration::from_secs(5);
 
-/// Whose snapshot it is.
+/// Who uses the snapshot.
 #[derive(Debug, Clone, Copy, PartialEq, Eq)]
 pub enum Owner {
     /// The server writes it to its files.
@@ -21,7 +21,7 @@ pub enum Owner {
 pub struct Snapshots(Mutex<Option<(Owner, Instant)>>);
 
 impl Snapshots {
-    /// Whether the owner may replace the snapshot: if so, the new one is its own.
+    /// Makes this the owner unless another one still uses the snapshot. Returns whether it is the owner.
     pub fn take(&self, owner: Owner) -> bool {
         self.take_at(owner, Instant::now())
     }
@@ -35,14 +35,14 @@ impl Snapshots {
         is_free
     }
 
-    /// Notes that the owner still reads. Nothing comes of it where the snapshot is another one's.
+    /// Extends the lease of the owner. Does nothing for anyone else.
     fn renew_at(&self, owner: Owner, now: Instant) {
         if let Some((_, used)) = self.lock().as_mut().filter(|(other, _)| *other == owner) {
             *used = now;
         }
     }
 
-    /// The owner needs the snapshot no more.
+    /// Ends the lease of the owner. Does nothing for anyone else.
     pub fn release(&self, owner: Owner) {
         let mut held = self.lock();
         if held.is_some_and(|(other, _)| other == owner) {
@@ -50,12 +50,12 @@ impl Snapshots {
         }
     }
 
-    /// Makes the server the owner, whoever reads.
+    /// Makes the server the owner, even while a connection reads.
     pub fn seize(&self) {
         *self.lock() = Some((Owner::Server, Instant::now()));
     }
 
-    /// Whether a connection may ask for this: a request for a snapshot waits while another one is read.
+    /// Whether the segment may be asked this by a connection: not for a snapshot while another owner uses the present one.
     pub fn allows(&self, connection: u64, request: &[u8]) -> bool {
         let owner = Owner::Connection(connection);
         asked(request).into_iter().all(|word| match word {
@@ -73,7 +73,7 @@ impl Snapshots {
     }
 }
 
-/// The words of what is asked, in a `many` and under a generation too.
+/// The first word of each request, also in a `many` and under a generation.
 fn asked(request: &[u8]) -> Vec<&[u8]> {
     let inside = request.strip_prefix(b"many ").map(|it| frames::inside(it).unwrap_or_default());
     inside.unwrap_or_else(|| vec![request]).into_iter().map(|it| requests::word(requests::heading(it).1)).collect()

@@ -190,7 +190,7 @@ class Proxy:
             return self.left >= 0
 
     def bound(self, left, drops):
-        """Sets how many requests may pass, or None for all, and drops what is held back where it is so."""
+        """Sets how many requests may still pass; None lets all pass. With `drops`, requests that wait are dropped."""
         with self.lock:
             self.drops += drops
             self.left = left
