@@ -1,192 +1,240 @@
 -- Two logs scanned side by side: what the one lacks of the other, by page and then by key.
-use Rattle.std.proofs.Common.{◌≡◌, ◌⊎◌, ◌↔◌, inl, inr, ⊎_elim, List, [], ◌∷◌, ◌++◌, Option, Some, Bor, refl, sym, subst, arith, rules}
-use Rattle.std.proofs.lemmas.Grind.{common_steps}
+use Rattle.std.proofs.Common.{◌≡◌, ℕ, ◌⊎◌, ◌↔◌, inl, inr, ⊎_elim, List, [], ◌∷◌, ◌++◌, Option, Some, None, Bor, refl, sym, ◌∙◌, ap, subst, arith, rules, option_map}
 use Rattle.std.specs.List.{Contains, cons_option}
-use Rattle.std.specs.Option.{option_copied}
-use Rattle.std.specs.Map.Iter.{TakesFirst, deref}
-use Rattle.std.specs.declared.cmp.Ordering.TheVariants.{Less}
+use Rattle.std.specs.Map.Iter.{TakesFirst, deref_pair}
 use Rattle.std.proofs.lemmas.Bool.Decides.{nat_tests}
-use Rattle.std.proofs.lemmas.List.Elements.{Contains-append_left, Contains-append_right}
+use Rattle.std.proofs.lemmas.List.Elements.{Contains-append_right}
 use Rattle.redo_core.specs.Data.{RecordData}
 use Rattle.redo_core.specs.Order.{IsRising, Lists}
-use Rattle.redo_core.proofs.Members.{none_in, here, there, which, each, all_of}
+use Rattle.redo_core.proofs.Members.{none_in, here, there, which, each}
 use Rattle.redo_core.proofs.Listing.{lists_push, lists_as}
+use Rattle.epoch_book.specs.Book.{BookData}
 use Rattle.hot_log.specs.Missing.{IsMissing}
-use Rattle.hot_log.specs.Paged.{PlaceBefore, place_cmp, place_of, records_in, StandsNext, IsPaged}
-use Rattle.hot_log.proofs.Maps.{rising_entries}
-use Rattle.hot_log.proofs.Paged.{Entry, Map, seen, in_order, entry_of}
-use Rattle.hot_log.proofs.Places.{Place}
+use Rattle.hot_log.specs.Paged.{PlaceBefore, place_cmp, place_of}
+use Rattle.hot_log.specs.Scanning.{EntryBefore, StandsNext, IsMapOf, IsKeptInBoth, StoresKept}
+use Rattle.hot_log.proofs.Maps.{rising_entries, before_join}
+use Rattle.hot_log.proofs.Orders.{joins_last}
+use Rattle.hot_log.proofs.Paged.{Entry, Map, own_entry, seen_in}
+use Rattle.hot_log.proofs.Places.{Place, Below}
 
--- ---- the own records: some are passed, and one of the others is next
+-- what a reference to an entry shows
+abbrev pub Seat : Type 0
+Seat = Bor Place × Bor RecordData
+
+abbrev pub shown : Option Seat → Option Entry
+shown o = option_map deref_pair o
+
+-- ---- the order of places
+pub not_below_itself : (p : Place) → Below p p → ⊥
+not_below_itself p h = grind (arith, nat_tests)
+
+pub below_trans : (p q r : Place) → Below p q → Below q r → Below p r
+below_trans p q r h k = search rules
+
+pub not_both : (p q : Place) → Below p q → Below q p → ⊥
+not_both p q h k = not_below_itself p (below_trans p q p h k)
+
+-- ---- the own entries: some are passed, and one of the others is next
 -- what is taken off a list, and what is left, are the list
-pub taken : (old : List RecordData) (first : Option (Bor RecordData)) (new : List RecordData) → TakesFirst deref old first new
-    → cons_option (option_copied first) new ≡ old
-taken old first new takes = search rules
+pub taken : (old : Map) (first : Option Seat) (new : Map) → TakesFirst deref_pair old first new → cons_option (shown first) new ≡ old
+taken old None new takes = takes.1 ∙ sym takes.0
+taken old (Some x) new takes = sym takes
 
-pub ahead_of : (old : List RecordData) (first : Option (Bor RecordData)) (new : List RecordData) → TakesFirst deref old first new
-    → IsRising PlaceBefore old → StandsNext (option_copied first) new
-ahead_of old first new takes rising = search rules
+pub ahead_of : (old : Map) (first : Option Seat) (new : Map) → TakesFirst deref_pair old first new → IsRising EntryBefore old → StandsNext (shown first) new
+ahead_of old None new takes rising = search rules
+ahead_of old (Some x) new takes rising = search rules
 
--- what is left is of all own records, and what is passed is before a record
-pub record Passes (all : List RecordData) (x : RecordData) (next : Option RecordData) (rest : List RecordData) : Type 0 where
+-- what is left is of all own entries, and what is passed is before a place
+pub record Passes (all : Map) (x : Place) (next : Option Entry) (rest : Map) : Type 0 where
   pub ahead : StandsNext next rest
-  pub among : (r : RecordData) → Contains (cons_option next rest) r → Contains all r
-  pub before : (r : RecordData) → Contains all r → Contains (cons_option next rest) r ⊎ PlaceBefore r x
+  pub among : (e : Entry) → Contains (cons_option next rest) e → Contains all e
+  pub before : (e : Entry) → Contains all e → Contains (cons_option next rest) e ⊎ Below e.0 x
 
-pub not_itself : (r : RecordData) → PlaceBefore r r → ⊥
-not_itself r h = grind (arith, nat_tests)
+pub passes_none : (all : Map) (x : Place) (next : Option Entry) (rest : Map) → StandsNext next rest → cons_option next rest ≡ all → Passes all x next rest
+passes_none all x next rest ahead is = record {
+  ahead = ahead;
+  among = λ e h. subst (λ (l : Map). Contains l e) is h;
+  before = λ e h. inl (subst (λ (l : Map). Contains l e) (sym is) h);
+}
 
-place_before : (x y z : RecordData) → PlaceBefore x y → PlaceBefore y z → PlaceBefore x z
-place_before x y z p q = search rules
-
-pub not_both : (x y : RecordData) → PlaceBefore x y → PlaceBefore y x → ⊥
-not_both x y p q = not_itself x (place_before x y x p q)
-
-pub passes_one : (all : List RecordData) (x own : RecordData) (rest : List RecordData) (first : Option (Bor RecordData)) (left : List RecordData)
-    → Passes all x (Some own) rest → PlaceBefore own x → TakesFirst deref rest first left → Passes all x (option_copied first) left
+pub passes_one : (all : Map) (x : Place) (own : Entry) (rest : Map) (first : Option Seat) (left : Map)
+    → Passes all x (Some own) rest → Below own.0 x → TakesFirst deref_pair rest first left → Passes all x (shown first) left
 passes_one all x own rest first left passes low takes =
     let is = taken rest first left takes in record {
       ahead = ahead_of rest first left takes passes.ahead.rising.1;
-      among = λ r h. passes.among r (there own rest r (subst (λ (l : List RecordData). Contains l r) is h));
-      before = λ r h. ⊎_elim
-          (λ (u : Contains (own ∷ rest) r). ⊎_elim
-          (λ (e : own ≡ r). inr (subst (λ (y : RecordData). PlaceBefore y x) e low))
-          (λ (v : Contains rest r). inl (subst (λ (l : List RecordData). Contains l r) (sym is) v))
-          (which own rest r u))
-          (λ (p : PlaceBefore r x). inr p)
-          (passes.before r h);
+      among = λ e h. passes.among e (there own rest e (subst (λ (l : Map). Contains l e) is h));
+      before = λ e h. ⊎_elim
+          (λ (u : Contains (own ∷ rest) e). ⊎_elim
+          (λ (v : own ≡ e). inr (subst (λ (y : Entry). Below y.0 x) v low))
+          (λ (v : Contains rest e). inl (subst (λ (l : Map). Contains l e) (sym is) v))
+          (which own rest e u))
+          (λ (p : Below e.0 x). inr p)
+          (passes.before e h);
     }
 
--- where none is before a record, it is among them exactly where it is next
-pub is_next : (all : List RecordData) (x own : RecordData) (rest : List RecordData) → own ∷ rest ≡ all → IsRising PlaceBefore (own ∷ rest)
-    → ((r : RecordData) → Contains all r → PlaceBefore r x → ⊥) → (own ≡ x) ↔ Contains all x
+-- where none is before an entry, it is among them exactly where it is next
+pub is_next : (all : Map) (x own : Entry) (rest : Map) → own ∷ rest ≡ all → IsRising EntryBefore (own ∷ rest)
+    → ((e : Entry) → Contains all e → Below e.0 x.0 → ⊥) → (own ≡ x) ↔ Contains all x
 is_next all x own rest is rising none_before = (
-  λ e. subst (λ (l : List RecordData). Contains l x) is (subst (Contains (own ∷ rest)) e (here own rest)),
+  λ e. subst (λ (l : Map). Contains l x) is (subst (Contains (own ∷ rest)) e (here own rest)),
   λ h. ⊎_elim
       (λ (u : own ≡ x). u)
-      (λ (u : Contains rest x). absurd (none_before own (subst (λ (l : List RecordData). Contains l own) is (here own rest)) (each (PlaceBefore own) rest x rising.0 u)))
-      (which own rest x (subst (λ (l : List RecordData). Contains l x) (sym is) h)),
+      (λ (u : Contains rest x). absurd (none_before own (subst (λ (l : Map). Contains l own) is (here own rest)) (each (EntryBefore own) rest x rising.0 u)))
+      (which own rest x (subst (λ (l : Map). Contains l x) (sym is) h)),
 )
 
--- where the one that is next is not before a record, none that is left is
-pub passed_all : (all : List RecordData) (x own : RecordData) (rest : List RecordData) → Passes all x (Some own) rest → (PlaceBefore own x → ⊥)
-    → (r : RecordData) → Contains (own ∷ rest) r ↔ (Contains all r × (PlaceBefore r x → ⊥))
-passed_all all x own rest passes not_before r = (
+-- where the one that is next is not before a place, none that is left is
+pub passed_all : (all : Map) (x : Place) (own : Entry) (rest : Map) → Passes all x (Some own) rest → (Below own.0 x → ⊥)
+    → (e : Entry) → Contains (own ∷ rest) e ↔ (Contains all e × (Below e.0 x → ⊥))
+passed_all all x own rest passes not_before e = (
   λ h. (
-    passes.among r h,
+    passes.among e h,
     λ p. ⊎_elim
-        (λ (e : own ≡ r). not_before (subst (λ (y : RecordData). PlaceBefore y x) (sym e) p))
-        (λ (u : Contains rest r). not_before (place_before own r x (each (PlaceBefore own) rest r passes.ahead.rising.0 u) p))
-        (which own rest r h),
+        (λ (u : own ≡ e). not_before (subst (λ (y : Entry). Below y.0 x) (sym u) p))
+        (λ (u : Contains rest e). not_before (below_trans own.0 e.0 x (each (EntryBefore own) rest e passes.ahead.rising.0 u) p))
+        (which own rest e h),
   ),
-  λ h. ⊎_elim (λ (u : Contains (own ∷ rest) r). u) (λ (u : PlaceBefore r x). absurd (h.1 u)) (passes.before r h.0),
+  λ h. ⊎_elim (λ (u : Contains (own ∷ rest) e). u) (λ (u : Below e.0 x). absurd (h.1 u)) (passes.before e h.0),
 )
 
--- what is left of the stored records: those that none of the others scanned is after
-abbrev pub LeftOf : List RecordData → List RecordData → List RecordData → Type 0
-LeftOf held seen left = (r : RecordData) → Contains left r ↔ (Contains held r × ((y : RecordData) → Contains seen y → PlaceBefore r y → ⊥))
+-- where none is left, all were before the place
+pub passed_none : (all : Map) (x : Place) (rest : Map) → Passes all x None rest → (e : Entry) → Contains rest e ↔ (Contains all e × (Below e.0 x → ⊥))
+passed_none all x rest passes e = (
+  λ h. absurd (none_in e (subst (λ (l : Map). Contains l e) (passes.ahead.ended refl) h)),
+  λ h. ⊎_elim (λ (u : Contains rest e). u) (λ (u : Below e.0 x). absurd (h.1 u)) (passes.before e h.0),
+)
 
--- the records are those of a list that are not stored, in the order of that list
-abbrev pub LacksOf : List RecordData → List RecordData → List RecordData → Type 0
-LacksOf held seen missing = Lists PlaceBefore (λ r. Contains seen r × (Contains held r → ⊥)) missing
+-- ---- what a log stores, as entries
+abbrev pub Stores : List RecordData → Entry → Type 0
+Stores held e = (e.0 ≡ place_of e.1) × Contains held e.1
+
+pub stores : (held : List RecordData) (m : Map) → IsMapOf held m → (e : Entry) → Contains m e ↔ Stores held e
+stores held m is e = (
+  λ h. (is.paged.placed e h, subst (λ (l : List RecordData). Contains l e.1) is.sees (seen_in m e h)),
+  λ h. subst (λ (p : Place). Contains m (p, e.1)) (sym h.0) (own_entry m is.paged e.1 (subst (λ (l : List RecordData). Contains l e.1) (sym is.sees) h.1)),
+)
+
+pub rises : (held : List RecordData) (m : Map) → IsMapOf held m → IsRising EntryBefore m
+rises held m is = rising_entries place_cmp m is.paged.ordered
+
+-- those scanned are before the one that the walk has reached
+pub before_next : (held : List RecordData) (m xs ys : Map) (x : Entry) → IsMapOf held m → m ≡ xs ++ x ∷ ys → (f : Entry) → Contains xs f → Below f.0 x.0
+before_next held m xs ys x is split f h = before_join EntryBefore xs ys x f (subst (IsRising EntryBefore) split (rises held m is)) h
+
+pub joined : (xs ys : Map) (x : Entry) → Contains (xs ++ x ∷ ys) x
+joined xs ys x = Contains-append_right xs (x ∷ ys) x (here x ys)
+
+pub of_split : (held : List RecordData) (m xs ys : Map) (x : Entry) → IsMapOf held m → m ≡ xs ++ x ∷ ys → Stores held x
+of_split held m xs ys x is split = (stores held m is x).0 (subst (λ (l : Map). Contains l x) (sym split) (joined xs ys x))
+
+-- ---- what is left of the own entries: those that none of the others scanned is after
+abbrev pub LeftOf : List RecordData → Map → Map → Type 0
+LeftOf held so_far left = (e : Entry) → Contains left e ↔ (Stores held e × ((f : Entry) → Contains so_far f → Below e.0 f.0 → ⊥))
+
+pub left_first : (held : List RecordData) (m : Map) → IsMapOf held m → LeftOf held [] m
+left_first held m is e = (λ h. ((stores held m is e).0 h, λ f k. absurd (none_in f k)), λ h. (stores held m is e).1 h.0)
+
+pub left_next : (held : List RecordData) (so_far own left : Map) (x : Entry) → LeftOf held so_far own
+    → ((e : Entry) → Contains left e ↔ (Contains own e × (Below e.0 x.0 → ⊥))) → LeftOf held (so_far ++ x ∷ []) left
+left_next held so_far own left x was goes e = (
+  λ h.
+      let k = (goes e).0 h in
+      let w = (was e).0 k.0 in (
+        w.0,
+        λ f q p. ⊎_elim
+            (λ (u : Contains so_far f). w.1 f u p)
+            (λ (u : f ≡ x). k.1 (subst (λ (y : Entry). Below e.0 y.0) u p))
+            ((joins_last so_far x f).0 q),
+      ),
+  λ h. (goes e).1 (
+    (was e).1 (h.0, λ f q. h.1 f ((joins_last so_far x f).1 (inl q))),
+    h.1 x ((joins_last so_far x x).1 (inr refl)),
+  ),
+)
+
+-- an entry above those scanned is stored exactly if it is left
+pub held_left : (held : List RecordData) (so_far own left : Map) (x : Entry) → LeftOf held so_far own
+    → ((e : Entry) → Contains left e ↔ (Contains own e × (Below e.0 x.0 → ⊥))) → ((f : Entry) → Contains so_far f → Below f.0 x.0)
+    → x.0 ≡ place_of x.1 → Contains held x.1 ↔ Contains left x
+held_left held so_far own left x was goes before placed = (
+  λ h. (goes x).1 ((was x).1 ((placed, h), λ f k p. not_both x.0 f.0 p (before f k)), not_below_itself x.0),
+  λ h. ((was x).0 ((goes x).0 h).0).0.1,
+)
+
+-- ---- the records that are not stored, in the order of the other log
+abbrev pub LacksOf : List RecordData → Map → List RecordData → Type 0
+LacksOf held so_far missing = Lists PlaceBefore (λ r. Contains so_far (place_of r, r) × (Contains held r → ⊥)) missing
 
 pub lacks_none : (held missing : List RecordData) → missing ≡ [] → LacksOf held [] missing
 lacks_none held missing is = search rules
 
-at_end : (seen : List RecordData) (x y : RecordData) → Contains (seen ++ x ∷ []) y → Contains seen y ⊎ (y ≡ x)
-at_end seen x y h = grind (arith, common_steps)
+at_place : (x : Entry) (r : RecordData) → x.0 ≡ place_of x.1 → (◌≡◌ {A = Entry} (place_of r, r) x) ↔ (r ≡ x.1)
+at_place x r placed = (
+  λ h. ap (λ (e : Entry). e.1) h,
+  λ h. subst (λ (p : Place). ◌≡◌ {A = Entry} (place_of r, r) (p, x.1)) (sym placed) (ap {A = RecordData} {B = Entry} (λ (s : RecordData). (place_of s, s)) h),
+)
 
-of_end : (seen : List RecordData) (x y : RecordData) → Contains seen y ⊎ (y ≡ x) → Contains (seen ++ x ∷ []) y
-of_end seen x y h = search (rules, Contains-append_left, Contains-append_right)
-
-pub lacks_more : (held seen missing : List RecordData) (x : RecordData) → LacksOf held seen missing → ((y : RecordData) → Contains seen y → PlaceBefore y x)
-    → (Contains held x → ⊥) → LacksOf held (seen ++ x ∷ []) (missing ++ x ∷ [])
-lacks_more held seen missing x lists before lacks =
-    lists_push PlaceBefore (λ r. Contains seen r × (Contains held r → ⊥)) (λ r. Contains (seen ++ x ∷ []) r × (Contains held r → ⊥)) missing x lists
-    (λ y h. before y h.0)
-    (λ y. (
-      λ h. ⊎_elim (λ (u : Contains seen y). inl (u, h.1)) (λ (u : y ≡ x). inr u) (at_end seen x y h.0),
+pub lacks_more : (held : List RecordData) (so_far : Map) (missing : List RecordData) (x : Entry) → LacksOf held so_far missing
+    → ((f : Entry) → Contains so_far f → Below f.0 x.0) → x.0 ≡ place_of x.1 → (Contains held x.1 → ⊥) → LacksOf held (so_far ++ x ∷ []) (missing ++ x.1 ∷ [])
+lacks_more held so_far missing x lists before placed lacks =
+    lists_push PlaceBefore (λ r. Contains so_far (place_of r, r) × (Contains held r → ⊥)) (λ r. Contains (so_far ++ x ∷ []) (place_of r, r) × (Contains held r → ⊥)) missing x.1 lists
+    (λ r h. subst (Below (place_of r)) placed (before (place_of r, r) h.0))
+    (λ r. (
       λ h. ⊎_elim
-          (λ (u : Contains seen y × (Contains held y → ⊥)). (of_end seen x y (inl u.0), u.1))
-          (λ (u : y ≡ x). (of_end seen x y (inr u), subst (λ (z : RecordData). Contains held z → ⊥) (sym u) lacks))
+          (λ (u : Contains so_far (place_of r, r)). inl (u, h.1))
+          (λ (u : ◌≡◌ {A = Entry} (place_of r, r) x). inr ((at_place x r placed).0 u))
+          ((joins_last so_far x (place_of r, r)).0 h.0),
+      λ h. ⊎_elim
+          (λ (u : Contains so_far (place_of r, r) × (Contains held r → ⊥)). ((joins_last so_far x (place_of r, r)).1 (inl u.0), u.1))
+          (λ (u : r ≡ x.1). ((joins_last so_far x (place_of r, r)).1 (inr ((at_place x r placed).1 u)), subst (λ (s : RecordData). Contains held s → ⊥) (sym u) lacks))
           h,
     ))
 
-pub lacks_known : (held seen missing : List RecordData) (x : RecordData) → LacksOf held seen missing → Contains held x → LacksOf held (seen ++ x ∷ []) missing
-lacks_known held seen missing x lists known =
-    lists_as PlaceBefore (λ r. Contains seen r × (Contains held r → ⊥)) (λ r. Contains (seen ++ x ∷ []) r × (Contains held r → ⊥)) missing
-    (λ y. (
-      λ h. (of_end seen x y (inl h.0), h.1),
-      λ h. ⊎_elim (λ (u : Contains seen y). (u, h.1)) (λ (u : y ≡ x). absurd (h.1 (subst (Contains held) (sym u) known))) (at_end seen x y h.0),
-    ))
-    lists
-
--- ---- the records of a map rise by page and key
-rising_records : (es : List Entry) → ((e : Entry) → Contains es e → e.0 ≡ place_of e.1) → IsRising (λ (x y : Entry). place_cmp x.0 y.0 ≡ Less) es
-    → IsRising PlaceBefore (records_in es)
-rising_records [] placed rising = tt
-rising_records (e ∷ es) placed rising = (
-  all_of (PlaceBefore e.1) (records_in es) (λ r h.
-      let t = entry_of es r h in
-      let less : place_cmp e.0 t.0 ≡ Less = each (λ (f : Entry). place_cmp e.0 f.0 ≡ Less) es (t.0, r) rising.0 t.1 in
-      subst (λ (p : Place). place_cmp (place_of e.1) p ≡ Less) (placed (t.0, r) (there e es (t.0, r) t.1))
-      (subst (λ (p : Place). place_cmp p t.0 ≡ Less) (placed e (here e es)) less)),
-  rising_records es (λ f h. placed f (there e es f h)) rising.1,
-)
-
-before_rest : (xs ys : List RecordData) (x y : RecordData) → IsRising PlaceBefore (xs ++ x ∷ ys) → Contains xs y → PlaceBefore y x
-before_rest [] ys x y rising h = absurd (none_in y h)
-before_rest (z ∷ zs) ys x y rising h =
-    ⊎_elim
-    (λ (u : z ≡ y). subst (λ (w : RecordData). PlaceBefore w x) u (each (PlaceBefore z) (zs ++ x ∷ ys) x rising.0 (Contains-append_right zs (x ∷ ys) x (here x ys))))
-    (λ (u : Contains zs y). before_rest zs ys x y rising.1 u)
-    (which z zs y h)
-
-pub map_rising : (m : Map) → IsPaged m → IsRising PlaceBefore (records_in m)
-map_rising m paged = rising_records m paged.placed (rising_entries place_cmp m paged.ordered)
-
--- those scanned are before the one that the walk has reached
-pub before_next : (m : Map) (xs ys : List RecordData) (x : RecordData) → IsPaged m → records_in m ≡ xs ++ x ∷ ys
-    → (y : RecordData) → Contains xs y → PlaceBefore y x
-before_next m xs ys x paged split y h = search (rules, before_rest, map_rising)
-
-pub lacks_all : (m : Map) (held seen_so missing : List RecordData) → records_in m ≡ seen_so → LacksOf held seen_so missing
-    → Lists PlaceBefore (IsMissing held (seen m)) missing
-lacks_all m held seen_so missing all lists =
-    lists_as PlaceBefore (λ r. Contains seen_so r × (Contains held r → ⊥)) (IsMissing held (seen m)) missing
+pub lacks_known : (held : List RecordData) (so_far : Map) (missing : List RecordData) (x : Entry) → LacksOf held so_far missing → Contains held x.1
+    → LacksOf held (so_far ++ x ∷ []) missing
+lacks_known held so_far missing x lists known =
+    lists_as PlaceBefore (λ r. Contains so_far (place_of r, r) × (Contains held r → ⊥)) (λ r. Contains (so_far ++ x ∷ []) (place_of r, r) × (Contains held r → ⊥)) missing
     (λ r. (
-      λ h. ((in_order (records_in m) r).1 (subst (λ (l : List RecordData). Contains l r) (sym all) h.0), h.1),
-      λ h. (subst (λ (l : List RecordData). Contains l r) all ((in_order (records_in m) r).0 h.0), h.1),
+      λ h. ((joins_last so_far x (place_of r, r)).1 (inl h.0), h.1),
+      λ h. ⊎_elim
+          (λ (u : Contains so_far (place_of r, r)). (u, h.1))
+          (λ (u : ◌≡◌ {A = Entry} (place_of r, r) x). absurd (h.1 (subst (Contains held) (ap (λ (e : Entry). e.1) (sym u)) known)))
+          ((joins_last so_far x (place_of r, r)).0 h.0),
     ))
     lists
 
--- ---- what is left of the own records
-pub left_first : (m : Map) → LeftOf (seen m) [] (records_in m)
-left_first m r = (λ h. ((in_order (records_in m) r).1 h, λ y k. absurd (none_in y k)), λ h. (in_order (records_in m) r).0 h.0)
+pub lacks_all : (held other : List RecordData) (m so_far : Map) (missing : List RecordData) → IsMapOf other m → m ≡ so_far → LacksOf held so_far missing
+    → Lists PlaceBefore (IsMissing held other) missing
+lacks_all held other m so_far missing is all lists =
+    lists_as PlaceBefore (λ r. Contains so_far (place_of r, r) × (Contains held r → ⊥)) (IsMissing held other) missing
+    (λ r. (
+      λ h. (((stores other m is (place_of r, r)).0 (subst (λ (l : Map). Contains l (place_of r, r)) (sym all) h.0)).1, h.1),
+      λ h. (subst (λ (l : Map). Contains l (place_of r, r)) all ((stores other m is (place_of r, r)).1 (refl, h.0)), h.1),
+    ))
+    lists
 
-pub left_next : (held seen_so own left : List RecordData) (x : RecordData) → LeftOf held seen_so own
-    → ((r : RecordData) → Contains left r ↔ (Contains own r × (PlaceBefore r x → ⊥))) → LeftOf held (seen_so ++ x ∷ []) left
-left_next held seen_so own left x was goes r = (
-  λ h.
-      let k = (goes r).0 h in
-      let w = (was r).0 k.0 in (
-        w.0,
-        λ y q p. ⊎_elim
-            (λ (u : Contains seen_so y). w.1 y u p)
-            (λ (u : y ≡ x). k.1 (subst (PlaceBefore r) u p))
-            (at_end seen_so x y q),
-      ),
-  λ h. (goes r).1 (
-    (was r).1 (h.0, λ y q. h.1 y (of_end seen_so x y (inl q))),
-    h.1 x (of_end seen_so x x (inr refl)),
-  ),
-)
+-- ---- the records that both views keep are stored so far
+abbrev pub StoredIn : BookData → List RecordData → ℕ → BookData → ℕ → Map → Type 0
+StoredIn book held point low base so_far = (e : Entry) → Contains so_far e → IsKeptInBoth book point low base e.0.1 → Contains held e.1
 
--- a record above those scanned is stored exactly if it is left
-pub held_left : (held seen_so own left : List RecordData) (x : RecordData) → LeftOf held seen_so own
-    → ((r : RecordData) → Contains left r ↔ (Contains own r × (PlaceBefore r x → ⊥))) → ((y : RecordData) → Contains seen_so y → PlaceBefore y x)
-    → Contains held x ↔ Contains left x
-held_left held seen_so own left x was goes before = (
-  λ h. (goes x).1 ((was x).1 (h, λ y k p. not_both x y p (before y k)), not_itself x),
-  λ h. ((was x).0 ((goes x).0 h).0).0,
-)
+pub stored_none : (book : BookData) (held : List RecordData) (point : ℕ) (low : BookData) (base : ℕ) → StoredIn book held point low base []
+stored_none book held point low base e h = absurd (none_in e h)
+
+pub stored_more : (book : BookData) (held : List RecordData) (point : ℕ) (low : BookData) (base : ℕ) (so_far : Map) (x : Entry) → StoredIn book held point low base so_far
+    → (IsKeptInBoth book point low base x.0.1 → Contains held x.1) → StoredIn book held point low base (so_far ++ x ∷ [])
+stored_more book held point low base so_far x was one e h kept =
+    ⊎_elim
+    (λ (u : Contains so_far e). was e u kept)
+    (λ (u : e ≡ x). subst (λ (y : Entry). Contains held y.1) (sym u) (one (subst (λ (y : Entry). IsKeptInBoth book point low base y.0.1) u kept)))
+    ((joins_last so_far x e).0 h)
+
+pub stored_all : (book : BookData) (held : List RecordData) (point : ℕ) (low : BookData) (lower : List RecordData) (base : ℕ) (m so_far : Map) → IsMapOf lower m → m ≡ so_far
+    → StoredIn book held point low base so_far → StoresKept book held point low lower base
+stored_all book held point low lower base m so_far is all stored r h kept =
+    stored (place_of r, r) (subst (λ (l : Map). Contains l (place_of r, r)) all ((stores lower m is (place_of r, r)).1 (refl, h))) kept
+
+-- one that both keep and that is not left is not stored
+pub lacks_one : (book : BookData) (held : List RecordData) (point : ℕ) (low : BookData) (lower : List RecordData) (base : ℕ) (left : Map) (x : Entry) → Stores lower x
+    → Contains held x.1 ↔ Contains left x → IsKeptInBoth book point low base x.0.1 × (Contains left x → ⊥) → StoresKept book held point low lower base → ⊥
+lacks_one book held point low lower base left x of there lacks stored =
+    lacks.1 (there.0 (stored x.1 of.1 (subst (λ (p : Place). IsKeptInBoth book point low base p.1) of.0 lacks.0)))

@@ -12,3 +12,4 @@ pub mod Missing
 pub mod Kept
 pub mod Gaps
 pub mod Seen
+pub mod Scanning

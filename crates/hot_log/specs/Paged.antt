@@ -1,7 +1,6 @@
 -- A map of records by page and key, seen in the order of the keys.
-use Rattle.std.specs.Prelude.{◌≡◌, ℕ, ◌<◌, Bool, ◌==◌, nat_lt, ◌&&◌, ◌||◌, if◌then◌else◌, List, [], ◌∷◌, map, Option, None}
-use Rattle.std.specs.List.{Contains, cons_option}
-use Rattle.std.specs.Option.{IsNone}
+use Rattle.std.specs.Prelude.{◌≡◌, ℕ, ◌<◌, Bool, ◌==◌, nat_lt, ◌&&◌, ◌||◌, if◌then◌else◌, List, [], ◌∷◌, map, None}
+use Rattle.std.specs.List.{Contains}
 use Rattle.std.specs.Ordering.{nat_cmp, ordering_then}
 use Rattle.std.specs.declared.cmp.Ordering.{Ordering}
 use Rattle.std.specs.declared.cmp.Ordering.TheVariants.{Less}
@@ -10,7 +9,6 @@ use Rattle.std.specs.List.Sorted.{IsStrictlySortedBy}
 use Rattle.redo_core.specs.Data.{RecordData}
 use Rattle.redo_core.specs.Keys.{key_of, key_cmp}
 use Rattle.redo_core.specs.declared.keys.Key.{Key}
-use Rattle.redo_core.specs.Order.{IsRising}
 use Rattle.redo_core.specs.Shape.{record_fault}
 
 -- the order of keys in groups, such as pages
@@ -24,11 +22,6 @@ place_of r = (r.page, key_of r)
 -- a record's page, or on one page its key, is below that of another
 abbrev pub PlaceBefore : RecordData → RecordData → Type 0
 PlaceBefore r s = place_cmp (place_of r) (place_of s) ≡ Less
-
--- the record that comes next and the rest rise by page and key; where none comes next, none is left
-pub record StandsNext (next : Option RecordData) (rest : List RecordData) : Type 0 where
-  pub rising : IsRising PlaceBefore (cons_option next rest)
-  pub ended : IsNone next → rest ≡ []
 
 abbrev pub records_in : List ((ℕ × Key) × RecordData) → List RecordData
 records_in entries = map (λ (e : (ℕ × Key) × RecordData). e.1) entries

@@ -8,11 +8,12 @@
 //!
 //! The records are stored by page and, within a page, by key (`records`); beside them are the page of each key (`key_pages`) and the
 //! keys by segment backlink from a point on (`index`), all with a key in one word (`packed`). `view` has the queries of a view; `search` has those that
-//! go from key to key, and `links` those that follow backlinks; `unlisted` has the kept records that a list of keys lacks. `removal`
-//! removes records one by one, and `ahead` iterates over one log in step with another.
+//! go from key to key, and `links` those that follow backlinks; `unlisted` has the kept records that a list of keys lacks.
+//! `removal` removes records one by one. `comparing` compares what two logs keep, and `ahead` iterates over one log in step with another.
 #![tactic(auto)]
 
 mod ahead;
+mod comparing;
 mod fixed;
 mod index;
 mod key_pages;

@@ -11,6 +11,7 @@ ghost use Rattle.hot_log.specs.Missing.{IsMissing};
 ghost use Rattle.hot_log.specs.Paged.{PlaceBefore};
 ghost use Rattle.hot_log.specs.Putting.{Puts, RefusesPut};
 ghost use Rattle.hot_log.specs.Removing.{IsFolded, Removes};
+ghost use Rattle.hot_log.specs.Scanning.{IsMapOf};
 ghost use Rattle.hot_log.specs.declared.log.PutFault.TheVariants.{Memory as OfMemory};
 ghost use Rattle.std.specs.List.{Contains};
 
@@ -227,6 +228,13 @@ impl HotLog {
         ensures form { IsHeld self.now }
     {
         self.by_key.above(PackedKey::capped(after))
+    }
+
+    // The records with their pages and keys, by page, and within a page by key.
+    pub(crate) fn entries(&self) -> Entries<'_, (u16, PackedKey), Record>
+        ensures { IsMapOf self.now result }
+    {
+        self.records.entries()
     }
 
     // The record of a page and a key, or None where there is none.

@@ -11,6 +11,7 @@ ghost use Rattle.hot_log.specs.Found.{IsPageAfter};
 ghost use Rattle.hot_log.specs.Indexing.{IsKeyPages, IsRecordOf, IsNextRecord, IsLastRecord};
 ghost use Rattle.hot_log.specs.Missing.{IsMissing};
 ghost use Rattle.hot_log.specs.Paged.{PlaceBefore};
+ghost use Rattle.hot_log.specs.Scanning.{IsMapOf};
 ghost use Rattle.hot_log.specs.Removing.{IsBetween, Removes, RemovesRow, UnlistsRow};
 
 use crate::ahead::Ahead;
@@ -19,7 +20,7 @@ use crate::packed::PackedKey;
 use crate::search::is_alive;
 use epoch_book::EpochBook;
 use redo_core::{Key, Record, Refused};
-use sorted_runs::SortedRuns;
+use sorted_runs::{Entries, SortedRuns};
 use std::alloc::{AllocError, Global};
 use std::marker::Model;
 use std::ops::Bound;
@@ -210,6 +211,13 @@ impl PagedRecords {
 }
 
 impl PagedRecords {
+    /// The records with their pages and keys, by page, and within a page by key.
+    pub fn entries(&self) -> Entries<'_, (u16, PackedKey), Record>
+        ensures { IsMapOf self.now result }
+    {
+        self.map.iter()
+    }
+
     /// The records of another log that this one does not store, by page, and within a page by key. It scans both logs side by side,
     /// without look-ups. The only error is an allocation failure.
     pub fn missing_by_page<'a>(
@@ -220,10 +228,10 @@ impl PagedRecords {
         ensures { IfOk result (λ v. Lists PlaceBefore (IsMissing self.now other.now) (map (λ x. x.now) v.items)) }
     {
         let mut missing = Vec::new(alloc);
-        let mut own = Ahead::new(self.map.iter());
-        for (_, redo) in other.map.iter() {
-            own.pass_to(redo);
-            if !own.is_at(redo) {
+        let mut own = Ahead::new(self.entries());
+        for (place, redo) in other.entries() {
+            own.pass_to(place);
+            if !own.is_at(place, redo) {
                 missing.push(redo)?;
             }
         }

@@ -9,6 +9,7 @@ ghost use Rattle.hot_log.specs.Found.{IsPageAfter};
 ghost use Rattle.hot_log.specs.Missing.{IsMissing};
 ghost use Rattle.hot_log.specs.Paged.{PlaceBefore};
 ghost use Rattle.hot_log.specs.Kept.{ListsKeysOf};
+ghost use Rattle.hot_log.specs.Scanning.{StoresKept};
 ghost use Rattle.page_base.specs.Stored.{IsStored};
 ghost use Rattle.segment_theorems.specs.HasMeaning.{IsKeptBy};
 ghost use Rattle.segment_theorems.specs.State.{version_of, image_of};
@@ -143,6 +144,19 @@ impl Segment {
         ensures { IfOk result (λ v. Lists PlaceBefore (IsMissing self.now.held other.now.held) (map (λ x. x.now) v.items)) }
     {
         self.hot.missing_by_page(self.alloc, &other.hot)
+    }
+
+    /// Whether this segment stores each record of another one that both keep, this one above a point and the other one above a base: the
+    /// record waits, or is alive above that LSN. It scans both side by side, and ends at the first that is not stored.
+    pub fn stores_kept(&self, point: u64, lower: &Segment, base: u64) -> bool
+        ensures { IsTrue result ↔ StoresKept self.now.book self.now.held point lower.now.book lower.now.held base }
+    {
+        let (book, held) = (&self.book, &self.hot);
+        let other = View {
+            book: &lower.book,
+            held: &lower.hot,
+        };
+        View { book, held }.stores_kept(point, &other, base)
     }
 
     /// The alive records of a page with an LSN above `from` and at most `to`, in order. It fails only if memory runs out.

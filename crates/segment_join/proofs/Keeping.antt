@@ -11,6 +11,7 @@ use Rattle.log_theorems.proofs.Fronts.{settled_alive}
 use Rattle.log_theorems.proofs.Meanings.{in_map, from_map}
 use Rattle.hot_log.specs.Held.{HasKey, IsRecordAt}
 use Rattle.hot_log.specs.Kept.{KeepsKey, ListsKeysOf}
+use Rattle.hot_log.specs.Scanning.{StoresKept}
 use Rattle.segment_theorems.specs.State.{State}
 use Rattle.segment_theorems.specs.HasMeaning.{IsKeptBy}
 use Rattle.segment_core.proofs.Keys.{one_of_key}
@@ -38,17 +39,19 @@ same_at s t key r x same rising other_rising at held tells = (
   λ each. tells.1 (one_of_key s.held x r rising held.0 (each r at.0 at.1) (held.1.0 ∙ sym at.1.0) (held.1.1 ∙ sym at.1.1)),
 )
 
--- a record that is stored is kept, or needed no more
-pub own_record : (s : State) (anchor : ℕ) (r : RecordData) → Contains s.held r → HasRecord s anchor r
-own_record s anchor r has =
-    ⊎_elim
-    (λ (wanted : KeepsKey s.book anchor (key_of r)). inl (has, wanted))
-    (λ (needless : KeepsKey s.book anchor (key_of r) → ⊥). needless_has s anchor r needless)
-    (settled_wanted s anchor r)
-  where
-    settled_wanted : (s : State) (anchor : ℕ) (r : RecordData) → Settled (KeepsKey s.book anchor (key_of r))
-    settled_wanted s anchor r = settled_or _ _ (settled_lt s.book.complete r.epoch)
-        (settled_and _ _ (settled_alive s.book.cuts s.book.complete r.epoch r.number) (λ _. settled_lt anchor r.number))
+settled_wanted : (s : State) (anchor : ℕ) (r : RecordData) → Settled (KeepsKey s.book anchor (key_of r))
+settled_wanted s anchor r = settled_or _ _ (settled_lt s.book.complete r.epoch)
+    (settled_and _ _ (settled_alive s.book.cuts s.book.complete r.epoch r.number) (λ _. settled_lt anchor r.number))
+
+-- each kept record is there exactly where each that both keep is stored
+pub by_stored : (s : State) (anchor : ℕ) (t : State) (base : ℕ) → StoresKept s.book s.held anchor t.book t.held base ↔ HasAllKept s anchor t base
+by_stored s anchor t base = (
+  λ each r kept. ⊎_elim
+      (λ (wanted : KeepsKey s.book anchor (key_of r)). inl (each r kept.0 (kept.1, wanted), wanted))
+      (λ (needless : KeepsKey s.book anchor (key_of r) → ⊥). needless_has s anchor r needless)
+      (settled_wanted s anchor r),
+  λ has r held both. wanted_is_held s anchor r both.1 (has r (held, both.0)),
+)
 
 -- the records of just the kept keys are there exactly where each kept record is
 pub at_all_keys : (s : State) (anchor : ℕ) (t : State) (base : ℕ) (keys : List Key) → IsRising RecordBefore t.held → ListsKeysOf (IsKeptBy t base) keys

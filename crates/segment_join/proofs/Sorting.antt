@@ -12,9 +12,9 @@ use Rattle.redo_core.specs.Keys.{key_of, key_cmp}
 use Rattle.redo_core.specs.declared.keys.Key.{Key}
 use Rattle.redo_core.specs.Order.{IsRising, Lists, RecordBefore}
 use Rattle.redo_core.proofs.Members.{here, there, each, all_of}
-use Rattle.hot_log.specs.Paged.{PlaceBefore}
+use Rattle.hot_log.specs.Paged.{PlaceBefore, place_of}
 use Rattle.hot_log.proofs.Orders.{key_total}
-use Rattle.hot_log.proofs.Sides.{not_itself}
+use Rattle.hot_log.proofs.Sides.{not_below_itself}
 
 -- ---- how many records of a list have a key
 
@@ -61,7 +61,7 @@ at_most_one e n (x ∷ xs) rising one =
     (λ (u : (x.epoch ≡ e) × (x.number ≡ n) × (of_key e n x ≡ 1)).
     let none = none_of e n xs (λ r h p q.
     let same : x ≡ r = one x r (here x xs) (there x xs r h) (u.0 ∙ sym p) (u.1 ∙ sym q) in
-    not_itself x (subst (PlaceBefore x) (sym same) (each (PlaceBefore x) xs r rising.0 h))) in
+    not_below_itself (place_of x) (subst (PlaceBefore x) (sym same) (each (PlaceBefore x) xs r rising.0 h))) in
     let first = u.2 in
     omega (arith, all, none, first))
     (λ (u : of_key e n x ≡ 0).

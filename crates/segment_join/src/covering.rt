@@ -1,6 +1,5 @@
-ghost use Rattle.std.specs.Prelude.{◌≡◌, ℕ, ◌≤◌, ◌↔◌, List, map, IsTrue, IfOk};
+ghost use Rattle.std.specs.Prelude.{ℕ, ◌≤◌, ◌↔◌, List, IsTrue, IfOk};
 ghost use Rattle.std.specs.List.{Contains, AllZip, All};
-ghost use Rattle.redo_core.specs.Data.{RecordData};
 ghost use Rattle.redo_core.specs.Meaning.{Meaning, IsMeaning};
 ghost use Rattle.redo_core.specs.AtMost.{IsAtMost};
 ghost use Rattle.redo_core.specs.Sound.{IsSound};
@@ -10,12 +9,10 @@ ghost use Rattle.log_theorems.specs.OrderOfMeanings.{Covers};
 ghost use Rattle.segment_theorems.specs.Means.{Means};
 ghost use Rattle.segment_theorems.specs.HasMeaning.{HasAnchor, HasMeaning};
 ghost use Rattle.segment_theorems.specs.Known.{IsKnown};
-ghost use Rattle.hot_log.specs.Missing.{IsMissing};
-ghost use Rattle.segment_join.specs.Covering.{HasRecord, HasKept, HasAllKept, HasAt, IsHeldAt, CoversBook, CoversState, CoversByParts};
+ghost use Rattle.segment_join.specs.Covering.{HasAllKept, HasAt, IsHeldAt, CoversBook, CoversState, CoversByParts};
 
-use crate::missing::keeps;
 use log_theorems::order_by_parts;
-use redo_core::{Advance, Cut, Key, Record};
+use redo_core::{Advance, Cut, Key};
 use segment_core::{Segment, prefers_lookup};
 use segment_theorems::same_meaning;
 use std::alloc::AllocError;
@@ -60,15 +57,8 @@ fn has_all(upper: &Segment, anchor: u64, lower: &Segment, base: u64) -> Result<b
     if prefers_lookup(keys.len(), lower) {
         return Ok(has_keys(upper, anchor, lower, &keys));
     }
-    has_missing(upper, anchor, lower, base)
-}
-
-/// The same by one scan over the records of both, side by side.
-fn has_missing(upper: &Segment, anchor: u64, lower: &Segment, base: u64) -> Result<bool, AllocError>
-    ensures { IfOk result (λ answer. IsTrue answer ↔ HasAllKept upper.now anchor lower.now base) }
-{
-    let missing = upper.missing_by_page(lower)?;
-    Ok(has_records(upper, anchor, lower, base, &missing))
+    // One scan over the records of both, side by side, costs less than many look-ups.
+    Ok(upper.stores_kept(anchor, lower, base))
 }
 
 /// Whether an upper segment keeps the record that a lower one stores under each of these keys, or needs it no more.
@@ -151,43 +141,6 @@ fn are_at_most(lower: &[u64], upper: &[u64]) -> bool
     }
     for (place, low) in lower.iter().enumerate() {
         if upper[place] < *low {
-            return false;
-        }
-    }
-    true
-}
-
-/// Whether a segment with this anchor needs a record no more that it does not hold: it is dead, or at or below the anchor.
-fn has_record(segment: &Segment, anchor: u64, redo: &Record) -> bool
-    requires { Contains segment.now.held redo.now → ⊥ }
-    ensures { IsTrue result ↔ HasRecord segment.now anchor redo.now }
-{
-    !segment.keeps(redo.key(), anchor)
-}
-
-/// Whether that is so of a record that a lower segment stores, or the lower one does not keep it.
-fn has_kept(upper: &Segment, anchor: u64, lower: &Segment, base: u64, redo: &Record) -> bool
-    requires { IsMissing upper.now.held lower.now.held redo.now }
-    ensures { IsTrue result ↔ HasKept upper.now anchor lower.now base redo.now }
-{
-    if !keeps(lower, base, redo) {
-        return true;
-    }
-    has_record(upper, anchor, redo)
-}
-
-fn has_records(
-    upper: &Segment,
-    anchor: u64,
-    lower: &Segment,
-    base: u64,
-    records: &[&Record],
-) -> bool
-    requires { (r : RecordData) → Contains (map (λ x. x.now) records.now) r → IsMissing upper.now.held lower.now.held r }
-    ensures { IsTrue result ↔ All (HasKept upper.now anchor lower.now base) (map (λ r. r.now) records.now) }
-{
-    for redo in records {
-        if !has_kept(upper, anchor, lower, base, redo) {
             return false;
         }
     }
