@@ -33,6 +33,13 @@ def test_map_has_the_crates():
     assert named == [(name, ", ".join(dep if dep in rows else f"`{dep}`" for dep in deps)) for name, deps in rows.items()]
 
 
+@pytest.mark.parametrize("name", crates())
+def test_readme_names_the_users(name):
+    rows = crates()
+    told = re.search(r"(?m)^\*\*Used by\*\* (.*)$", (ROOT / "crates" / name / "README.md").read_text()).group(1)
+    assert {word for word in re.findall(r"`(\w+)`", told) if word in rows} == {other for other in rows if name in rows[other]}
+
+
 @EACH_PAGE
 def test_named_files_are_there(page):
     """A file is named by its path from the top, or by its name in the same folder or in docs/."""
