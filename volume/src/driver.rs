@@ -7,7 +7,7 @@ use crate::options::Options;
 use crate::peer::Peer;
 use crate::progress::{Place, Progress, Reached};
 use crate::reopening::{Next, Reopening, Seen};
-use crate::spreading::{is_proposal, is_question, Spread};
+use crate::spreading::{is_proposal, is_question};
 use crate::volume::PageWrite;
 use std::collections::VecDeque;
 use std::sync::mpsc::{Receiver, RecvTimeoutError, Sender};
@@ -193,6 +193,7 @@ impl<M: Machine> Driver<M> {
 
     fn hear_answer(&mut self, node: u8, request: Vec<u8>, answer: Vec<u8>) {
         let peer = &mut self.peers[usize::from(node)];
+        let is_earlier = peer.is_earlier(&request);
         let has_changed = peer.hear(&request, &answer, self.generation);
         let is_of_another = peer.is_of_another(&request, &answer, self.generation);
         if has_changed {
@@ -204,6 +205,10 @@ impl<M: Machine> Driver<M> {
         if request == engines::STATUS && self.progress.place().is_some() {
             // An open machine asks for none. A node whose answer is no status does not count.
             return engines::membership(&answer).map_or((), |status| self.reopening.hear(node, status));
+        }
+        if is_earlier {
+            // To the machine it is lost: the theorems are of openings that hear answers to their own requests alone.
+            return;
         }
         let fenced = answer.starts_with(b"fenced ").then(|| engines::fenced(&answer)).and_then(Result::ok);
         if let Some(fenced) = fenced {
@@ -394,9 +399,7 @@ impl<M: Machine> Driver<M> {
         self.progress.claim(generation);
         self.held.clear();
         self.given_up = None;
-        for peer in &mut self.peers {
-            (peer.awaits_admission, peer.awaits_pull, peer.spread) = (false, false, Spread::default());
-        }
+        self.peers.iter_mut().for_each(Peer::begin_opening);
         self.pause(Pause::Fence);
     }
 

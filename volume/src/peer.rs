@@ -18,6 +18,8 @@ pub struct Peer {
     pub is_answering: bool,
     /// How many bytes of requests are not answered.
     pub pending: usize,
+    /// How many of these an earlier opening has asked.
+    pub earlier: usize,
     /// When it was asked or heard last.
     pub active: Instant,
     /// Why it does not count, as far as it has said.
@@ -39,6 +41,7 @@ impl Peer {
             was_tried: false,
             is_answering: false,
             pending: 0,
+            earlier: 0,
             active: Instant::now(),
             outside: None,
             awaits_fence: false,
@@ -61,6 +64,19 @@ impl Peer {
             // A link that has ended says so next.
             let _ = queue.send(request);
         }
+    }
+
+    /// Begins another opening, which does not wait for what was asked before.
+    pub fn begin_opening(&mut self) {
+        self.earlier = self.pending;
+        (self.awaits_admission, self.awaits_pull, self.spread) = (false, false, Spread::default());
+    }
+
+    /// Whether an earlier opening has asked the request that is answered now. Requests are answered in their order.
+    pub fn is_earlier(&mut self, request: &[u8]) -> bool {
+        let is_earlier = self.earlier > 0;
+        self.earlier = self.earlier.saturating_sub(request.len());
+        is_earlier
     }
 
     /// Notes an answer to the engine of a generation. The result says whether it changes how many nodes answer or count.
@@ -150,6 +166,19 @@ mod tests {
         assert!(peer.awaits_pull);
         peer.hear(b"as 3 7 answer x", b"memory", 3);
         assert!(!peer.awaits_pull);
+    }
+
+    #[test]
+    fn answers_to_an_earlier_opening() {
+        let (queue, _asked) = std::sync::mpsc::channel();
+        let mut peer = Peer { queue: Some(queue), ..Peer::new() };
+        peer.ask(b"fence 3".to_vec(), 100);
+        peer.ask(b"as 3 7 front".to_vec(), 100);
+        assert!(!peer.is_earlier(b"fence 3"));
+        peer.hear(b"fence 3", b"fenced 3 7", 3);
+        peer.begin_opening();
+        peer.ask(b"fence 4".to_vec(), 100);
+        assert!(peer.is_earlier(b"as 3 7 front") && !peer.is_earlier(b"fence 4"));
     }
 
     #[test]
