@@ -18,7 +18,7 @@ pub life_within : (run : VolumeRun) (h : History) (stop : ℕ) (content : Replic
     → IsRunOfMachines run h stop content guards → LivesBy run h stop guards e life count → IsLifeIn run h stop content guards e life count
 life_within run h stop content guards e life count is by =
     let kept = machines_keep_rules run h stop content guards is in
-    record { follows = kept.0; emitted = kept.1; guarded = is.guarded; lives = by.lives; readers = by.readers; names = by.names; upto = by.upto }
+    record { follows = kept.0; emitted = kept.1; guarded = kept.2; lives = by.lives; readers = by.readers; names = by.names; upto = by.upto }
 
 pub reports_last : ReportsLast
 reports_last run h stop content guards e life count is by n point w cut within at has inside sent later =

@@ -37,6 +37,7 @@ pub mod Settled
 pub mod Below
 pub mod Writers
 pub mod Openings
+pub mod Bringing
 pub mod Following
 pub mod Recording
 pub mod Running

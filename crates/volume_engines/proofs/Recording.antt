@@ -1,9 +1,9 @@
 -- What the history of a run has one moment later keeps the rules of the log.
-use Rattle.std.proofs.Common.{◌≡◌, ℕ, zero, suc, ◌<◌, ◌≤◌, ◌⊎◌, ⊎_elim, Bool, refl, sym, ◌∙◌, subst, ap, arith}
+use Rattle.std.proofs.Common.{◌≡◌, ℕ, zero, suc, ◌<◌, ◌≤◌, ◌⊎◌, ⊎_elim, List, Bool, refl, sym, ◌∙◌, subst, ap, arith}
 use Rattle.std.specs.Prelude.{if◌then◌else◌}
 use Rattle.std.specs.List.{Contains}
 use Rattle.redo_core.specs.Data.{CutData}
-use Rattle.redo_core.specs.Sets.{cuts}
+use Rattle.redo_core.specs.Sets.{IsPart, cuts}
 use Rattle.redo_core.specs.CompleteEpoch.{HasCutsTo, HasCut}
 use Rattle.redo_core.specs.declared.facts.Fact.{Fact}
 use Rattle.redo_core.proofs.CompleteEpochs.{has_cuts}
@@ -19,11 +19,15 @@ use Rattle.volume_guards.specs.Guards.{as_node}
 use Rattle.volume_logs.specs.Histories.{History, log_at}
 use Rattle.volume_logs.specs.Emitting.{IsContentIn, IsWriter, IsEmitted}
 use Rattle.volume_logs.proofs.Moments.{until_earlier}
+use Rattle.volume_logs.proofs.Epochs.{at_later}
+use Rattle.volume_logs.proofs.Moving.{emitted_on}
 use Rattle.volume_engines.specs.Lives.{Life, Guards, IsLife}
 use Rattle.volume_engines.specs.World.{HoldsPart, HasGuards}
 use Rattle.volume_engines.specs.Proposals.{IsLifeIn}
 use Rattle.volume_engines.specs.Emissions.{emitted_by, steps_before, HasEmissions}
+use Rattle.volume_engines.specs.Following.{IsNextMoment}
 use Rattle.volume_engines.specs.Running.{HasOpener, IsHistoryOf}
+use Rattle.volume_engines.proofs.Later.{means_later}
 use Rattle.volume_engines.proofs.Naming.{names_hold_before}
 use Rattle.volume_engines.proofs.Writers.{emissions_keep_rules}
 
@@ -51,10 +55,6 @@ fewer_steps run guards e life count fewer low is = record {
   in_time = λ n step. is.in_time n (omega arith);
   heard = λ n step. is.heard n (omega arith);
 }
-
-pub guards_until : (run : VolumeRun) (h : History) (stop t : ℕ) (content : ReplicaData → Content) (guards : Guards) → t ≤ stop → HasGuards run h stop content guards
-    → HasGuards run h t content guards
-guards_until run h stop t content guards low is = record { nodes = λ s i upto. is.nodes s i (omega arith); holds = λ s i upto. is.holds s i (omega arith) }
 
 -- ---- the steps before a moment
 module _ (life : Life) where
@@ -115,32 +115,37 @@ module _ (life : Life) where
       ap (λ (x : ℕ). steps_before life x s) (late_step n t late) ∙ (before_both n s t order ∙ sym (late_step n s (omega arith))))
       (early_or_late n t)
 
--- ---- one moment later
-module _ (run : VolumeRun) (h : History) (stop t : ℕ) (content : ReplicaData → Content) (guards : Guards) (guarded : HasGuards run h stop content guards)
-    (history : IsHistoryOf run h stop guards) (upto : suc t ≤ stop) (emitted : IsEmitted run h t) (follows : FollowsUntil run (suc t)) where
-  node_is : (s i : ℕ) → s ≤ suc t → run.nodes s i ≡ as_node content (guards s i)
-  node_is s i early = guarded.nodes s i (omega arith)
+-- ---- truncations
+content_cuts : (log : List Fact) (c : Content) → IsContentIn log c → HasCutsTo c.cuts c.epoch
+content_cuts log c x n some within =
+    let y : HasCut (cuts x.0) n = has_cuts (cuts x.0) c.epoch x.2.epoch n some within in
+    (y.0, (x.2.cuts y.0).1 y.1, y.2)
 
-  held : (s i : ℕ) → s ≤ suc t → IsContentIn (log_at h s) (run.nodes s i).content
-  held s i early =
-      let x : HoldsPart h s content (guards s i) = guarded.holds s i (omega arith) in
-      (x.part, x.means.1.part, subst (λ (n : VolumeNode). IsContentOf x.part n.content) (sym (node_is s i early)) x.has)
+-- ---- one moment later
+module _ (run : VolumeRun) (h : History) (stop t : ℕ) (content : ReplicaData → Content) (guards : Guards) (guarded : HasGuards run h t content guards)
+    (next : IsNextMoment run h content guards t) (holds : (i : ℕ) → HoldsPart h t content (guards (suc t) i))
+    (history : IsHistoryOf run h stop guards) (upto : suc t ≤ stop) (emitted : IsEmitted run h t) (follows : FollowsUntil run (suc t)) where
+  held : (i : ℕ) → IsContentIn (log_at h t) (run.nodes (suc t) i).content
+  held i =
+      let x : HoldsPart h t content (guards (suc t) i) = holds i in
+      (x.part, x.means.1.part, subst (λ (n : VolumeNode). IsContentOf x.part n.content) (sym (next.nodes i)) x.has)
 
   -- a node has the truncations of the epochs that it has come to
   has_all : (s i : ℕ) → s ≤ suc t → HasCutsTo (run.nodes s i).content.cuts (run.nodes s i).content.epoch
-  has_all s i early n some within =
-      let x = held s i early in
-      let c : HasCut (cuts x.0) n = has_cuts (cuts x.0) (run.nodes s i).content.epoch x.2.epoch n some within in
-      (c.0, (x.2.cuts c.0).1 c.1, c.2)
+  has_all s i early = ⊎_elim
+      (λ (now : s ≡ suc t).
+      subst (λ (x : ℕ). HasCutsTo (run.nodes x i).content.cuts (run.nodes x i).content.epoch) (sym now)
+      (content_cuts (log_at h t) (run.nodes (suc t) i).content (held i)))
+      (λ (before : s ≤ t). content_cuts (log_at h s) (run.nodes s i).content (emitted.held s i before))
+      (let way : (s ≡ suc t) ⊎ (s ≤ t) = grind (arith, early) in way)
 
-  sent : (s k : ℕ) → s ≤ suc t → 1 ≤ k → k ≤ h.newest s → IsCutSent run s (h.cuts k)
-  sent s k early some within =
-      let now : FollowsUntil run s = until_earlier run s (suc t) early follows in
-      let c = history.newest s (omega arith) now (omega arith) in
-      let top : c.0.epoch ≡ h.newest s = c.2 in
-      let d = epochs_in_order run s c.0 k now (λ r i before. has_all r i (omega arith)) c.1 some (omega arith) in
-      let named : h.cuts d.0.epoch ≡ d.0 = (history.sent s d.0 (omega arith) now d.1).1 in
-      subst (λ (x : CutData). IsCutSent run s x) (sym (ap (λ (n : ℕ). h.cuts n) (sym d.2) ∙ named)) d.1
+  sent : (k : ℕ) → 1 ≤ k → k ≤ h.newest (suc t) → IsCutSent run (suc t) (h.cuts k)
+  sent k some within =
+      let c = history.newest (suc t) upto follows (omega arith) in
+      let top : c.0.epoch ≡ h.newest (suc t) = c.2 in
+      let d = epochs_in_order run (suc t) c.0 k follows (λ r i before. has_all r i (omega arith)) c.1 some (omega arith) in
+      let named : h.cuts d.0.epoch ≡ d.0 = (history.sent (suc t) d.0 upto follows d.1).1 in
+      subst (λ (x : CutData). IsCutSent run (suc t) x) (sym (ap (λ (n : ℕ). h.cuts n) (sym d.2) ∙ named)) d.1
 
   -- ---- the writer of an epoch
   module _ (k : ℕ) (w : HasOpener run h guards (suc t) k) where
@@ -165,7 +170,7 @@ module _ (run : VolumeRun) (h : History) (stop t : ℕ) (content : ReplicaData �
     lives_in = record {
       follows = until_earlier run t (suc t) (omega arith) follows;
       emitted = emitted;
-      guarded = guards_until run h stop t content guards (omega arith) guarded;
+      guarded = guarded;
       lives = prefix;
       readers = w.readers;
       names = names_hold_before run guards w.engine w.life w.count Count (run.engines w.engine) w.lives w.names within;
@@ -184,23 +189,38 @@ module _ (run : VolumeRun) (h : History) (stop t : ℕ) (content : ReplicaData �
         emissions_keep_rules run h t content guards w.engine w.life Count lives_in w.generation_fits w.step k
         (is_before w.life w.count (suc t) w.step w.within w.early) w.opens w.epoch_fits has
 
-  writers : (s k : ℕ) (f : Fact) → s ≤ suc t → Contains (h.written s (suc k)) f → (e : ℕ) × IsWriter run h s k e
-  writers s k f early inside = ⊎_elim
-      (λ (now : s ≡ suc t).
-      let w : HasOpener run h guards (suc t) k =
-      history.written (suc t) k f upto follows (subst (λ (x : ℕ). Contains (h.written x (suc k)) f) now inside) in
-      subst (λ (x : ℕ). (e : ℕ) × IsWriter run h x k e) (sym now) (w.engine, writer k w))
-      (λ (before : s ≤ t). emitted.writers s k f before inside)
-      (let way : (s ≡ suc t) ⊎ (s ≤ t) = grind (arith, early) in way)
+  writers : (k : ℕ) (f : Fact) → Contains (h.written (suc t) (suc k)) f → (e : ℕ) × IsWriter run h (suc t) k e
+  writers k f inside =
+      let w : HasOpener run h guards (suc t) k = history.written (suc t) k f upto follows inside in
+      (w.engine, writer k w)
 
   pub emitted_next : IsEmitted run h (suc t)
-  emitted_next = record {
-    roster = emitted.roster;
-    epochs = emitted.epochs;
+  emitted_next = emitted_on run h t emitted (record {
     shaped = λ k some low. history.shaped (suc t) k upto some low;
-    sent = λ s k early some low. sent s k early some low;
-    newest = λ s c early was. (history.sent s c (omega arith) (until_earlier run s (suc t) early follows) was).0;
-    grows = λ s r k order early. history.grows s r k order (omega arith);
+    sent = sent;
+    newest = λ c was. (history.sent (suc t) c upto follows was).0;
+    grows = λ k. history.grows t (suc t) k (omega arith) upto;
     writers = writers;
     held = held;
+  })
+
+  -- ---- the guards
+  inner : IsPart (log_at h t) (log_at h (suc t))
+  inner = at_later run h (suc t) emitted_next t (suc t) (omega arith) (omega arith)
+
+  later : (i : ℕ) → HoldsPart h (suc t) content (guards (suc t) i)
+  later i =
+      let x : HoldsPart h t content (guards (suc t) i) = holds i in
+      record { part = x.part; means = means_later h.readers (log_at h t) (log_at h (suc t)) x.part (guards (suc t) i).replica.cached.segment inner x.means; has = x.has }
+
+  pub guards_next : HasGuards run h (suc t) content guards
+  guards_next = record {
+    nodes = λ s i early. ⊎_elim
+        (λ (now : s ≡ suc t). subst (λ (x : ℕ). run.nodes x i ≡ as_node content (guards x i)) (sym now) (next.nodes i))
+        (λ (before : s ≤ t). guarded.nodes s i before)
+        (let way : (s ≡ suc t) ⊎ (s ≤ t) = grind (arith, early) in way);
+    holds = λ s i early. ⊎_elim
+        (λ (now : s ≡ suc t). subst (λ (x : ℕ). HoldsPart h x content (guards x i)) (sym now) (later i))
+        (λ (before : s ≤ t). guarded.holds s i before)
+        (let way : (s ≡ suc t) ⊎ (s ≤ t) = grind (arith, early) in way);
   }

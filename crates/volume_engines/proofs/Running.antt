@@ -1,8 +1,12 @@
 -- A run of guards and machines keeps the rules, one moment after another.
-use Rattle.std.proofs.Common.{◌≡◌, ℕ, zero, suc, ◌<◌, ◌≤◌, ⊎_elim, inr, true, IsTrue, refl, sym, ◌∙◌, subst, ap, arith}
+use Rattle.std.proofs.Common.{◌≡◌, ◌≢◌, ℕ, zero, suc, ◌<◌, ◌≤◌, ◌⊎◌, ⊎_elim, inr, List, [], true, IsTrue, refl, sym, ◌∙◌, subst, ap, arith}
 use Rattle.std.specs.List.{Contains}
 use Rattle.redo_core.specs.Data.{CutData}
+use Rattle.redo_core.specs.declared.facts.Fact.{Fact}
 use Rattle.messages.specs.Summaries.{SummaryData}
+use Rattle.segment_theorems.specs.State.{State}
+use Rattle.segment_theorems.specs.Means.{Means}
+use Rattle.segment_theorems.proofs.Bare.{empty_means}
 use Rattle.replica.specs.Parts.{ReplicaData}
 use Rattle.replica.specs.declared.requests.Request.{Request as SegmentRequest}
 use Rattle.replica.specs.declared.requests.Request.TheVariants as segment
@@ -15,31 +19,35 @@ use Rattle.guard.specs.Asked.{ReplacesSegment}
 use Rattle.guard.specs.Data.{GuardData, fenced_to, accepting, admitted_by, around}
 use Rattle.guard.specs.Guarding.{IsUnder, IsFencedBelow, HasLater, Declines, IsGuardReply}
 use Rattle.volume.specs.declared.actions.Action.TheVariants.{Ask}
-use Rattle.volume_theorems.specs.Nodes.{Content, GrowsTo, volume_node, with_generation, with_vote}
+use Rattle.volume_theorems.specs.Nodes.{Content, VolumeNode, GrowsTo, volume_node, with_generation, with_vote}
 use Rattle.volume_theorems.specs.Runs.{VolumeRun, Move}
 use Rattle.volume_theorems.specs.Runs.Move.{Rests, Learns, IsReplaced, IsFenced, Accepts, IsAdmitted}
 use Rattle.volume_theorems.specs.Opening.{IsCutSent}
+use Rattle.volume_theorems.specs.Contents.{IsContentOf}
 use Rattle.volume_theorems.specs.Proposing.{MayAdmit}
 use Rattle.volume_theorems.specs.Protocol.{Moves}
 use Rattle.volume_theorems.specs.Stopping.{FollowsUntil}
 use Rattle.volume_theorems.proofs.Stopping.{follows_on}
 use Rattle.volume_guards.specs.Guards.{vote_of, as_node, KeepsFacts}
 use Rattle.volume_guards.proofs.Guards.{not_later}
-use Rattle.volume_logs.specs.Histories.{History}
+use Rattle.volume_logs.specs.Histories.{History, log_at}
 use Rattle.volume_logs.specs.Emitting.{IsEmitted}
-use Rattle.volume_logs.proofs.Moving.{emitted_first}
-use Rattle.volume_engines.specs.Lives.{Guards}
-use Rattle.volume_engines.specs.World.{HasGuards}
+use Rattle.volume_logs.proofs.Moving.{nothing_held, emitted_first}
+use Rattle.volume_logs.proofs.Sound.{log_is_sound}
+use Rattle.volume_engines.specs.Lives.{Life, Guards}
+use Rattle.volume_engines.specs.World.{HoldsPart, HasGuards}
+use Rattle.volume_engines.specs.Following.{plain_move, move_shown, Executes, IsNextMoment, LivesFollowOn}
 use Rattle.volume_engines.specs.Proposals.{IsLifeIn}
-use Rattle.volume_engines.specs.Running.{plain_move, move_shown, HasAskedNode, ServesLife, IsRunOfMachines, MachinesKeepRules}
+use Rattle.volume_engines.specs.Running.{HasAskedNode, ServesLife, ServesPeer, MovesAlone, BeginsEmpty, IsRunOfMachines, MachinesKeepRules}
 use Rattle.volume_engines.proofs.Admissions.{IsAdmission, may_admit}
 use Rattle.volume_engines.proofs.Sending.{IsOwnGeneration, IsOwnProposal, Right}
 use Rattle.volume_engines.proofs.Knowing.{Allowed}
 use Rattle.volume_engines.proofs.Later.{proposal_later}
 use Rattle.volume_engines.proofs.Naming.{names_hold_before}
 use Rattle.volume_engines.proofs.Steps.{right_action}
-use Rattle.volume_engines.proofs.Following.{goes_on}
-use Rattle.volume_engines.proofs.Recording.{moments_rise, fewer_steps, guards_until, emitted_next}
+use Rattle.volume_engines.proofs.Bringing.{Carries, carries}
+use Rattle.volume_engines.proofs.Following.{node_stays, goes_on}
+use Rattle.volume_engines.proofs.Recording.{moments_rise, fewer_steps, emitted_next, guards_next}
 
 -- ---- the move that a reply shows
 module _ (run : VolumeRun) (h : History) (content : ReplicaData → Content) (guards : Guards) (e s t node : ℕ) (Q : SummaryData → Type 0)
@@ -114,6 +122,13 @@ module _ (run : VolumeRun) (h : History) (content : ReplicaData → Content) (gu
   plainly segment.Finish may is keeps = exchanged is (λ member. may (member, tt)) keeps.sent
   plainly asked may is keeps = learnt is (keeps.grows (λ none. none)) keeps.sent
 
+  plain_shown : (asked : SegmentRequest) → IsGuardReply Old (request.Plain asked) told New
+      → KeepsFacts run t (request.Plain asked) (content Old.replica) (content New.replica) → Made (move_shown e (request.Plain asked) told)
+  plain_shown asked says keeps = ⊎_elim
+      (λ no. stays (request.Plain asked) reply.Member no.2 refl no.3)
+      (λ yes. by_reply (request.Plain asked) (reply.Plain yes.2.0) yes.2.2 (plainly asked yes.0 yes.1 keeps))
+      says
+
   shown : (asked : Request) → Right run h e Q s node asked → IsGuardReply Old asked told New
       → KeepsFacts run t asked (content Old.replica) (content New.replica) → Made (move_shown e asked told)
   shown request.Status right says keeps =
@@ -150,26 +165,58 @@ module _ (run : VolumeRun) (h : History) (content : ReplicaData → Content) (gu
       known.2.2)
       out)
       says
-  shown (request.Plain asked) right says keeps = ⊎_elim
-      (λ no. stays (request.Plain asked) reply.Member no.2 refl no.3)
-      (λ yes. by_reply (request.Plain asked) (reply.Plain yes.2.0) yes.2.2 (plainly asked yes.0 yes.1 keeps))
-      says
+  shown (request.Plain asked) right says keeps = plain_shown asked says keeps
+
+-- ---- a request
+module _ (run : VolumeRun) (h : History) (content : ReplicaData → Content) (guards : Guards) (t node : ℕ) (asked : Request) (told : Reply)
+    (follows : FollowsUntil run t) (emitted : IsEmitted run h t) (guarded : HasGuards run h t content guards) (next : IsNextMoment run h content guards t)
+    (ex : Executes run h guards t node asked told) where
+  carried : Carries run h content guards t node asked
+  carried = carries run h content guards t node asked told ex.brought follows emitted (guarded.holds t node (omega arith)) next ex.brings ex.replies
+
+  all_hold : (i : ℕ) → HoldsPart h t content (guards (suc t) i)
+  all_hold i = ⊎_elim
+      (λ (here : i ≡ node). subst (λ (x : ℕ). HoldsPart h t content (guards (suc t) x)) (sym here) carried.holds)
+      (λ (apart : i ≢ node). subst (λ (g : GuardData). HoldsPart h t content g) (sym (ex.others i apart)) (guarded.holds t i (omega arith)))
+      (let way : (i ≡ node) ⊎ (i ≢ node) = grind arith in way)
+
+  executed : (e : ℕ) → Moves run t node (move_shown e asked told) (as_node content (guards t node)) (as_node content (guards (suc t) node))
+      → run.moves t ≡ move_shown e asked told → FollowsUntil run (suc t)
+  executed e made same =
+      goes_on run h t content guards node asked told (move_shown e asked told) follows (λ i. guarded.nodes t i (omega arith)) next ex made same
+
+  -- a life has asked it
+  served : (e : ℕ) (life : Life) (count n : ℕ) → IsLifeIn run h t content guards e life count → n < count → Contains (life.actions n) (Ask node asked)
+      → run.moves t ≡ move_shown e asked told → FollowsUntil run (suc t)
+  served e life count n is step inside same =
+      let Q : SummaryData → Type 0 = Allowed (life.states (suc n)).phase in
+      let right : Right run h e Q (life.moments n) node asked =
+      right_action run h t content guards e life count is n (Ask node asked) step inside in
+      executed e (shown run h content guards e (life.moments n) t node Q follows emitted guarded (is.upto n step) told asked right ex.replies carried.keeps) same
+
+pub lives_follow_on : LivesFollowOn
+lives_follow_on run h t content guards e life count is next n node asked told step inside ex same =
+    served run h content guards t node asked told is.follows is.emitted is.guarded next ex e life count n is step inside same
 
 -- ---- one moment after another
 module _ (run : VolumeRun) (h : History) (stop : ℕ) (content : ReplicaData → Content) (guards : Guards) (is : IsRunOfMachines run h stop content guards) where
-  -- both are kept until the moment
+  -- what is kept until the moment
   abbrev Kept : ℕ → Type 0
-  Kept t = FollowsUntil run t × IsEmitted run h t
+  Kept t = FollowsUntil run t × IsEmitted run h t × HasGuards run h t content guards
 
-  life_in : (t e node : ℕ) (asked : Request) → t ≤ stop → Kept t → (x : HasAskedNode run h guards t e node asked)
+  -- what the next move leaves
+  abbrev Next : ℕ → Type 0
+  Next t = FollowsUntil run (suc t) × ((i : ℕ) → HoldsPart h t content (guards (suc t) i))
+
+  life_in : (t e node : ℕ) (asked : Request) → Kept t → (x : HasAskedNode run h guards t e node asked)
       → IsLifeIn run h t content guards e x.life (suc x.step)
-  life_in t e node asked upto kept x =
+  life_in t e node asked kept x =
       let within : x.step < x.count = x.within in
       let sent : x.life.moments x.step ≤ t = x.sent in
       record {
         follows = kept.0;
         emitted = kept.1;
-        guarded = guards_until run h stop t content guards upto is.guarded;
+        guarded = kept.2;
         lives = fewer_steps run guards e x.life x.count (suc x.step) (omega arith) x.lives;
         readers = x.readers;
         names = names_hold_before run guards e x.life x.count (suc x.step) (run.engines e) x.lives x.names (omega arith);
@@ -178,36 +225,100 @@ module _ (run : VolumeRun) (h : History) (stop : ℕ) (content : ReplicaData →
             omega arith;
       }
 
-  turn_follows : (t : ℕ) → t < stop → Kept t → ServesLife run h content guards t → FollowsUntil run (suc t)
-  turn_follows t low kept turn =
+  serves_life : (t : ℕ) → t < stop → Kept t → ServesLife run h guards t → Next t
+  serves_life t low kept turn =
       let x = turn.asks in
-      let lives : IsLifeIn run h t content guards turn.engine x.life (suc x.step) = life_in t turn.engine turn.node turn.asked (omega arith) kept x in
-      let Q : SummaryData → Type 0 = Allowed (x.life.states (suc x.step)).phase in
-      let right : Right run h turn.engine Q (x.life.moments x.step) turn.node turn.asked =
-      right_action run h t content guards turn.engine x.life (suc x.step) lives x.step (Ask turn.node turn.asked) (omega arith) x.asks in
-      goes_on run t content guards turn.node turn.asked turn.told (move_shown turn.engine turn.asked turn.told) kept.0
-      (lives.guarded.nodes t turn.node (omega arith)) turn.executes
-      (shown run h content guards turn.engine (x.life.moments x.step) t turn.node Q kept.0 lives.emitted lives.guarded x.sent turn.told turn.asked right
-      turn.executes.replies turn.executes.keeps) turn.move
+      let next : IsNextMoment run h content guards t = is.next t low in
+      let lives : IsLifeIn run h t content guards turn.engine x.life (suc x.step) = life_in t turn.engine turn.node turn.asked kept x in (
+        served run h content guards t turn.node turn.asked turn.told kept.0 kept.1 kept.2 next turn.executes turn.engine x.life (suc x.step) x.step lives
+            (omega arith) x.asks turn.move,
+        all_hold run h content guards t turn.node turn.asked turn.told kept.0 kept.1 kept.2 next turn.executes,
+      )
 
-  kept_on : (t : ℕ) → suc t ≤ stop → Kept t → FollowsUntil run (suc t) → Kept (suc t)
-  kept_on t upto kept follows = (follows, emitted_next run h stop t content guards is.guarded is.history upto kept.1 follows)
+  serves_peer : (t : ℕ) → t < stop → Kept t → ServesPeer run h guards t → Next t
+  serves_peer t low kept turn =
+      let asked : Request = request.Plain turn.asked in
+      let next : IsNextMoment run h content guards t = is.next t low in
+      let keeps = (carried run h content guards t turn.node asked turn.told kept.0 kept.1 kept.2 next turn.executes).keeps in (
+        executed run h content guards t turn.node asked turn.told kept.0 kept.1 kept.2 next turn.executes 0
+            (plain_shown run h content guards 0 t t turn.node (λ summary. Unit {0}) kept.0 kept.1 kept.2 (omega arith) turn.told turn.asked
+            turn.executes.replies keeps) turn.move,
+        all_hold run h content guards t turn.node asked turn.told kept.0 kept.1 kept.2 next turn.executes,
+      )
 
-  kept_to : (t : ℕ) → t ≤ stop → Kept t
-  kept_to zero upto =
+  -- ---- a move without a request
+  module _ (t : ℕ) (low : t < stop) (kept : Kept t) (alone : MovesAlone run h guards t) where
+    own_means : (facts : List Fact) → Means h.readers (log_at h t) facts (guards (suc t) (run.actor t)).replica.cached.segment
+        → HoldsPart h t content (guards (suc t) (run.actor t))
+    own_means facts means = record { part = facts; means = means; has = (is.next t low).has (run.actor t) facts means }
+
+    own_holds : HoldsPart h t content (guards (suc t) (run.actor t))
+    own_holds =
+        let log : List Fact = log_at h t in
+        ⊎_elim
+        (λ empty. own_means [] (subst (λ (s : State). Means h.readers log [] s) (sym empty) (empty_means h.readers log)))
+        (λ keeps.
+        let x : HoldsPart h t content (guards t (run.actor t)) = kept.2.holds t (run.actor t) (omega arith) in
+        own_means x.part (keeps h.readers log x.part (log_is_sound run h t t kept.0 kept.1 (omega arith)) x.means))
+        alone.segment
+
+    moves_alone : Next t
+    moves_alone = (
+      follows_on run t kept.0 alone.moves (λ i apart.
+          node_stays run h content guards t i (is.next t low) (kept.2.nodes t i (omega arith)) (alone.others i apart)),
+      λ i. ⊎_elim
+          (λ (here : i ≡ run.actor t). subst (λ (x : ℕ). HoldsPart h t content (guards (suc t) x)) (sym here) own_holds)
+          (λ (apart : i ≢ run.actor t).
+          subst (λ (g : GuardData). HoldsPart h t content g) (sym (alone.others i apart)) (kept.2.holds t i (omega arith)))
+          (let way : (i ≡ run.actor t) ⊎ (i ≢ run.actor t) = grind arith in way),
+    )
+
+  -- ---- all moments
+  kept_on : (t : ℕ) → suc t ≤ stop → Kept t → Next t → Kept (suc t)
+  kept_on t upto kept x = (
+    x.0,
+    emitted_next run h stop t content guards kept.2 (is.next t (omega arith)) x.1 is.history upto kept.1 x.0,
+    guards_next run h stop t content guards kept.2 (is.next t (omega arith)) x.1 is.history upto kept.1 x.0,
+  )
+
+  first_holds : (i : ℕ) → HoldsPart h 0 content (guards 0 i)
+  first_holds i =
+      let x : BeginsEmpty run h content (guards 0 i) i = is.begins i in
+      record {
+        part = [];
+        means = subst (λ (s : State). Means h.readers (log_at h 0) [] s) (sym x.segment) (empty_means h.readers (log_at h 0));
+        has = subst (λ (n : VolumeNode). IsContentOf [] n.content) x.node (nothing_held (run.nodes 0 i) x.nothing);
+      }
+
+  first_kept : Kept 0
+  first_kept =
       let follows : FollowsUntil run 0 = record {
         overlap = is.overlap;
-        begins = is.begins;
+        begins = λ i. (is.begins i).nothing;
         moves = λ t low. absurd (omega arith);
         others = λ t i low. absurd (omega arith);
-      } in
-      (follows, emitted_first run h follows is.history.blank)
+      } in (
+        follows,
+        emitted_first run h follows is.history.blank,
+        record {
+          nodes = λ s i early.
+              let now : s ≡ 0 = omega arith in
+              subst (λ (x : ℕ). run.nodes x i ≡ as_node content (guards x i)) (sym now) (is.begins i).node;
+          holds = λ s i early.
+              let now : s ≡ 0 = omega arith in
+              subst (λ (x : ℕ). HoldsPart h x content (guards x i)) (sym now) (first_holds i);
+        },
+      )
+
+  kept_to : (t : ℕ) → t ≤ stop → Kept t
+  kept_to zero upto = first_kept
   kept_to (suc t) upto =
       let before : Kept t = kept_to t (omega arith) in
-      ⊎_elim
-      (λ turn. kept_on t upto before (turn_follows t (omega arith) before turn))
-      (λ alone. kept_on t upto before (follows_on run t before.0 alone.moves alone.others))
-      (is.turns t (omega arith))
+      let low : t < stop = omega arith in
+      kept_on t upto before (⊎_elim
+      (λ turn. serves_life t low before turn)
+      (λ other. ⊎_elim (λ turn. serves_peer t low before turn) (λ alone. moves_alone t low before alone) other)
+      (is.turns t low))
 
 pub machines_keep_rules : MachinesKeepRules
 machines_keep_rules run h stop content guards is = kept_to run h stop content guards is stop (omega arith)

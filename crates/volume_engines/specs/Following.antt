@@ -1,31 +1,66 @@
 -- A run of guards and lives goes on by the rules, one request after another.
-use Rattle.std.specs.Prelude.{◌≡◌, ◌≢◌, ℕ, suc, ◌<◌}
+use Rattle.std.specs.Prelude.{◌≡◌, ◌≢◌, ℕ, suc, ◌<◌, List}
 use Rattle.std.specs.List.{Contains}
+use Rattle.redo_core.specs.declared.facts.Fact.{Fact}
+use Rattle.segment_theorems.specs.Means.{Means}
+use Rattle.replica.specs.Meaning.{Brings}
 use Rattle.replica.specs.Parts.{ReplicaData}
+use Rattle.replica.specs.declared.requests.Request.{Request as SegmentRequest}
+use Rattle.replica.specs.declared.requests.Request.TheVariants as segment
 use Rattle.guard.specs.declared.requests.Request.{Request}
+use Rattle.guard.specs.declared.requests.Request.TheVariants as request
 use Rattle.guard.specs.declared.replies.Reply.{Reply}
+use Rattle.guard.specs.declared.replies.Reply.TheVariants as reply
 use Rattle.guard.specs.Guarding.{IsGuardReply}
 use Rattle.volume.specs.declared.actions.Action.TheVariants.{Ask}
 use Rattle.volume_theorems.specs.Nodes.{Content}
 use Rattle.volume_theorems.specs.Runs.{VolumeRun, Move}
+use Rattle.volume_theorems.specs.Runs.Move.{Rests, Learns, IsReplaced, IsFenced, Accepts, IsAdmitted}
+use Rattle.volume_theorems.specs.Contents.{IsContentOf}
 use Rattle.volume_theorems.specs.Stopping.{FollowsUntil}
-use Rattle.volume_guards.specs.Guards.{as_node, KeepsFacts}
-use Rattle.volume_logs.specs.Histories.{History}
+use Rattle.volume_guards.specs.Guards.{as_node}
+use Rattle.volume_logs.specs.Histories.{History, log_at}
 use Rattle.volume_engines.specs.Lives.{Life, Guards}
 use Rattle.volume_engines.specs.Proposals.{IsLifeIn}
 
--- At the moment t the node's guard executes the request, and no other node moves. No truncation comes that was not sent, and no fact is lost.
-pub record Executes (run : VolumeRun) (content : ReplicaData → Content) (guards : Guards) (t node : ℕ) (asked : Request) (told : Reply) : Type 0 where
+abbrev pub plain_move : SegmentRequest → Move
+plain_move (segment.Open roster) = IsReplaced
+plain_move segment.Finish = IsReplaced
+plain_move asked = Learns
+
+-- the move of a node that replies so to a request of engine e
+abbrev pub move_shown : ℕ → Request → Reply → Move
+move_shown e (request.Fence own) (reply.Fenced generation birth accepted) = IsFenced e
+move_shown e (request.Propose own birth cut) (reply.Accepted generation named epoch) = Accepts e cut.epoch
+move_shown e (request.Admit asked) (reply.Admitted generation birth) = IsAdmitted e
+move_shown e (request.As own birth asked) (reply.Headed generation named answer) = Learns
+move_shown e (request.Plain asked) (reply.Plain answer) = plain_move asked
+move_shown e asked told = Rests
+
+-- what a request brings to the replica is of the log
+abbrev pub BringsTo : ℕ → List Fact → ReplicaData → Request → List Fact → Type 0
+BringsTo readers log old (request.As generation birth asked) brought = Brings readers log old asked brought
+BringsTo readers log old (request.Plain asked) brought = Brings readers log old asked brought
+BringsTo readers log old asked brought = Unit {0}
+
+-- At the moment t the node's guard executes the request, which brings facts of the log, and no other guard changes.
+pub record Executes (run : VolumeRun) (h : History) (guards : Guards) (t node : ℕ) (asked : Request) (told : Reply) : Type 0 where
   pub actor : run.actor t ≡ node
   pub replies : IsGuardReply (guards t node) asked told (guards (suc t) node)
-  pub keeps : KeepsFacts run t asked (content (guards t node).replica) (content (guards (suc t) node).replica)
-  pub becomes : run.nodes (suc t) node ≡ as_node content (guards (suc t) node)
-  pub others : (i : ℕ) → i ≢ node → run.nodes (suc t) i ≡ run.nodes t i
+  pub brought : List Fact
+  pub brings : BringsTo h.readers (log_at h t) (guards t node).replica asked brought
+  pub others : (i : ℕ) → i ≢ node → guards (suc t) i ≡ guards t i
 
--- If a guard executes what a life has asked by then, it makes a move with which the run goes on by the rules.
+-- One moment later the nodes of the run are the guards, and each has the content of whatever facts of the log its segment means.
+pub record IsNextMoment (run : VolumeRun) (h : History) (content : ReplicaData → Content) (guards : Guards) (t : ℕ) : Type 0 where
+  pub nodes : (i : ℕ) → run.nodes (suc t) i ≡ as_node content (guards (suc t) i)
+  pub has : (i : ℕ) (part : List Fact) → Means h.readers (log_at h t) part (guards (suc t) i).replica.cached.segment
+      → IsContentOf part (content (guards (suc t) i).replica)
+
+-- If a guard executes what a life has asked by then, and makes the move that its reply shows, the run goes on by the rules.
 abbrev pub LivesFollowOn : Type 0
 LivesFollowOn =
     (run : VolumeRun) (h : History) (t : ℕ) (content : ReplicaData → Content) (guards : Guards) (e : ℕ) (life : Life) (count : ℕ)
-    → IsLifeIn run h t content guards e life count
-    → (n node : ℕ) (asked : Request) (told : Reply) → n < count → Contains (life.actions n) (Ask node asked) → Executes run content guards t node asked told
-    → (move : Move) × (run.moves t ≡ move → FollowsUntil run (suc t))
+    → IsLifeIn run h t content guards e life count → IsNextMoment run h content guards t
+    → (n node : ℕ) (asked : Request) (told : Reply) → n < count → Contains (life.actions n) (Ask node asked) → Executes run h guards t node asked told
+    → run.moves t ≡ move_shown e asked told → FollowsUntil run (suc t)

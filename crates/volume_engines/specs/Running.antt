@@ -4,20 +4,22 @@ use Rattle.std.specs.List.{Contains}
 use Rattle.redo_core.specs.Data.{CutData}
 use Rattle.redo_core.specs.Shape.{epoch_count, cut_fault}
 use Rattle.redo_core.specs.declared.facts.Fact.{Fact}
+use Rattle.segment_theorems.specs.State.{empty_state}
+use Rattle.segment_theorems.specs.Promises.{KeepsMeaning}
 use Rattle.replica.specs.Parts.{ReplicaData}
 use Rattle.replica.specs.declared.requests.Request.{Request as SegmentRequest}
-use Rattle.replica.specs.declared.requests.Request.TheVariants as segment
 use Rattle.guard.specs.declared.requests.Request.{Request}
 use Rattle.guard.specs.declared.requests.Request.TheVariants as request
 use Rattle.guard.specs.declared.replies.Reply.{Reply}
-use Rattle.guard.specs.declared.replies.Reply.TheVariants as reply
+use Rattle.guard.specs.Data.{GuardData}
 use Rattle.volume.specs.declared.actions.Action.TheVariants.{Ask}
 use Rattle.volume_theorems.specs.Nodes.{Content, HasNothing}
 use Rattle.volume_theorems.specs.Runs.{VolumeRun, Move}
-use Rattle.volume_theorems.specs.Runs.Move.{Rests, Learns, IsReplaced, IsFenced, Accepts, IsAdmitted}
+use Rattle.volume_theorems.specs.Runs.Move.{Rests, ComesFresh, IsCreated}
 use Rattle.volume_theorems.specs.Opening.{IsCutSent}
 use Rattle.volume_theorems.specs.Protocol.{Moves}
 use Rattle.volume_theorems.specs.Stopping.{FollowsUntil}
+use Rattle.volume_guards.specs.Guards.{as_node}
 use Rattle.volume_logs.specs.Histories.{History}
 use Rattle.volume_logs.specs.Emitting.{IsEmitted}
 use Rattle.volume_logs.specs.Joining.{IsBlank}
@@ -26,22 +28,7 @@ use Rattle.volume_engines.specs.World.{HasGuards}
 use Rattle.volume_engines.specs.Engines.{IsEngineOf}
 use Rattle.volume_engines.specs.Emissions.{HasEmissions}
 use Rattle.volume_engines.specs.Resuming.{OpensAt}
-use Rattle.volume_engines.specs.Following.{Executes}
-
--- ---- what a reply shows
-abbrev pub plain_move : SegmentRequest → Move
-plain_move (segment.Open roster) = IsReplaced
-plain_move segment.Finish = IsReplaced
-plain_move asked = Learns
-
--- the move of a node that replies so to a request of engine e
-abbrev pub move_shown : ℕ → Request → Reply → Move
-move_shown e (request.Fence own) (reply.Fenced generation birth accepted) = IsFenced e
-move_shown e (request.Propose own birth cut) (reply.Accepted generation named epoch) = Accepts e cut.epoch
-move_shown e (request.Admit asked) (reply.Admitted generation birth) = IsAdmitted e
-move_shown e (request.As own birth asked) (reply.Headed generation named answer) = Learns
-move_shown e (request.Plain asked) (reply.Plain answer) = plain_move asked
-move_shown e asked told = Rests
+use Rattle.volume_engines.specs.Following.{move_shown, Executes, IsNextMoment}
 
 -- ---- what happens at a moment
 -- a life of engine e has asked the node by the moment t
@@ -57,27 +44,42 @@ pub record HasAskedNode (run : VolumeRun) (h : History) (guards : Guards) (t e n
   pub sent : life.moments step ≤ t
 
 -- a guard executes what a life has asked, and makes the move that its reply shows
-pub record ServesLife (run : VolumeRun) (h : History) (content : ReplicaData → Content) (guards : Guards) (t : ℕ) : Type 0 where
+pub record ServesLife (run : VolumeRun) (h : History) (guards : Guards) (t : ℕ) : Type 0 where
   pub engine : ℕ
   pub node : ℕ
   pub asked : Request
   pub told : Reply
   pub asks : HasAskedNode run h guards t engine node asked
-  pub executes : Executes run content guards t node asked told
+  pub executes : Executes run h guards t node asked told
   pub move : run.moves t ≡ move_shown engine asked told
 
--- a move that no request of an opening makes
-abbrev pub IsAlone : Move → Type 0
-IsAlone (IsFenced e) = ⊥
-IsAlone (Accepts e k) = ⊥
-IsAlone (IsAdmitted e) = ⊥
-IsAlone move = Unit {0}
+-- a guard executes a plain request, as other nodes send it, or as the node itself folds and discards
+pub record ServesPeer (run : VolumeRun) (h : History) (guards : Guards) (t : ℕ) : Type 0 where
+  pub node : ℕ
+  pub asked : SegmentRequest
+  pub told : Reply
+  pub executes : Executes run h guards t node (request.Plain asked) told
+  pub move : run.moves t ≡ move_shown 0 (request.Plain asked) told
 
--- a node moves by itself, as the rules allow: it rests, comes back with nothing, learns what others have, gets another segment, or is created
-pub record MovesAlone (run : VolumeRun) (t : ℕ) : Type 0 where
+-- a move that no request of an opening or of a peer makes
+abbrev pub IsAlone : Move → Type 0
+IsAlone Rests = Unit {0}
+IsAlone ComesFresh = Unit {0}
+IsAlone IsCreated = Unit {0}
+IsAlone move = ⊥
+
+-- nothing has reached the guard's segment
+abbrev pub IsEmpty : History → GuardData → Type 0
+IsEmpty h g = g.replica.cached.segment ≡ empty_state h.readers
+
+-- A node moves by itself, as the rules allow: it rests, comes back with nothing, or is created. Its segment is empty, or means whatever it meant:
+-- a node that stops and returns may store the facts in another way.
+pub record MovesAlone (run : VolumeRun) (h : History) (guards : Guards) (t : ℕ) : Type 0 where
   pub alone : IsAlone (run.moves t)
   pub moves : Moves run t (run.actor t) (run.moves t) (run.nodes t (run.actor t)) (run.nodes (suc t) (run.actor t))
-  pub others : (i : ℕ) → i ≢ run.actor t → run.nodes (suc t) i ≡ run.nodes t i
+  pub segment : IsEmpty h (guards (suc t) (run.actor t))
+      ⊎ KeepsMeaning (guards t (run.actor t)).replica.cached.segment (guards (suc t) (run.actor t)).replica.cached.segment
+  pub others : (i : ℕ) → i ≢ run.actor t → guards (suc t) i ≡ guards t i
 
 -- ---- the history
 -- A life of an engine opens epoch k + 1 before the moment t, and the history has of that epoch what it has emitted by then. Generation and epoch
@@ -108,16 +110,22 @@ pub record IsHistoryOf (run : VolumeRun) (h : History) (stop : ℕ) (guards : Gu
   pub written : (t k : ℕ) (f : Fact) → t ≤ stop → FollowsUntil run t → Contains (h.written t (suc k)) f → HasOpener run h guards t k
 
 -- ---- runs
--- Up to the moment `stop` the nodes are guards, which serve lives or move by themselves, and the history is that of the run.
+-- a node begins as a guard whose segment is empty
+pub record BeginsEmpty (run : VolumeRun) (h : History) (content : ReplicaData → Content) (g : GuardData) (i : ℕ) : Type 0 where
+  pub nothing : HasNothing (run.nodes 0 i)
+  pub node : run.nodes 0 i ≡ as_node content g
+  pub segment : IsEmpty h g
+
+-- Up to the moment `stop` the nodes are guards, which serve lives and each other or move by themselves, and the history is that of the run.
 pub record IsRunOfMachines (run : VolumeRun) (h : History) (stop : ℕ) (content : ReplicaData → Content) (guards : Guards) : Type 0 where
   pub overlap : run.roster < run.quorum + run.quorum
-  pub begins : (i : ℕ) → HasNothing (run.nodes 0 i)
-  pub guarded : HasGuards run h stop content guards
+  pub begins : (i : ℕ) → BeginsEmpty run h content (guards 0 i) i
+  pub next : (t : ℕ) → t < stop → IsNextMoment run h content guards t
   pub history : IsHistoryOf run h stop guards
-  pub turns : (t : ℕ) → t < stop → ServesLife run h content guards t ⊎ MovesAlone run t
+  pub turns : (t : ℕ) → t < stop → ServesLife run h guards t ⊎ ServesPeer run h guards t ⊎ MovesAlone run h guards t
 
--- Such a run keeps the rules of the protocol, and what its engines emit those of the log.
+-- Such a run keeps the rules of the protocol, what its engines emit keeps those of the log, and what its segments mean is of the log.
 abbrev pub MachinesKeepRules : Type 0
 MachinesKeepRules =
     (run : VolumeRun) (h : History) (stop : ℕ) (content : ReplicaData → Content) (guards : Guards)
-    → IsRunOfMachines run h stop content guards → FollowsUntil run stop × IsEmitted run h stop
+    → IsRunOfMachines run h stop content guards → FollowsUntil run stop × IsEmitted run h stop × HasGuards run h stop content guards

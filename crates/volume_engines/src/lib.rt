@@ -68,7 +68,7 @@ pub fn lives_follow_on()
     ensures { LivesFollowOn }
 {}
 
-/// A run of such machines and of guards keeps the rules of the protocol and of the log.
+/// A run of such machines and of guards keeps the rules of the protocol and of the log, and its segments mean facts of the log.
 pub fn machines_keep_rules()
     ensures { MachinesKeepRules }
 {}

@@ -81,7 +81,7 @@ emitted_on run h t is next = record {
 }
 
 -- ---- the first moment
-nothing_held : (n : VolumeNode) → HasNothing n → IsContentOf [] n.content
+pub nothing_held : (n : VolumeNode) → HasNothing n → IsContentOf [] n.content
 nothing_held n has = record {
   epoch = (
     inl has.epoch,
