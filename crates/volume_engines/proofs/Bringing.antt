@@ -1,8 +1,6 @@
 -- What a guard's segment means after a request, and so what its node has.
-use Rattle.std.proofs.Common.{◌≡◌, ℕ, suc, ⊎_elim, List, ◌++◌, ◌∷◌, [], refl, sym, subst, arith}
-use Rattle.std.specs.List.{Contains}
+use Rattle.std.proofs.Common.{◌≡◌, ℕ, suc, ⊎_elim, List, ◌∷◌, [], sym, subst, arith}
 use Rattle.std.proofs.lemmas.List.Elements.{Contains-append_left}
-use Rattle.redo_core.specs.Data.{CutData}
 use Rattle.redo_core.specs.Sets.{IsPart}
 use Rattle.redo_core.specs.Sound.{IsSound}
 use Rattle.redo_core.specs.declared.facts.Fact.{Fact}
@@ -32,9 +30,15 @@ use Rattle.volume_logs.proofs.Joining.{parts_keep_rules}
 use Rattle.volume_logs.proofs.Sound.{log_is_sound}
 use Rattle.volume_engines.specs.Lives.{Guards}
 use Rattle.volume_engines.specs.World.{HoldsPart}
-use Rattle.volume_engines.specs.Following.{BringsTo, IsNextMoment}
+use Rattle.volume_engines.specs.Following.{IsNextMoment}
 
 -- ---- facts
+-- what a request brings to the replica is of the log
+abbrev pub BringsTo : ℕ → List Fact → ReplicaData → Request → List Fact → Type 0
+BringsTo readers log old (request.As generation birth asked) brought = Brings readers log old asked brought
+BringsTo readers log old (request.Plain asked) brought = Brings readers log old asked brought
+BringsTo readers log old asked brought = Unit {0}
+
 guarded_keeps : (asked : SegmentRequest) → IsGuarded asked → ¬ (ReplacesSegment asked)
 guarded_keeps (segment.Open roster) may = λ replaces. may
 guarded_keeps segment.Finish may = λ replaces. may

@@ -1,5 +1,5 @@
 -- One more request that a guard executes.
-use Rattle.std.proofs.Common.{◌≡◌, ◌≢◌, ℕ, suc, sym, ◌∙◌, subst, ap, arith}
+use Rattle.std.proofs.Common.{◌≡◌, ℕ, suc, sym, ◌∙◌, subst, ap}
 use Rattle.replica.specs.Parts.{ReplicaData}
 use Rattle.guard.specs.declared.requests.Request.{Request}
 use Rattle.guard.specs.declared.replies.Reply.{Reply}
@@ -21,7 +21,7 @@ node_stays run h content guards t i next was same = next.nodes i ∙ (ap (λ (g 
 
 pub goes_on : (run : VolumeRun) (h : History) (t : ℕ) (content : ReplicaData → Content) (guards : Guards) (node : ℕ) (asked : Request) (told : Reply) (move : Move)
     → FollowsUntil run t → ((i : ℕ) → run.nodes t i ≡ as_node content (guards t i)) → IsNextMoment run h content guards t
-    → Executes run h guards t node asked told
+    → Executes run guards t node asked told
     → Moves run t node move (as_node content (guards t node)) (as_node content (guards (suc t) node)) → run.moves t ≡ move → FollowsUntil run (suc t)
 goes_on run h t content guards node asked told move follows was next ex made same =
     let after : Moves run t node move (as_node content (guards t node)) (run.nodes (suc t) node) =

@@ -30,10 +30,10 @@ use Rattle.volume_engines.specs.World.{HoldsPart}
 use Rattle.volume_engines.specs.Proposals.{IsLifeIn}
 use Rattle.volume_engines.proofs.Tables.{some_same}
 use Rattle.volume_engines.proofs.Admissions.{same_front}
-use Rattle.volume_engines.proofs.Sending.{RightUnder, Right, RightAction, AllRight}
+use Rattle.volume_engines.proofs.Sending.{MayAsk, may_ask, Right, RightAction, AllRight}
 use Rattle.volume_engines.proofs.Replies.{IsHeaded, headed_says}
 use Rattle.volume_engines.proofs.Shown.{front_says}
-use Rattle.volume_engines.proofs.Knowing.{KnowsSession, IsKnown}
+use Rattle.volume_engines.proofs.Knowing.{Own, KnowsSession, IsKnown}
 
 -- The reply that step n hears was given under the generation and birth, to a request that was right to send.
 pub record IsHeard (run : VolumeRun) (guards : Guards) (e : ℕ) (life : Life) (n : ℕ) (Q : SummaryData → Type 0) (node generation birth : ℕ) (shown : SegmentReply) : Type 0 where
@@ -41,26 +41,27 @@ pub record IsHeard (run : VolumeRun) (guards : Guards) (e : ℕ) (life : Life) (
   pub inner : SegmentRequest
   pub moment : ℕ
   pub sent : moment ≤ life.given n
-  pub right : RightUnder run e Q moment inner
+  pub right : MayAsk run e Q moment inner
   pub under : IsUnder (guards (life.given n) node) generation birth
   pub replies : IsReply (guards (life.given n) node).replica inner shown (guards (suc (life.given n)) node).replica
 
 pub heard : (run : VolumeRun) (h : History) (guards : Guards) (e : ℕ) (life : Life) (n : ℕ) (Q : SummaryData → Type 0) (node generation birth : ℕ) (shown : SegmentReply)
-    → ((m : ℕ) → m < n → AllRight run h e Q (life.moments m) (life.actions m))
+    → ((m : ℕ) → m < n → AllRight run h e Q (Own life m) (life.moments m) (life.actions m))
     → WasGiven run guards e life n node (reply.Headed generation birth shown) → IsHeard run guards e life n Q node generation birth shown
 heard run h guards e life n Q node generation birth shown sent given =
     let p : ℕ = life.given n in
     let x : IsHeaded (guards p node) (guards (suc p) node) given.asked generation birth shown =
     headed_says (guards p node) given.asked generation birth shown (guards (suc p) node) given.replies in
     let m : ℕ = given.sent.0 in
-    let right : Right run h e Q (life.moments m) node given.asked =
-    each (RightAction run h e Q (life.moments m)) (life.actions m) (Ask node given.asked) (sent m given.sent.1) given.sent.3 in
+    let right : Right run h e Q (Own life m) (life.moments m) node given.asked =
+    each (RightAction run h e Q (Own life m) (life.moments m)) (life.actions m) (Ask node given.asked) (sent m given.sent.1) given.sent.3 in
     record {
       before = given.before;
       inner = x.inner;
       moment = life.moments m;
       sent = given.sent.2;
-      right = subst (λ (r : Request). Right run h e Q (life.moments m) node r) x.asked_is right;
+      right = may_ask run h e Q (Own life m) (life.moments m) x.inner
+          (subst (λ (r : Request). Right run h e Q (Own life m) (life.moments m) node r) x.asked_is right);
       under = x.under;
       replies = x.replies;
     }

@@ -30,7 +30,7 @@ use Rattle.volume_engines.specs.Proposals.{IsLifeIn}
 use Rattle.volume_engines.proofs.Sending.{AllRight, to_one, query_one}
 use Rattle.volume_engines.proofs.Admissions.{WasOut, fresh_later, fresh_without, fresh_with}
 use Rattle.volume_engines.proofs.Replies.{fenced_says, fresh_says}
-use Rattle.volume_engines.proofs.Knowing.{IsFencedAs, KnowsFencing, Allowed, LeavesTurn}
+use Rattle.volume_engines.proofs.Knowing.{Own, IsFencedAs, KnowsFencing, Allowed, LeavesTurn}
 use Rattle.volume_engines.proofs.Turning.{when_stays, when_enters, when_stops}
 use Rattle.volume_engines.proofs.Fencing.{fenced_here, fenced_elsewhere, fenced_otherwise, table_stays, table_without, table_with}
 use Rattle.volume_engines.proofs.Gathering.{begins_knowing}
@@ -84,7 +84,7 @@ module _ (run : VolumeRun) (h : History) (stop : ℕ) (content : ReplicaData →
       (record { knows = stays_known f same k; right = tt; wider = λ x no. no })
 
   goes_on : (f g : Fencing) (t : Turn) (asked : List Action) → KnowsFencing run guards e life (suc n) g
-      → AllRight run h e (Allowed (phase.Fencing g)) (life.moments (suc n)) asked → GoesOn s g t asked → Left f t
+      → AllRight run h e (Allowed (phase.Fencing g)) (Own life (suc n)) (life.moments (suc n)) asked → GoesOn s g t asked → Left f t
   goes_on f g t asked k right says = ⊎_elim
       (λ on. when_enters run h guards e life (suc n) (phase.Fencing f) (phase.Fencing f) t (phase.Fencing g) asked on.1
       (record { knows = k; right = right; wider = λ x no. no }))
@@ -94,9 +94,9 @@ module _ (run : VolumeRun) (h : History) (stop : ℕ) (content : ReplicaData →
   pulls : (f new : Fencing) (node birth : ℕ) (t : Turn) → KnowsFencing run guards e life (suc n) new → IsFencedQuorum s new.births
       → ((o : Opening) → EntersOpening t o → Gathers life (suc n) o (run.engines e)) → PullsQuorum s new node birth t → Left f t
   pulls f new node birth (turn.Enter (phase.Opening o) actions) k enough names says =
-      let asks : AllRight run h e (Allowed (phase.Opening o)) (life.moments (suc n)) actions.items =
-      subst (λ (xs : List Action). AllRight run h e (Allowed (phase.Opening o)) (life.moments (suc n)) xs) (sym says.1)
-      (to_one run h e (Allowed (phase.Opening o)) (life.moments (suc n)) node new.generation (is.names.generation ∙ sym k.generation) (Some birth) (Pull o.summary)
+      let asks : AllRight run h e (Allowed (phase.Opening o)) (Own life (suc n)) (life.moments (suc n)) actions.items =
+      subst (λ (xs : List Action). AllRight run h e (Allowed (phase.Opening o)) (Own life (suc n)) (life.moments (suc n)) xs) (sym says.1)
+      (to_one run h e (Allowed (phase.Opening o)) (Own life (suc n)) (life.moments (suc n)) node new.generation (is.names.generation ∙ sym k.generation) (Some birth) (Pull o.summary)
       (inl refl, let at : (run.engines e).gathered ≡ life.moments (suc n) = (names o refl).gathered in omega arith)) in
       record {
         knows = begins_knowing run h stop content guards e life (suc n) s new o is.follows.overlap is.guarded (is.upto (suc n) step) quorum readers
@@ -181,5 +181,5 @@ module _ (run : VolumeRun) (h : History) (stop : ℕ) (content : ReplicaData →
       (λ idle. nothing_heard f t same k idle.1)
       (λ lost. goes_on f (without_node f node) t (query_to (Fence f.generation) node)
       (record { generation = k.generation; table = (stays_known f same k).table; fresh = (stays_known f same k).fresh })
-      (query_one run h e (Allowed (phase.Fencing (without_node f node))) (life.moments (suc n)) node (Fence f.generation) (is.names.generation ∙ sym k.generation)) lost.1)
+      (query_one run h e (Allowed (phase.Fencing (without_node f node))) (Own life (suc n)) (life.moments (suc n)) node (Fence f.generation) (is.names.generation ∙ sym k.generation)) lost.1)
       says

@@ -3,16 +3,19 @@ use Rattle.std.proofs.Common.{◌≡◌, ◌≢◌, ℕ, suc, ◌<◌, ◌≤◌
 use Rattle.std.specs.Prelude.{slice_set, if◌then◌else◌}
 use Rattle.std.specs.List.{Contains}
 use Rattle.std.proofs.lemmas.List.Elements.{Contains-append_left, Contains-append_right}
-use Rattle.redo_core.specs.Data.{CutData}
+use Rattle.redo_core.specs.Data.{RecordData, CutData}
 use Rattle.redo_core.specs.Sets.{IsPart}
 use Rattle.redo_core.specs.Sound.{IsSound}
+use Rattle.redo_core.specs.declared.facts.Fact.{Fact}
 use Rattle.redo_core.specs.declared.facts.Fact.TheVariants.{Cut}
+use Rattle.redo_core.proofs.Members.{none_in}
 use Rattle.messages.specs.Summaries.{SummaryData}
 use Rattle.messages.specs.Deltas.{DeltaData}
 use Rattle.segment_theorems.specs.State.{State}
 use Rattle.segment_theorems.specs.Means.{Means}
 use Rattle.segment_core.specs.declared.answers.Front.{Front}
 use Rattle.gossip_core.specs.Absorbing.{Answers}
+use Rattle.gossip_core.specs.Replying.{FillsSummary}
 use Rattle.replica.specs.declared.replies.Reply.{Reply as SegmentReply}
 use Rattle.replica.specs.declared.replies.Reply.TheVariants as told
 use Rattle.replica.specs.Parts.{ReplicaData}
@@ -51,13 +54,13 @@ use Rattle.volume_logs.proofs.Sound.{log_is_sound}
 use Rattle.volume_engines.specs.Lives.{Life, Guards, WasGiven}
 use Rattle.volume_engines.specs.Proposals.{IsLifeIn}
 use Rattle.volume_engines.proofs.Tables.{at_or_not, put_elsewhere, count_zero, none_marked, marked_more}
-use Rattle.volume_engines.proofs.Sending.{IsOwnProposal, IsOwnGeneration, HasOpenedAt, RightAction, AllRight, all_append, joins_each, to_one, query_one}
+use Rattle.volume_engines.proofs.Sending.{IsDeltaOf, IsOwnProposal, IsOwnGeneration, HasOpenedAt, RightAction, AllRight, all_append, joins_each, to_one, query_one}
 use Rattle.volume_engines.proofs.Sending.{to_each as each_node}
 use Rattle.volume_engines.proofs.Bare.{bare_answered}
 use Rattle.volume_engines.proofs.Admissions.{IsAdmission, joining_as, none_fresh}
 use Rattle.volume_engines.proofs.Admitting.{admits}
 use Rattle.volume_engines.proofs.Shown.{delta_says}
-use Rattle.volume_engines.proofs.Knowing.{KnowsSession, HasGiven, KnowsUnion, IsKnown, AreKnown, HaveAccepted, HasVotes, KnowsStage, KnowsOpening, Allowed, Wider, LeavesTurn}
+use Rattle.volume_engines.proofs.Knowing.{Own, KnowsSession, HasGiven, KnowsUnion, IsKnown, AreKnown, HaveAccepted, HasVotes, KnowsStage, KnowsOpening, Allowed, Wider, LeavesTurn}
 use Rattle.volume_engines.proofs.Turning.{when_stays, when_stops}
 use Rattle.volume_engines.proofs.Later.{means_later, given_later}
 use Rattle.volume_engines.proofs.Heard.{IsHeard, heard, own_part, own_content, own_shown, own_known}
@@ -65,7 +68,7 @@ use Rattle.volume_engines.proofs.Named.{NamesPlan}
 use Rattle.volume_engines.proofs.Proposing.{many_marked, plan_proposed}
 
 -- a truncation that was sent is in the log
-sent_in_log : (run : VolumeRun) (h : History) (stop t j : ℕ) (cut : CutData) → FollowsUntil run stop → IsEmitted run h stop → t ≤ stop → cut.epoch ≡ suc j
+pub sent_in_log : (run : VolumeRun) (h : History) (stop t j : ℕ) (cut : CutData) → FollowsUntil run stop → IsEmitted run h stop → t ≤ stop → cut.epoch ≡ suc j
     → IsCutSent run t cut → Contains (log_at h t) (Cut cut)
 sent_in_log run h stop t j cut follows emitted upto epoch sent =
     let newest : cut.epoch ≤ h.newest t = emitted.newest t cut upto sent in
@@ -75,10 +78,10 @@ sent_in_log run h stop t j cut follows emitted upto epoch sent =
     one_sent_by run t (h.cuts (suc j)) cut (until_earlier run t stop upto follows) other sent (at ∙ sym epoch) in
     in_epoch h t (h.newest t) j (Cut cut) (omega arith) (inl (ap (λ (c : CutData). Cut c) same))
 
-if_right : (run : VolumeRun) (h : History) (e : ℕ) (Q : SummaryData → Type 0) (t : ℕ) (b : Bool) (actions : List Action) → AllRight run h e Q t actions
-    → AllRight run h e Q t (if b then actions else [])
-if_right run h e Q t true actions is = is
-if_right run h e Q t false actions is = tt
+if_right : (run : VolumeRun) (h : History) (e : ℕ) (Q : SummaryData → Type 0) (F : Fact → Type 0) (t : ℕ) (b : Bool) (actions : List Action)
+    → AllRight run h e Q F t actions → AllRight run h e Q F t (if b then actions else [])
+if_right run h e Q F t true actions is = is
+if_right run h e Q F t false actions is = tt
 
 -- the votes of a quorum send the plan's truncation
 sent_plan : (run : VolumeRun) (e t : ℕ) (plan : Plan) → NamesPlan plan (run.engines e) → HasVotes run e t plan.cut.epoch → IsCutSent run t plan.cut
@@ -92,21 +95,24 @@ opened_plan run e t epoch point plan names own votes epoch_is point_is = (
   point_is ∙ (ap (λ (c : CutData). c.lo) (sym names.cut) ∙ ap (λ (k : ℕ). ((run.engines e).cuts k).lo) (sym epoch_is)),
 )
 
-opened_right : (run : VolumeRun) (h : History) (e : ℕ) (Q : SummaryData → Type 0) (t : ℕ) (union : State) (plan : Plan) (actions : List Action)
+opened_right : (run : VolumeRun) (h : History) (e : ℕ) (Q : SummaryData → Type 0) (F : Fact → Type 0) (t : ℕ) (union : State) (plan : Plan) (actions : List Action)
     → NamesPlan plan (run.engines e) → plan.is_pending ≡ false → HasVotes run e t plan.cut.epoch → IsOpened union plan.cut actions
-    → AllRight run h e Q t actions
-opened_right run h e Q t union plan (Opened epoch point header ∷ []) names own votes is = (opened_plan run e t epoch point plan names own votes is.0 is.1, tt)
-opened_right run h e Q t union plan actions names own votes is = absurd is
+    → AllRight run h e Q F t actions
+opened_right run h e Q F t union plan (Opened epoch point header ∷ []) names own votes is = (opened_plan run e t epoch point plan names own votes is.0 is.1, tt)
+opened_right run h e Q F t union plan actions names own votes is = absurd is
 
 module _ (run : VolumeRun) (h : History) (stop : ℕ) (content : ReplicaData → Content) (guards : Guards) (e : ℕ) (life : Life) (count : ℕ)
     (is : IsLifeIn run h stop content guards e life count) (n : ℕ) (step : n < count) (quorum : ℕ) (q_is : quorum ≡ run.quorum) (old : Opening)
     (k : KnowsOpening run h guards e life (life.moments n) old)
-    (sent : (m : ℕ) → m < n → AllRight run h e (Allowed (phase.Opening old)) (life.moments m) (life.actions m)) where
+    (sent : (m : ℕ) → m < n → AllRight run h e (Allowed (phase.Opening old)) (Own life m) (life.moments m) (life.actions m)) where
   abbrev T : ℕ
   T = life.moments n
 
   abbrev Q : SummaryData → Type 0
   Q = Allowed (phase.Opening old)
+
+  abbrev F : Fact → Type 0
+  F = Own life n
 
   abbrev Left : Opening → Turn → Type 0
   Left new t = LeavesTurn run h guards e life n (phase.Opening old) (phase.Opening new) t
@@ -124,7 +130,7 @@ module _ (run : VolumeRun) (h : History) (stop : ℕ) (content : ReplicaData →
 
   -- ---- what a turn leaves
   goes_to : (new o : Opening) (t : Turn) (asked : List Action) → new ≡ o → Wider (phase.Opening old) (phase.Opening o) → KnowsOpening run h guards e life T o
-      → AllRight run h e (Allowed (phase.Opening o)) T asked → Stays t asked → Left new t
+      → AllRight run h e (Allowed (phase.Opening o)) F T asked → Stays t asked → Left new t
   goes_to new o t asked same wider knows right stays =
       subst (λ (x : Opening). Left x t) (sym same)
       (when_stays run h guards e life n (phase.Opening old) (phase.Opening o) t asked stays
@@ -159,7 +165,7 @@ module _ (run : VolumeRun) (h : History) (stop : ℕ) (content : ReplicaData →
       let knows : AreKnown run h e T plan.0 no_nodes = λ i marked. absurd (none_marked i marked) in
       goes_to new (with_union old u (stage.Spreading plan.0 no_nodes)) t (to_each old errand.Ask) plan.2 as_before
       (knows_on u (stage.Spreading plan.0 no_nodes) (un, plan.1, knows))
-      (each_node run h e Q T 0 old.session.generation mine old.session.births errand.Ask tt) plan.3)
+      (each_node run h e Q F T 0 old.session.generation mine old.session.births errand.Ask tt) plan.3)
       (λ fault. ends new t fault.0 fault.2)
       says
 
@@ -174,7 +180,7 @@ module _ (run : VolumeRun) (h : History) (stop : ℕ) (content : ReplicaData →
       (λ (some : old.asked ≡ Some s). let no : None ≡ Some s = sym none ∙ some in absurd (cc))
       own)
       (record { session = k.session; best = k.best; fresh = k.fresh; bare = k.bare; at = un })
-      (each_node run h e (Allowed (phase.Opening next)) T 0 old.session.generation mine old.session.births (errand.Pull asked) (inr refl, k.session.upto))
+      (each_node run h e (Allowed (phase.Opening next)) F T 0 old.session.generation mine old.session.births (errand.Pull asked) (inr refl, k.session.upto))
       says.2
 
   goes_on_pulling : (u : State) (left : List Bool) (new : Opening) (t : Turn) → KnowsUnion run h e T u left → GoesOnPulling old u left new t → Left new t
@@ -261,6 +267,12 @@ module _ (run : VolumeRun) (h : History) (stop : ℕ) (content : ReplicaData →
     hears_delta (stage.Proposing plan accepted) delta new t x at says = idle new t says
     hears_delta (stage.Taking plan reported) delta new t x at says = idle new t says
 
+  -- the union fills a summary with facts of the log
+  of_union : (summary : SummaryData) (delta : DeltaData) → KnowsUnion run h e T old.union [] → FillsSummary old.union summary delta → IsDeltaOf h T summary delta
+  of_union summary delta un fills =
+      let sound : IsSound h.readers (log_at h T) = log_is_sound run h stop T is.follows is.emitted upto in
+      (un.facts, (un.means.0, un.means.1.part, un.means.1.position, fills h.readers (log_at h T) un.facts un.means.0 sound un.means.1))
+
   -- ---- summaries
   hears_summary : (st : Stage) (node : ℕ) (summary : SummaryData) (new : Opening) (t : Turn) → KnowsStage run h e T old.union old.pair st
       → HearsSummary old st node summary new t → Left new t
@@ -268,7 +280,7 @@ module _ (run : VolumeRun) (h : History) (stop : ℕ) (content : ReplicaData →
       (λ damaged. ends new t Damaged damaged.1)
       (λ fills.
       goes_to new old t _ fills.2 as_before k
-      (to_one run h e Q T node old.session.generation mine (birth_at old.session.births node) (errand.Push summary fills.0) (asked_all old.union at.0)) fills.3)
+      (to_one run h e Q F T node old.session.generation mine (birth_at old.session.births node) (errand.Push summary fills.0) (asked_all old.union at.0, of_union summary fills.0 at.0 fills.1.fills)) fills.3)
       says
   hears_summary (stage.Pulling left) node summary new t at says = idle new t says
   hears_summary (stage.Proposing plan accepted) node summary new t at says = idle new t says
@@ -276,11 +288,12 @@ module _ (run : VolumeRun) (h : History) (stop : ℕ) (content : ReplicaData →
 
   -- ---- fronts, while the union is made known
   joins_right : (o : Opening) (joins : List Action) → KnowsUnion run h e T old.union [] → AdmitsFresh old joins
-      → AllRight run h e (Allowed (phase.Opening o)) T joins
+      → AllRight run h e (Allowed (phase.Opening o)) F T joins
   joins_right o joins un says = ⊎_elim
-      (λ none. subst (λ (xs : List Action). AllRight run h e (Allowed (phase.Opening o)) T xs) (sym none.1) tt)
-      (λ some. subst (λ (xs : List Action). AllRight run h e (Allowed (phase.Opening o)) T xs) (sym some.4)
-      (joins_each run h e (Allowed (phase.Opening o)) T 0 old.session.generation old.fresh old.summary some.0 (joining_of old some.1)
+      (λ none. subst (λ (xs : List Action). AllRight run h e (Allowed (phase.Opening o)) F T xs) (sym none.1) tt)
+      (λ some. subst (λ (xs : List Action). AllRight run h e (Allowed (phase.Opening o)) F T xs) (sym some.4)
+      (joins_each run h e (Allowed (phase.Opening o)) F T 0 old.session.generation old.fresh old.summary some.0 (joining_of old some.1)
+      (of_union old.summary some.0 un some.2.fills)
       (λ i at b here has.
       let same : at ≡ i = omega (arith, here) in
       subst (λ (j : ℕ). IsAdmission run h e T j (joining_as old.session.generation b (joining_of old some.1))) (sym same)
@@ -304,8 +317,8 @@ module _ (run : VolumeRun) (h : History) (stop : ℕ) (content : ReplicaData →
       (subst (λ (m : ℕ). m ≤ count_marked known) q_is enough) at.2 named k.session.gathered at.1 in
       let none : HaveAccepted run e T plan.cut.epoch no_nodes = λ i marked. absurd (none_marked i marked) in
       goes_to new next t _ sends.2 as_before (record { session = k.session; best = k.best; fresh = none_fresh run (run.engines e).gathered; bare = k.bare; at = (at.0, own, none, named) })
-      (all_append (RightAction run h e Q T) sends.0 (to_each old (errand.Propose plan.cut)) (joins_right next sends.0 at.0 sends.1)
-      (each_node run h e Q T 0 old.session.generation mine old.session.births (errand.Propose plan.cut) own))
+      (all_append (RightAction run h e Q F T) sends.0 (to_each old (errand.Propose plan.cut)) (joins_right next sends.0 at.0 sends.1)
+      (each_node run h e Q F T 0 old.session.generation mine old.session.births (errand.Propose plan.cut) own))
       sends.3)
       says
 
@@ -317,7 +330,7 @@ module _ (run : VolumeRun) (h : History) (stop : ℕ) (content : ReplicaData →
       let part : KnowsUnion run h e T old.union left =
       record { facts = un.facts; means = un.means; given = λ i among no. un.given i among (unmarked i) } in
       goes_to new (at_stage old (stage.Pulling left)) t _ again.1 as_before (knows_on old.union (stage.Pulling left) part)
-      (to_one run h e Q T node old.session.generation mine (birth_at old.session.births node) (errand.Pull (asked_with old)) (asked_is old.asked refl, k.session.upto)) again.2)
+      (to_one run h e Q F T node old.session.generation mine (birth_at old.session.births node) (errand.Pull (asked_with old)) (asked_is old.asked refl, k.session.upto)) again.2)
       says
 
   -- ---- the volume is open
@@ -328,8 +341,9 @@ module _ (run : VolumeRun) (h : History) (stop : ℕ) (content : ReplicaData →
       asked,
       subst (λ (c : CutData). IsCutSent run T c) (sym says.0.cut_is) (sent_plan run e T plan names votes),
       mine ∙ ap (λ (s : Session). s.generation) (sym says.0.session_is),
+      λ r inside. absurd (none_in r (subst (λ (rs : List RecordData). Contains rs r) says.0.backlog inside)),
     );
-    right = opened_right run h e (λ s. Unit {0}) T u plan actions.items names own votes says.1;
+    right = opened_right run h e (λ s. Unit {0}) F T u plan actions.items names own votes says.1;
     wider = λ s own. tt;
   }
   opens u plan new (turn.Enter phase.Idle actions) asked names own votes says = absurd says.0
@@ -433,7 +447,7 @@ module _ (run : VolumeRun) (h : History) (stop : ℕ) (content : ReplicaData →
       (subst (λ (m : ℕ). m ≤ count_marked after) q_is enough.0) all in
       goes_to new (at_stage old (stage.Taking plan no_nodes)) t _ enough.1 as_before
       (knows_on old.union (stage.Taking plan no_nodes) (at.0, at.1, votes, at.3))
-      (each_node run h e Q T 0 old.session.generation mine old.session.births (errand.Begin plan.cut)
+      (each_node run h e Q F T 0 old.session.generation mine old.session.births (errand.Begin plan.cut)
       (asked_all old.union at.0, sent_plan run e T plan at.3 votes)) enough.2)
       yes.1)
       says
@@ -443,12 +457,12 @@ module _ (run : VolumeRun) (h : History) (stop : ℕ) (content : ReplicaData →
 
   -- ---- nodes that come late
   stage_asks : (u : State) (st : Stage) (generation node : ℕ) (b : Option ℕ) → IsOwnGeneration run e generation → KnowsStage run h e T u old.pair st
-      → AllRight run h e Q T (asks_in_stage generation st node b)
+      → AllRight run h e Q F T (asks_in_stage generation st node b)
   stage_asks u (stage.Pulling left) generation node b same at = tt
-  stage_asks u (stage.Spreading plan known) generation node b same at = to_one run h e Q T node generation same b errand.Ask tt
-  stage_asks u (stage.Proposing plan accepted) generation node b same at = to_one run h e Q T node generation same b (errand.Propose plan.cut) at.1
+  stage_asks u (stage.Spreading plan known) generation node b same at = to_one run h e Q F T node generation same b errand.Ask tt
+  stage_asks u (stage.Proposing plan accepted) generation node b same at = to_one run h e Q F T node generation same b (errand.Propose plan.cut) at.1
   stage_asks u (stage.Taking plan reported) generation node b same at =
-      to_one run h e Q T node generation same b (errand.Begin plan.cut) (asked_all u at.0, sent_plan run e T plan at.3 at.2)
+      to_one run h e Q F T node generation same b (errand.Begin plan.cut) (asked_all u at.0, sent_plan run e T plan at.3 at.2)
 
   late_session : (node birth : ℕ) → birth_at old.session.births node ≡ None → KnowsSession run guards e life T (with_birth old.session node birth)
   late_session node birth none = record {
@@ -503,13 +517,13 @@ module _ (run : VolumeRun) (h : History) (stop : ℕ) (content : ReplicaData →
   hears_opening node other new t within given names says = idle new t says
 
   -- ---- broken connections
-  asks_right : (st : Stage) (node : ℕ) (b : Option ℕ) → KnowsStage run h e T old.union old.pair st → AllRight run h e Q T (asks_again old st node b)
-  asks_right (stage.Pulling left) node None at = query_one run h e Q T node (Fence old.session.generation) mine
-  asks_right (stage.Spreading plan known) node None at = query_one run h e Q T node (Fence old.session.generation) mine
-  asks_right (stage.Proposing plan accepted) node None at = query_one run h e Q T node (Fence old.session.generation) mine
-  asks_right (stage.Taking plan reported) node None at = query_one run h e Q T node (Fence old.session.generation) mine
+  asks_right : (st : Stage) (node : ℕ) (b : Option ℕ) → KnowsStage run h e T old.union old.pair st → AllRight run h e Q F T (asks_again old st node b)
+  asks_right (stage.Pulling left) node None at = query_one run h e Q F T node (Fence old.session.generation) mine
+  asks_right (stage.Spreading plan known) node None at = query_one run h e Q F T node (Fence old.session.generation) mine
+  asks_right (stage.Proposing plan accepted) node None at = query_one run h e Q F T node (Fence old.session.generation) mine
+  asks_right (stage.Taking plan reported) node None at = query_one run h e Q F T node (Fence old.session.generation) mine
   asks_right (stage.Pulling left) node (Some birth) at =
-      if_right run h e Q T (is_marked left node) _ (to_one run h e Q T node old.session.generation mine (Some birth) (errand.Pull (asked_with old)) (asked_is old.asked refl, k.session.upto))
+      if_right run h e Q F T (is_marked left node) _ (to_one run h e Q F T node old.session.generation mine (Some birth) (errand.Pull (asked_with old)) (asked_is old.asked refl, k.session.upto))
   asks_right (stage.Spreading plan known) node (Some birth) at = stage_asks old.union (stage.Spreading plan known) old.session.generation node (Some birth) mine at
   asks_right (stage.Proposing plan accepted) node (Some birth) at = stage_asks old.union (stage.Proposing plan accepted) old.session.generation node (Some birth) mine at
   asks_right (stage.Taking plan reported) node (Some birth) at = stage_asks old.union (stage.Taking plan reported) old.session.generation node (Some birth) mine at

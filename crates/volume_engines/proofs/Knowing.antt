@@ -1,7 +1,10 @@
 -- What an engine knows after each step, in each phase.
 use Rattle.std.proofs.Common.{◌≡◌, ℕ, suc, ◌+◌, ◌<◌, ◌≤◌, ◌⊎◌, List, [], length, Bool, true, Option, Some, None}
 use Rattle.std.specs.Prelude.{slice_index_or}
+use Rattle.std.specs.List.{Contains}
+use Rattle.redo_core.specs.Data.{RecordData}
 use Rattle.redo_core.specs.declared.facts.Fact.{Fact}
+use Rattle.redo_core.specs.declared.facts.Fact.TheVariants.{Record}
 use Rattle.messages.specs.Summaries.{SummaryData}
 use Rattle.segment_theorems.specs.State.{State}
 use Rattle.segment_theorems.specs.Means.{Means}
@@ -28,6 +31,7 @@ use Rattle.volume_logs.specs.Histories.{History, log_at}
 use Rattle.volume_logs.specs.Emitting.{IsContentIn}
 use Rattle.volume_logs.specs.Joining.{IsFrontAbove}
 use Rattle.volume_engines.specs.Lives.{Life, Guards}
+use Rattle.volume_engines.specs.Emissions.{emitted_by}
 use Rattle.volume_engines.specs.Engines.{fenced_by}
 use Rattle.volume_engines.proofs.Admissions.{KnowsFresh}
 use Rattle.volume_engines.proofs.Bare.{IsBare}
@@ -117,8 +121,15 @@ pub record KnowsOpening (run : VolumeRun) (h : History) (guards : Guards) (e : �
   pub at : KnowsStage run h e t o.union o.pair o.stage
 
 -- ---- after the volume is open
-abbrev pub KnowsOpen : VolumeRun → ℕ → ℕ → Writing → Type 0
-KnowsOpen run e t w = HasAsked run e t × IsCutSent run t w.cut × IsOwnGeneration run e w.session.generation
+-- the life has emitted the fact in one of the first steps, up to step n
+abbrev pub Own : Life → ℕ → Fact → Type 0
+Own life n fact = Contains (emitted_by life (suc n)) fact
+
+abbrev pub HasOwn : (Fact → Type 0) → List RecordData → Type 0
+HasOwn F backlog = (r : RecordData) → Contains backlog r → F (Record r)
+
+abbrev pub KnowsOpen : VolumeRun → ℕ → ℕ → (Fact → Type 0) → Writing → Type 0
+KnowsOpen run e t F w = HasAsked run e t × IsCutSent run t w.cut × IsOwnGeneration run e w.session.generation × HasOwn F w.backlog
 
 -- ---- all phases
 abbrev pub KnowsPhase : VolumeRun → History → Guards → ℕ → Life → ℕ → Phase → Type 0
@@ -126,7 +137,7 @@ KnowsPhase run h guards e life n phase.Idle = Unit {0}
 KnowsPhase run h guards e life n (phase.Creating c) = ⊥
 KnowsPhase run h guards e life n (phase.Fencing f) = KnowsFencing run guards e life n f
 KnowsPhase run h guards e life n (phase.Opening o) = KnowsOpening run h guards e life (life.moments n) o
-KnowsPhase run h guards e life n (phase.Open w) = KnowsOpen run e (life.moments n) w
+KnowsPhase run h guards e life n (phase.Open w) = KnowsOpen run e (life.moments n) (Own life n) w
 
 -- the summaries that nodes may have been asked with by then: before a quorum is fenced, none
 abbrev pub Allowed : Phase → SummaryData → Type 0
@@ -140,7 +151,7 @@ Wider old new = (s : SummaryData) → Allowed old s → Allowed new s
 -- what step n leaves in a phase, with what it asks
 pub record Leaves (run : VolumeRun) (h : History) (guards : Guards) (e : ℕ) (life : Life) (n : ℕ) (old new : Phase) (actions : List Action) : Type 0 where
   pub knows : KnowsPhase run h guards e life n new
-  pub right : AllRight run h e (Allowed new) (life.moments n) actions
+  pub right : AllRight run h e (Allowed new) (Own life n) (life.moments n) actions
   pub wider : Wider old new
 
 abbrev pub LeavesTurn : VolumeRun → History → Guards → ℕ → Life → ℕ → Phase → Phase → Turn → Type 0

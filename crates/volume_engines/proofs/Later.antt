@@ -3,6 +3,7 @@ use Rattle.std.proofs.Common.{ℕ, ◌<◌, ◌≤◌, List, [], Bool, Option, a
 use Rattle.redo_core.specs.Data.{CutData}
 use Rattle.redo_core.specs.Sets.{IsPart}
 use Rattle.redo_core.specs.declared.facts.Fact.{Fact}
+use Rattle.redo_core.specs.declared.facts.Fact.TheVariants.{Record}
 use Rattle.redo_core.proofs.FactParts.{part_records}
 use Rattle.segment_theorems.specs.State.{State}
 use Rattle.segment_theorems.specs.Means.{Means}
@@ -60,8 +61,9 @@ proposal_later run e s t cut order is = (is.0, may_later run e cut.epoch s t ord
 votes_later : (run : VolumeRun) (e s t k : ℕ) → s ≤ t → HasVotes run e s k → HasVotes run e t k
 votes_later run e s t k order votes = (votes.0, votes.1, λ i among. let x = votes.2 i among in let before : x.0 < s = x.1 in (x.0, omega arith, x.2))
 
-pub open_later : (run : VolumeRun) (e s t : ℕ) (w : Writing) → s ≤ t → KnowsOpen run e s w → KnowsOpen run e t w
-open_later run e s t w order k = (asked_later run e s t order k.0, sent_later run s t w.cut order k.1, k.2)
+pub open_later : (run : VolumeRun) (e s t : ℕ) (F G : Fact → Type 0) (w : Writing) → s ≤ t → ((f : Fact) → F f → G f) → KnowsOpen run e s F w → KnowsOpen run e t G w
+open_later run e s t F G w order wider k =
+    (asked_later run e s t order k.0, sent_later run s t w.cut order k.1, k.2, λ r inside. wider (Record r) (k.3 r inside))
 
 pub opened_later : (run : VolumeRun) (e s t epoch point : ℕ) → s ≤ t → HasOpenedAt run e s epoch point → HasOpenedAt run e t epoch point
 opened_later run e s t epoch point order is = (record { own = is.0.own; accepted = votes_later run e s t epoch order is.0.accepted }, is.1)

@@ -40,5 +40,6 @@ pub mod Openings
 pub mod Bringing
 pub mod Following
 pub mod Recording
+pub mod Supplying
 pub mod Running
 pub mod Keeping

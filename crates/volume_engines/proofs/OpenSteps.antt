@@ -157,13 +157,20 @@ stopped_at old new left (turn.End xs) actions f stops says = (says.0 ∙ stops, 
 
 -- ---- calls
 -- what a call emits where it adds a record
-one_more : (old new : List RecordData) (r : RecordData) → new ≡ old ++ r ∷ [] → new_records old new ≡ Record r ∷ []
+pub one_more : (old new : List RecordData) (r : RecordData) → new ≡ old ++ r ∷ [] → new_records old new ≡ Record r ∷ []
 one_more old new r same =
     ap (λ (rs : List RecordData). new_records old rs) same ∙ ap (λ (rs : List RecordData). map (λ (x : RecordData). Record x) rs) (drop_at old (r ∷ []) (length old) refl)
 
 no_more : (old new : List RecordData) → new ≡ old → new_records old new ≡ []
 no_more old new same =
     ap (λ (rs : List RecordData). new_records old rs) same ∙ ap (λ (rs : List RecordData). map (λ (x : RecordData). Record x) rs) (drop_all (length old) old (omega arith))
+
+-- what a raise emits
+pub raise_gives : (w x : Writing) (reader point : ℕ) (actions : List Action) → RaisesDurably w reader point x actions
+    → emitted (event.Advance reader point) actions w x ≡ Advance (advance_of w.writer.epoch reader point) ∷ []
+raise_gives w x reader point actions does =
+    let a : AdvanceData = advance_of w.writer.epoch reader point in
+    ap (λ (b : Bool). if b then [] else Advance a ∷ []) (ap is_refused does.asks ∙ raise_unrefused a 0 w.session.generation w.session.births)
 
 module _ (nodes quorum : ℕ) (w : Writing) (actions : List Action) (new : VolumeData) where
   abbrev Step : Event → Type 0
@@ -204,11 +211,9 @@ module _ (nodes quorum : ℕ) (w : Writing) (actions : List Action) (new : Volum
   raise_step reader point x at says = ⊎_elim
       (λ does.
       let a : AdvanceData = advance_of w.writer.epoch reader point in
-      let given : is_refused actions ≡ false =
-      ap is_refused does.asks ∙ raise_unrefused a 0 w.session.generation w.session.births in
       raises x reader point at does
       (as_listed actions (to_members w.session (errand.Raise a)) does.asks (each_silent 0 w.session.generation w.session.births (errand.Raise a)))
-      (ap (λ (b : Bool). if b then [] else Advance a ∷ []) given))
+      (raise_gives w x reader point actions does))
       (λ no.
       refuses (event.Advance reader point) x no.0 at
       (λ same. ap (λ (b : Bool). if b then [] else Advance (advance_of w.writer.epoch reader point) ∷ []) (ap is_refused no.2.0)) no.2)

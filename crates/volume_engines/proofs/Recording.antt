@@ -81,7 +81,7 @@ module _ (life : Life) where
       (early_or_late n t)
 
   -- an early step is among them
-  is_before : (count t m : ℕ) → m < count → life.moments m < t → m < steps_before life count t
+  pub is_before : (count t m : ℕ) → m < count → life.moments m < t → m < steps_before life count t
   is_before zero t m within early = absurd (omega arith)
   is_before (suc n) t m within early = ⊎_elim
       (λ (last : life.moments n < t). let same : steps_before life (suc n) t ≡ suc n = early_step n t last in omega arith)

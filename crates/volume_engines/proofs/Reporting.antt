@@ -52,7 +52,7 @@ use Rattle.volume_engines.specs.Emissions.{HasEmissions}
 use Rattle.volume_engines.specs.Reporting.{ReportsAreDurable}
 use Rattle.volume_engines.proofs.Tables.{marked_more}
 use Rattle.volume_engines.proofs.Sending.{AllRight}
-use Rattle.volume_engines.proofs.Knowing.{KnowsStage, KnowsOpening, KnowsPhase, Allowed}
+use Rattle.volume_engines.proofs.Knowing.{Own, KnowsStage, KnowsOpening, KnowsPhase, Allowed}
 use Rattle.volume_engines.proofs.Proposing.{many_marked}
 use Rattle.volume_engines.proofs.Heard.{IsHeard, heard}
 use Rattle.volume_engines.proofs.Steps.{Knows, known}
@@ -191,8 +191,8 @@ module _ (run : VolumeRun) (h : History) (stop : ℕ) (content : ReplicaData →
 
     -- ---- an open volume
     module _ (w : Writing) (at : Old.phase ≡ phase.Open w) (k : KnowsWriting run h e life n w) where
-      sent : (m : ℕ) → m < suc n → AllRight run h e (λ s. Unit {0}) (life.moments m) (life.actions m)
-      sent = subst (λ (p : Phase). (m : ℕ) → m < suc n → AllRight run h e (Allowed p) (life.moments m) (life.actions m)) at knows.sent
+      sent : (m : ℕ) → m < suc n → AllRight run h e (λ s. Unit {0}) (Own life m) (life.moments m) (life.actions m)
+      sent = subst (λ (p : Phase). (m : ℕ) → m < suc n → AllRight run h e (Allowed p) (Own life m) (life.moments m) (life.actions m)) at knows.sent
 
       front_heard : (node point : ℕ) → IsFrontHeard Old.settings.nodes w (life.events (suc n)) node point
           → HasReported run h e (life.moments (suc n)) w.cut.epoch point node

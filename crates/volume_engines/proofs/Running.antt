@@ -36,21 +36,22 @@ use Rattle.volume_logs.proofs.Moving.{nothing_held, emitted_first}
 use Rattle.volume_logs.proofs.Sound.{log_is_sound}
 use Rattle.volume_engines.specs.Lives.{Life, Guards}
 use Rattle.volume_engines.specs.World.{HoldsPart, HasGuards}
-use Rattle.volume_engines.specs.Following.{plain_move, move_shown, Executes, IsNextMoment, LivesFollowOn}
+use Rattle.volume_engines.specs.Following.{plain_move, move_shown, Executes, IsNextMoment, IsRecorded, LivesFollowOn}
 use Rattle.volume_engines.specs.Proposals.{IsLifeIn}
 use Rattle.volume_engines.specs.Running.{HasAskedNode, ServesLife, ServesPeer, MovesAlone, BeginsEmpty, IsRunOfMachines, MachinesKeepRules}
 use Rattle.volume_engines.proofs.Admissions.{IsAdmission, may_admit}
 use Rattle.volume_engines.proofs.Sending.{IsOwnGeneration, IsOwnProposal, Right}
-use Rattle.volume_engines.proofs.Knowing.{Allowed}
+use Rattle.volume_engines.proofs.Knowing.{Own, Allowed}
 use Rattle.volume_engines.proofs.Later.{proposal_later}
 use Rattle.volume_engines.proofs.Naming.{names_hold_before}
 use Rattle.volume_engines.proofs.Steps.{right_action}
-use Rattle.volume_engines.proofs.Bringing.{Carries, carries}
+use Rattle.volume_engines.proofs.Bringing.{BringsTo, Carries, carries}
+use Rattle.volume_engines.proofs.Supplying.{life_brings}
 use Rattle.volume_engines.proofs.Following.{node_stays, goes_on}
 use Rattle.volume_engines.proofs.Recording.{moments_rise, fewer_steps, emitted_next, guards_next}
 
 -- ---- the move that a reply shows
-module _ (run : VolumeRun) (h : History) (content : ReplicaData → Content) (guards : Guards) (e s t node : ℕ) (Q : SummaryData → Type 0)
+module _ (run : VolumeRun) (h : History) (content : ReplicaData → Content) (guards : Guards) (e s t node : ℕ) (Q : SummaryData → Type 0) (F : Fact → Type 0)
     (follows : FollowsUntil run t) (emitted : IsEmitted run h t) (guarded : HasGuards run h t content guards) (order : s ≤ t) (told : Reply) where
   abbrev Old : GuardData
   Old = guards t node
@@ -129,7 +130,7 @@ module _ (run : VolumeRun) (h : History) (content : ReplicaData → Content) (gu
       (λ yes. by_reply (request.Plain asked) (reply.Plain yes.2.0) yes.2.2 (plainly asked yes.0 yes.1 keeps))
       says
 
-  shown : (asked : Request) → Right run h e Q s node asked → IsGuardReply Old asked told New
+  shown : (asked : Request) → Right run h e Q F s node asked → IsGuardReply Old asked told New
       → KeepsFacts run t asked (content Old.replica) (content New.replica) → Made (move_shown e asked told)
   shown request.Status right says keeps =
       stays request.Status (reply.Status Old.generation Old.birth Old.is_member says.0 Old.accepted) says.2 refl says.3
@@ -170,33 +171,47 @@ module _ (run : VolumeRun) (h : History) (content : ReplicaData → Content) (gu
 -- ---- a request
 module _ (run : VolumeRun) (h : History) (content : ReplicaData → Content) (guards : Guards) (t node : ℕ) (asked : Request) (told : Reply)
     (follows : FollowsUntil run t) (emitted : IsEmitted run h t) (guarded : HasGuards run h t content guards) (next : IsNextMoment run h content guards t)
-    (ex : Executes run h guards t node asked told) where
-  carried : Carries run h content guards t node asked
-  carried = carries run h content guards t node asked told ex.brought follows emitted (guarded.holds t node (omega arith)) next ex.brings ex.replies
+    (ex : Executes run guards t node asked told) where
+  -- what it brings is of the log
+  abbrev IsBrought : List Fact → Type 0
+  IsBrought brought = BringsTo h.readers (log_at h t) (guards t node).replica asked brought
 
-  all_hold : (i : ℕ) → HoldsPart h t content (guards (suc t) i)
-  all_hold i = ⊎_elim
+  -- what the next move leaves
+  abbrev Left : Type 0
+  Left = FollowsUntil run (suc t) × ((i : ℕ) → HoldsPart h t content (guards (suc t) i))
+
+  carried : (brought : List Fact) → IsBrought brought → Carries run h content guards t node asked
+  carried brought brings = carries run h content guards t node asked told brought follows emitted (guarded.holds t node (omega arith)) next brings ex.replies
+
+  all_hold : Carries run h content guards t node asked → (i : ℕ) → HoldsPart h t content (guards (suc t) i)
+  all_hold carried i = ⊎_elim
       (λ (here : i ≡ node). subst (λ (x : ℕ). HoldsPart h t content (guards (suc t) x)) (sym here) carried.holds)
       (λ (apart : i ≢ node). subst (λ (g : GuardData). HoldsPart h t content g) (sym (ex.others i apart)) (guarded.holds t i (omega arith)))
       (let way : (i ≡ node) ⊎ (i ≢ node) = grind arith in way)
 
-  executed : (e : ℕ) → Moves run t node (move_shown e asked told) (as_node content (guards t node)) (as_node content (guards (suc t) node))
-      → run.moves t ≡ move_shown e asked told → FollowsUntil run (suc t)
-  executed e made same =
-      goes_on run h t content guards node asked told (move_shown e asked told) follows (λ i. guarded.nodes t i (omega arith)) next ex made same
+  executed : (e : ℕ) → Carries run h content guards t node asked
+      → Moves run t node (move_shown e asked told) (as_node content (guards t node)) (as_node content (guards (suc t) node))
+      → run.moves t ≡ move_shown e asked told → Left
+  executed e carried made same = (
+    goes_on run h t content guards node asked told (move_shown e asked told) follows (λ i. guarded.nodes t i (omega arith)) next ex made same,
+    all_hold carried,
+  )
 
   -- a life has asked it
-  served : (e : ℕ) (life : Life) (count n : ℕ) → IsLifeIn run h t content guards e life count → n < count → Contains (life.actions n) (Ask node asked)
-      → run.moves t ≡ move_shown e asked told → FollowsUntil run (suc t)
-  served e life count n is step inside same =
+  served : (e : ℕ) (life : Life) (count whole n : ℕ) → IsLifeIn run h t content guards e life count → count ≤ whole → IsRecorded h life whole t
+      → n < count → life.moments n < t → Contains (life.actions n) (Ask node asked) → run.moves t ≡ move_shown e asked told → Left
+  served e life count whole n is all written step early inside same =
       let Q : SummaryData → Type 0 = Allowed (life.states (suc n)).phase in
-      let right : Right run h e Q (life.moments n) node asked =
+      let right : Right run h e Q (Own life n) (life.moments n) node asked =
       right_action run h t content guards e life count is n (Ask node asked) step inside in
-      executed e (shown run h content guards e (life.moments n) t node Q follows emitted guarded (is.upto n step) told asked right ex.replies carried.keeps) same
+      let brings = life_brings run h t content guards e life count whole is all written n step early (guards t node).replica Q node asked right in
+      let x : Carries run h content guards t node asked = carried brings.0 brings.1 in
+      executed e x (shown run h content guards e (life.moments n) t node Q (Own life n) follows emitted guarded (omega arith) told asked right ex.replies x.keeps) same
 
 pub lives_follow_on : LivesFollowOn
-lives_follow_on run h t content guards e life count is next n node asked told step inside ex same =
-    served run h content guards t node asked told is.follows is.emitted is.guarded next ex e life count n is step inside same
+lives_follow_on run h t content guards e life count is next written n node asked told step early inside ex same =
+    (served run h content guards t node asked told is.follows is.emitted is.guarded next ex e life count count n is (omega arith) written step early inside
+    same).0
 
 -- ---- one moment after another
 module _ (run : VolumeRun) (h : History) (stop : ℕ) (content : ReplicaData → Content) (guards : Guards) (is : IsRunOfMachines run h stop content guards) where
@@ -212,7 +227,7 @@ module _ (run : VolumeRun) (h : History) (stop : ℕ) (content : ReplicaData →
       → IsLifeIn run h t content guards e x.life (suc x.step)
   life_in t e node asked kept x =
       let within : x.step < x.count = x.within in
-      let sent : x.life.moments x.step ≤ t = x.sent in
+      let sent : x.life.moments x.step < t = x.sent in
       record {
         follows = kept.0;
         emitted = kept.1;
@@ -228,23 +243,18 @@ module _ (run : VolumeRun) (h : History) (stop : ℕ) (content : ReplicaData →
   serves_life : (t : ℕ) → t < stop → Kept t → ServesLife run h guards t → Next t
   serves_life t low kept turn =
       let x = turn.asks in
-      let next : IsNextMoment run h content guards t = is.next t low in
-      let lives : IsLifeIn run h t content guards turn.engine x.life (suc x.step) = life_in t turn.engine turn.node turn.asked kept x in (
-        served run h content guards t turn.node turn.asked turn.told kept.0 kept.1 kept.2 next turn.executes turn.engine x.life (suc x.step) x.step lives
-            (omega arith) x.asks turn.move,
-        all_hold run h content guards t turn.node turn.asked turn.told kept.0 kept.1 kept.2 next turn.executes,
-      )
+      let within : x.step < x.count = x.within in
+      served run h content guards t turn.node turn.asked turn.told kept.0 kept.1 kept.2 (is.next t low) turn.executes turn.engine x.life (suc x.step) x.count
+      x.step (life_in t turn.engine turn.node turn.asked kept x) (omega arith) x.written (omega arith) x.sent x.asks turn.move
 
   serves_peer : (t : ℕ) → t < stop → Kept t → ServesPeer run h guards t → Next t
   serves_peer t low kept turn =
       let asked : Request = request.Plain turn.asked in
-      let next : IsNextMoment run h content guards t = is.next t low in
-      let keeps = (carried run h content guards t turn.node asked turn.told kept.0 kept.1 kept.2 next turn.executes).keeps in (
-        executed run h content guards t turn.node asked turn.told kept.0 kept.1 kept.2 next turn.executes 0
-            (plain_shown run h content guards 0 t t turn.node (λ summary. Unit {0}) kept.0 kept.1 kept.2 (omega arith) turn.told turn.asked
-            turn.executes.replies keeps) turn.move,
-        all_hold run h content guards t turn.node asked turn.told kept.0 kept.1 kept.2 next turn.executes,
-      )
+      let x : Carries run h content guards t turn.node asked =
+      carried run h content guards t turn.node asked turn.told kept.0 kept.1 kept.2 (is.next t low) turn.executes turn.brought turn.brings in
+      executed run h content guards t turn.node asked turn.told kept.0 kept.1 kept.2 (is.next t low) turn.executes 0 x
+      (plain_shown run h content guards 0 t t turn.node (λ summary. Unit {0}) (λ f. Unit {0}) kept.0 kept.1 kept.2 (omega arith) turn.told turn.asked
+      turn.executes.replies x.keeps) turn.move
 
   -- ---- a move without a request
   module _ (t : ℕ) (low : t < stop) (kept : Kept t) (alone : MovesAlone run h guards t) where

@@ -25,7 +25,7 @@ use Rattle.replica.specs.Parts.{ReplicaData}
 use Rattle.replica.specs.Replying.{refusal_reply, taken_reply, fault_reply, delta_reply, absorbed_reply}
 use Rattle.volume_theorems.specs.Runs.{VolumeRun}
 use Rattle.volume_theorems.specs.Opening.{HasAsked}
-use Rattle.volume_engines.proofs.Sending.{RightUnder}
+use Rattle.volume_engines.proofs.Sending.{MayAsk}
 
 -- ---- replies that carry neither a delta nor a front
 refusal_no_delta : (d : DeltaData) (why : Refusal) → told.Delta d ≡ refusal_reply why → ⊥
@@ -89,7 +89,7 @@ pub record ShowsDelta (run : VolumeRun) (e t : ℕ) (Q : SummaryData → Type 0)
   pub fills : FillsSummary s summary d
 
 pub delta_says : (run : VolumeRun) (e t : ℕ) (Q : SummaryData → Type 0) (old new : ReplicaData) (asked : SegmentRequest) (d : DeltaData)
-    → RightUnder run e Q t asked → IsReply old asked (told.Delta d) new → ShowsDelta run e t Q old.cached.segment d
+    → MayAsk run e Q t asked → IsReply old asked (told.Delta d) new → ShowsDelta run e t Q old.cached.segment d
 delta_says run e t Q old new (segment.Answer summary) d right says = record {
   summary = summary;
   own = right.0;
@@ -107,7 +107,7 @@ delta_says run e t Q old new asked d right says = absurd right
 
 -- ---- a front
 pub front_says : (run : VolumeRun) (e t : ℕ) (Q : SummaryData → Type 0) (old new : ReplicaData) (asked : SegmentRequest) (f : Front)
-    → RightUnder run e Q t asked → IsReply old asked (told.Front f) new → HasAsked run e t × Fronts old.cached.segment (told.Front f)
+    → MayAsk run e Q t asked → IsReply old asked (told.Front f) new → HasAsked run e t × Fronts old.cached.segment (told.Front f)
 front_says run e t Q old new (segment.Answer summary) f right says = absurd (delta_no_front f says.0.answer says.0.is)
 front_says run e t Q old new segment.Front f right says = (right, says.0)
 front_says run e t Q old new (segment.Take fact) f right says = absurd (taken_no_front f says.0.answer says.0.is)

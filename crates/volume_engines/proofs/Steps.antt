@@ -1,11 +1,13 @@
 -- One step after another.
-use Rattle.std.proofs.Common.{◌≡◌, ℕ, zero, suc, ◌<◌, ◌≤◌, ◌⊎◌, ⊎_elim, inl, inr, List, [], ◌∷◌, Bool, false, Some, None, refl, sym, ◌∙◌, subst, ap, arith}
+use Rattle.std.proofs.Common.{◌≡◌, ℕ, zero, suc, ◌<◌, ◌≤◌, ◌⊎◌, ⊎_elim, inl, inr, List, [], ◌∷◌, ◌++◌, Bool, false, Some, None, refl, sym, ◌∙◌, subst, ap, arith}
 use Rattle.std.specs.Prelude.{replicate}
 use Rattle.std.specs.List.{Contains}
 use Rattle.std.proofs.lemmas.Bool.{ne_eqb}
-use Rattle.redo_core.specs.Data.{CutData}
-use Rattle.redo_core.specs.declared.facts.Fact.TheVariants.{Cut}
-use Rattle.redo_core.proofs.Members.{each}
+use Rattle.std.proofs.lemmas.List.Elements.{Contains-append_right}
+use Rattle.redo_core.specs.Data.{RecordData, CutData, AdvanceData, advance_of}
+use Rattle.redo_core.specs.declared.facts.Fact.{Fact}
+use Rattle.redo_core.specs.declared.facts.Fact.TheVariants.{Record, Cut, Advance}
+use Rattle.redo_core.proofs.Members.{each, here}
 use Rattle.messages.specs.Summaries.{SummaryData}
 use Rattle.replica.specs.Parts.{ReplicaData}
 use Rattle.replica.specs.declared.requests.Request.TheVariants as segment
@@ -35,7 +37,7 @@ use Rattle.volume.specs.Settings.{SettingsData}
 use Rattle.volume.specs.Sets.{birth_at}
 use Rattle.volume.specs.Stepping.{IsVolumeStep, OnlyRefuses, StartsOpening, CallsOpen, Hears, Retries, Turns}
 use Rattle.volume.specs.Turning.{Stays}
-use Rattle.volume.specs.Writing.{WritesPage, EndsTransaction, RaisesPoint}
+use Rattle.volume.specs.Writing.{WritesPage, EndsTransaction, RaisesDurably, RaisesPoint}
 use Rattle.volume_theorems.specs.Nodes.{Content}
 use Rattle.volume_theorems.specs.Runs.{VolumeRun}
 use Rattle.volume_theorems.specs.Opening.{IsCutSent}
@@ -46,6 +48,7 @@ use Rattle.volume_logs.specs.Histories.{History}
 use Rattle.volume_logs.specs.Emitting.{IsEmitted}
 use Rattle.volume_engines.specs.Lives.{Life, Guards, WasGiven, MayHappen}
 use Rattle.volume_engines.specs.Engines.{fenced_in, fenced_at, fenced_by, Gathers}
+use Rattle.volume_engines.specs.Emissions.{new_records, emitted, emitted_by}
 use Rattle.volume_engines.specs.Proposed.{IsPlanOf, IsPlanIn}
 use Rattle.volume_engines.specs.Proposals.{IsLifeIn, ProposalsKeepRules}
 use Rattle.volume_engines.specs.World.{HasGuards}
@@ -54,7 +57,9 @@ use Rattle.volume_engines.specs.Openings.{IsOpening, TakesKeepRules, OpeningsAre
 use Rattle.volume_engines.proofs.Tables.{no_birth}
 use Rattle.volume_engines.proofs.Admissions.{fresh_later, none_fresh, admits_later}
 use Rattle.volume_engines.proofs.Sending.{IsOwnProposal, HasOpenedAt, Right, RightAction, AllRight, all_wider, queries_each}
-use Rattle.volume_engines.proofs.Knowing.{pair_at, KnowsFencing, KnowsOpening, KnowsOpen, KnowsPhase, Allowed, Leaves, LeavesTurn}
+use Rattle.volume_engines.proofs.Knowing.{Own, HasOwn, pair_at, KnowsFencing, KnowsOpening, KnowsOpen, KnowsPhase, Allowed, Leaves, LeavesTurn}
+use Rattle.volume_engines.proofs.Emissions.{emitted_more, emits_open}
+use Rattle.volume_engines.proofs.OpenSteps.{one_more, raise_gives}
 use Rattle.volume_engines.proofs.OrderedSteps.{plans_in_order}
 use Rattle.volume_engines.proofs.Named.{NamesPlan, names_plan}
 use Rattle.volume_engines.proofs.Turning.{when_stays}
@@ -98,7 +103,7 @@ module _ (run : VolumeRun) (h : History) (stop : ℕ) (content : ReplicaData →
     pub settings : v.settings ≡ (life.states 0).settings
     pub generation : v.generation ≡ life.generation
     pub knows : KnowsPhase run h guards e life n v.phase
-    pub sent : (m : ℕ) → m < suc n → AllRight run h e (Allowed v.phase) (life.moments m) (life.actions m)
+    pub sent : (m : ℕ) → m < suc n → AllRight run h e (Allowed v.phase) (Own life m) (life.moments m) (life.actions m)
 
   module _ (n : ℕ) (step : suc n < count) (old new : VolumeData) (k : Knows n old) where
     in_time : life.moments n ≤ life.moments (suc n)
@@ -107,17 +112,17 @@ module _ (run : VolumeRun) (h : History) (stop : ℕ) (content : ReplicaData →
     -- ---- a step that leads to a phase
     leads : (p q : Phase) → old.phase ≡ p → new ≡ at_phase old q → Leaves run h guards e life (suc n) p q (life.actions (suc n)) → Knows (suc n) new
     leads p q from same leaves =
-        let before : (m : ℕ) → m < suc n → AllRight run h e (Allowed p) (life.moments m) (life.actions m) =
-        subst (λ (x : Phase). (m : ℕ) → m < suc n → AllRight run h e (Allowed x) (life.moments m) (life.actions m)) from k.sent in
+        let before : (m : ℕ) → m < suc n → AllRight run h e (Allowed p) (Own life m) (life.moments m) (life.actions m) =
+        subst (λ (x : Phase). (m : ℕ) → m < suc n → AllRight run h e (Allowed x) (Own life m) (life.moments m) (life.actions m)) from k.sent in
         let after : Knows (suc n) (at_phase old q) = record {
           settings = k.settings;
           generation = k.generation;
           knows = leaves.knows;
           sent = λ m within. ⊎_elim
               (λ (now : m ≡ suc n).
-              subst (λ (x : ℕ). AllRight run h e (Allowed q) (life.moments x) (life.actions x)) (sym now) leaves.right)
+              subst (λ (x : ℕ). AllRight run h e (Allowed q) (Own life x) (life.moments x) (life.actions x)) (sym now) leaves.right)
               (λ (early : m < suc n).
-              all_wider run h e (Allowed p) (Allowed q) (life.moments m) leaves.wider (life.actions m) (before m early))
+              all_wider run h e (Allowed p) (Allowed q) (Own life m) (life.moments m) leaves.wider (life.actions m) (before m early))
               (let way : (m ≡ suc n) ⊎ (m < suc n) = grind (arith, within) in way);
         } in
         subst (λ (v : VolumeData). Knows (suc n) v) (sym same) after
@@ -131,6 +136,9 @@ module _ (run : VolumeRun) (h : History) (stop : ℕ) (content : ReplicaData →
     turned p left (turn.Stay asked) from leaves says = leads p left from says.1 (leaves_as p left asked.items says.0 leaves)
     turned p left (turn.Enter next asked) from leaves says = leads p next from says.1 (leaves_as p next asked.items says.0 leaves)
     turned p left (turn.End asked) from leaves says = leads p phase.Idle from says.1 (leaves_as p phase.Idle asked.items says.0 leaves)
+
+    own_later : (f : Fact) → Own life n f → Own life (suc n) f
+    own_later f own = emitted_more life (suc n) f own
 
     -- ---- a step after which nothing is new
     abbrev SameBelow : Type 0
@@ -151,18 +159,18 @@ module _ (run : VolumeRun) (h : History) (stop : ℕ) (content : ReplicaData →
       bare = knows.bare;
       at = stage_later run h stop e (life.moments n) (life.moments (suc n)) is.emitted in_time (is.upto (suc n) step) o.union o.pair o.stage knows.at;
     }
-    phase_later (phase.Open w) same knows = open_later run e (life.moments n) (life.moments (suc n)) w in_time knows
+    phase_later (phase.Open w) same knows = open_later run e (life.moments n) (life.moments (suc n)) (Own life n) (Own life (suc n)) w in_time own_later knows
 
-    unchanged : (actions : List Action) → SameBelow → life.actions (suc n) ≡ actions → AllRight run h e (Allowed old.phase) (life.moments (suc n)) actions
+    unchanged : (actions : List Action) → SameBelow → life.actions (suc n) ≡ actions → AllRight run h e (Allowed old.phase) (Own life (suc n)) (life.moments (suc n)) actions
         → new ≡ old → Knows (suc n) new
     unchanged actions same asks right stays =
         leads old.phase old.phase refl stays
         (leaves_as old.phase old.phase actions asks
         (record { knows = phase_later old.phase same k.knows; right = right; wider = λ s own. own }))
 
-    open_known : (w : Writing) → old.phase ≡ phase.Open w → KnowsOpen run e (life.moments (suc n)) w
+    open_known : (w : Writing) → old.phase ≡ phase.Open w → KnowsOpen run e (life.moments (suc n)) (Own life (suc n)) w
     open_known w from =
-        open_later run e (life.moments n) (life.moments (suc n)) w in_time (subst (λ (x : Phase). KnowsPhase run h guards e life n x) from k.knows)
+        open_later run e (life.moments n) (life.moments (suc n)) (Own life n) (Own life (suc n)) w in_time own_later (subst (λ (x : Phase). KnowsPhase run h guards e life n x) from k.knows)
 
     only_refuses : (f : Fault) → SameBelow → OnlyRefuses old f (life.actions (suc n)) new → Knows (suc n) new
     only_refuses f same says = unchanged (Refused f ∷ []) same says.0 (tt, tt) says.1
@@ -173,15 +181,17 @@ module _ (run : VolumeRun) (h : History) (stop : ℕ) (content : ReplicaData →
 
     -- ---- calls
     calls_open : (does : Writing → List Action → Writing → Type 0) (p : Phase) → old.phase ≡ p → SameBelow
-        → ((w after : Writing) → KnowsOpen run e (life.moments (suc n)) w → does w (life.actions (suc n)) after
-        → (after.cut ≡ w.cut) × (after.session.generation ≡ w.session.generation) × AllRight run h e (λ s. Unit {0}) (life.moments (suc n)) (life.actions (suc n)))
+        → ((w after : Writing) → KnowsOpen run e (life.moments (suc n)) (Own life (suc n)) w → old.phase ≡ phase.Open w → new.phase ≡ phase.Open after
+        → does w (life.actions (suc n)) after
+        → (after.cut ≡ w.cut) × (after.session.generation ≡ w.session.generation)
+        × AllRight run h e (λ s. Unit {0}) (Own life (suc n)) (life.moments (suc n)) (life.actions (suc n)) × HasOwn (Own life (suc n)) after.backlog)
         → CallsOpen does old p (life.actions (suc n)) new → Knows (suc n) new
     calls_open does (phase.Open w) from same right says =
-        let known : KnowsOpen run e (life.moments (suc n)) w = open_known w from in
-        let keeps = right w says.0 known says.1 in
+        let known : KnowsOpen run e (life.moments (suc n)) (Own life (suc n)) w = open_known w from in
+        let keeps = right w says.0 known from (ap (λ (v : VolumeData). v.phase) says.2) says.1 in
         leads (phase.Open w) (phase.Open says.0) from says.2
         (record {
-          knows = (known.0, subst (λ (c : CutData). IsCutSent run (life.moments (suc n)) c) (sym keeps.0) known.1, known.2 ∙ sym keeps.1);
+          knows = (known.0, subst (λ (c : CutData). IsCutSent run (life.moments (suc n)) c) (sym keeps.0) known.1, known.2 ∙ sym keeps.1, keeps.3);
           right = keeps.2;
           wider = λ s own. tt;
         })
@@ -207,8 +217,8 @@ module _ (run : VolumeRun) (h : History) (stop : ℕ) (content : ReplicaData →
     knows_of : (p : Phase) → old.phase ≡ p → KnowsPhase run h guards e life n p
     knows_of p from = subst (λ (x : Phase). KnowsPhase run h guards e life n x) from k.knows
 
-    sent_of : (p : Phase) → old.phase ≡ p → (m : ℕ) → m < suc n → AllRight run h e (Allowed p) (life.moments m) (life.actions m)
-    sent_of p from = subst (λ (x : Phase). (m : ℕ) → m < suc n → AllRight run h e (Allowed x) (life.moments m) (life.actions m)) from k.sent
+    sent_of : (p : Phase) → old.phase ≡ p → (m : ℕ) → m < suc n → AllRight run h e (Allowed p) (Own life m) (life.moments m) (life.actions m)
+    sent_of p from = subst (λ (x : Phase). (m : ℕ) → m < suc n → AllRight run h e (Allowed x) (Own life m) (life.moments m) (life.actions m)) from k.sent
 
     opening_later : (o : Opening) → KnowsOpening run h guards e life (life.moments n) o → KnowsOpening run h guards e life (life.moments (suc n)) o
     opening_later o knows = record {
@@ -258,9 +268,9 @@ module _ (run : VolumeRun) (h : History) (stop : ℕ) (content : ReplicaData →
       hears (phase.Opening o) (phase.Fencing f) t node told from inside at given says turns = absurd says
       hears (phase.Opening o) (phase.Open w) t node told from inside at given says turns = absurd says
       hears (phase.Open w) (phase.Open x) t node told from inside at given says turns =
-          let known : KnowsOpen run e (life.moments (suc n)) w = open_known w from in
+          let known : KnowsOpen run e (life.moments (suc n)) (Own life (suc n)) w = open_known w from in
           turned (phase.Open w) (phase.Open x) t from
-          (hears_writing run h guards e life (suc n) known.0 w known.1 known.2 old.settings.quorum node told x t says) turns
+          (hears_writing run h guards e life (suc n) known.0 w known.1 known.2 known.3 old.settings.quorum node told x t says) turns
       hears (phase.Open w) phase.Idle t node told from inside at given says turns = absurd says
       hears (phase.Open w) (phase.Creating c) t node told from inside at given says turns = absurd says
       hears (phase.Open w) (phase.Fencing f) t node told from inside at given says turns = absurd says
@@ -282,9 +292,31 @@ module _ (run : VolumeRun) (h : History) (stop : ℕ) (content : ReplicaData →
           (retries_in_opening run h stop content guards e life count is (suc n) step old.settings.quorum quorum_is o
           (opening_later o (knows_of (phase.Opening o) from)) (sent_of (phase.Opening o) from) node t says) turns
       retries (phase.Open w) t node from at says turns =
-          let known : KnowsOpen run e (life.moments (suc n)) w = open_known w from in
+          let known : KnowsOpen run e (life.moments (suc n)) (Own life (suc n)) w = open_known w from in
           turned (phase.Open w) (phase.Open w) t from
-          (retries_writing run h guards e life (suc n) known.0 w known.1 known.2 node (birth_at w.session.births node) t says) turns
+          (retries_writing run h guards e life (suc n) known.0 w known.1 known.2 known.3 node (birth_at w.session.births node) t says) turns
+
+      -- ---- what a call emits
+      emits : (w x : Writing) (ev : Event) (more : List Fact) → life.events (suc n) ≡ ev → old.phase ≡ phase.Open w → new.phase ≡ phase.Open x
+          → emitted ev (life.actions (suc n)) w x ≡ more → emitted_by life (suc (suc n)) ≡ emitted_by life (suc n) ++ more
+      emits w x ev more at from to gives =
+          emits_open life (suc n) w x (phase_before (phase.Open w) from) (phase_after (phase.Open x) to)
+          ∙ ap (λ (fs : List Fact). emitted_by life (suc n) ++ fs) (ap (λ (v : Event). emitted v (life.actions (suc n)) w x) at ∙ gives)
+
+      own_last : (f : Fact) → emitted_by life (suc (suc n)) ≡ emitted_by life (suc n) ++ f ∷ [] → Own life (suc n) f
+      own_last f all =
+          subst (λ (fs : List Fact). Contains fs f) (sym all) (Contains-append_right (emitted_by life (suc n)) (f ∷ []) f (here f []))
+
+      own_record : (w x : Writing) (ev : Event) (r : RecordData) → life.events (suc n) ≡ ev → old.phase ≡ phase.Open w → new.phase ≡ phase.Open x
+          → emitted ev (life.actions (suc n)) w x ≡ new_records w.backlog x.backlog → x.backlog ≡ w.backlog ++ r ∷ [] → Own life (suc n) (Record r)
+      own_record w x ev r at from to gives adds =
+          own_last (Record r) (emits w x ev (Record r ∷ []) at from to (gives ∙ one_more w.backlog x.backlog r adds))
+
+      own_advance : (w x : Writing) (reader point : ℕ) → life.events (suc n) ≡ event.Advance reader point → old.phase ≡ phase.Open w
+          → new.phase ≡ phase.Open x → RaisesDurably w reader point x (life.actions (suc n)) → Own life (suc n) (Advance (advance_of w.writer.epoch reader point))
+      own_advance w x reader point at from to raises =
+          let a : AdvanceData = advance_of w.writer.epoch reader point in
+          own_last (Advance a) (emits w x (event.Advance reader point) (Advance a ∷ []) at from to (raise_gives w x reader point (life.actions (suc n)) raises))
 
       -- ---- events
       below_out : (node : ℕ) (told : Reply) → old.settings.nodes ≤ node → life.events (suc n) ≡ event.Answered node told → SameBelow
@@ -313,13 +345,19 @@ module _ (run : VolumeRun) (h : History) (stop : ℕ) (content : ReplicaData →
           says
       by_event (event.Write page init patches) at may says =
           calls_open (λ w asked after. WritesPage w page init patches.items asked after) old.phase refl (λ i low. fenced_same (event.Write page init patches) at i)
-          (λ w x known does. page_right run h guards e life (suc n) known.0 w x page init patches.items (life.actions (suc n)) known.2 does) says
+          (λ w x known from to does.
+          page_right run h guards e life (suc n) known.0 w x (life.actions (suc n)) known.2 known.3 page init patches.items
+          (λ r adds. own_record w x (event.Write page init patches) r at from to refl adds) does) says
       by_event (event.Commit header) at may says =
           calls_open (λ w asked after. EndsTransaction w header.items asked after) old.phase refl (λ i low. fenced_same (event.Commit header) at i)
-          (λ w x known does. end_right run h guards e life (suc n) known.0 w x header.items (life.actions (suc n)) known.2 does) says
+          (λ w x known from to does.
+          end_right run h guards e life (suc n) known.0 w x (life.actions (suc n)) known.2 known.3 header.items
+          (λ r adds. own_record w x (event.Commit header) r at from to refl adds) does) says
       by_event (event.Advance reader point) at may says =
           calls_open (λ w asked after. RaisesPoint w reader point asked after) old.phase refl (λ i low. fenced_same (event.Advance reader point) at i)
-          (λ w x known does. raise_right run h guards e life (suc n) known.0 w x reader point (life.actions (suc n)) known.2 does) says
+          (λ w x known from to does.
+          raise_right run h guards e life (suc n) known.0 w x (life.actions (suc n)) known.2 known.3 reader point
+          (λ raises. own_advance w x reader point at from to raises) does) says
       by_event (event.Answered node told) at may says = ⊎_elim
           (λ out. unchanged [] (below_out node told out.0 at) out.1 tt out.2)
           (λ inside. hears old.phase inside.1.0 inside.1.1 node told refl inside.0 at may inside.1.2 inside.1.3)
@@ -353,16 +391,16 @@ module _ (run : VolumeRun) (h : History) (stop : ℕ) (content : ReplicaData →
       let above : (life.states 0).generation < life.generation = is.lives.above in
       absurd (omega arith))
       (λ up.
-      let right : AllRight run h e (λ s. ⊥) (life.moments 0) (life.actions 0) =
-      subst (λ (xs : List Action). AllRight run h e (λ s. ⊥) (life.moments 0) xs) (sym up.1)
-      (queries_each run h e (λ s. ⊥) (life.moments 0) 0 (life.states 0).settings.nodes (Fence life.generation) is.names.generation) in
+      let right : AllRight run h e (λ s. ⊥) (Own life 0) (life.moments 0) (life.actions 0) =
+      subst (λ (xs : List Action). AllRight run h e (λ s. ⊥) (Own life 0) (life.moments 0) xs) (sym up.1)
+      (queries_each run h e (λ s. ⊥) (Own life 0) (life.moments 0) 0 (life.states 0).settings.nodes (Fence life.generation) is.names.generation) in
       let knows : Knows 0 (volume_of (life.states 0).settings life.generation (phase.Fencing (new_fencing life.generation))) = record {
         settings = refl;
         generation = refl;
         knows = fresh_table;
         sent = λ m within.
             let zeroth : 0 ≡ m = omega arith in
-            subst (λ (x : ℕ). AllRight run h e (λ s. ⊥) (life.moments x) (life.actions x)) zeroth right;
+            subst (λ (x : ℕ). AllRight run h e (λ s. ⊥) (Own life x) (life.moments x) (life.actions x)) zeroth right;
       } in
       subst (λ (v : VolumeData). Knows 0 v) (sym up.2) knows)
       starts
@@ -374,11 +412,12 @@ module _ (run : VolumeRun) (h : History) (stop : ℕ) (content : ReplicaData →
       (is.lives.heard n step) (is.lives.steps (suc n) step)
 
   -- what holds of an action of a step
-  pub right_action : (n : ℕ) (a : Action) → n < count → Contains (life.actions n) a → RightAction run h e (Allowed (life.states (suc n)).phase) (life.moments n) a
+  pub right_action : (n : ℕ) (a : Action) → n < count → Contains (life.actions n) a
+      → RightAction run h e (Allowed (life.states (suc n)).phase) (Own life n) (life.moments n) a
   right_action n a within inside =
       let k : Knows n (life.states (suc n)) = known n within in
       let Q : SummaryData → Type 0 = Allowed (life.states (suc n)).phase in
-      each (RightAction run h e Q (life.moments n)) (life.actions n) a (k.sent n (omega arith)) inside
+      each (RightAction run h e Q (Own life n) (life.moments n)) (life.actions n) a (k.sent n (omega arith)) inside
 
   pub proposed : (n node generation birth t : ℕ) (cut : CutData) → n < count → Contains (life.actions n) (Ask node (request.Propose generation birth cut))
       → life.moments n ≤ t → IsOwnProposal run e t cut
@@ -390,17 +429,17 @@ module _ (run : VolumeRun) (h : History) (stop : ℕ) (content : ReplicaData →
   taken n node generation birth t cut within inside order =
       sent_later run (life.moments n) t cut order (right_action n (Ask node (request.As generation birth (segment.Take (Cut cut)))) within inside)
 
-  opening_right : (Q : SummaryData → Type 0) (t : ℕ) (a : Action) (epoch point : ℕ) → RightAction run h e Q t a → IsOpening a epoch point
+  opening_right : (Q : SummaryData → Type 0) (F : Fact → Type 0) (t : ℕ) (a : Action) (epoch point : ℕ) → RightAction run h e Q F t a → IsOpening a epoch point
       → HasOpenedAt run e t epoch point
-  opening_right Q t (Opened k p header) epoch point right is =
+  opening_right Q F t (Opened k p header) epoch point right is =
       subst (λ (x : ℕ). HasOpenedAt run e t epoch x) is.1 (subst (λ (x : ℕ). HasOpenedAt run e t x p) is.0 right)
-  opening_right Q t other epoch point right is = absurd is
+  opening_right Q F t other epoch point right is = absurd is
 
   pub opened : (n epoch point t : ℕ) (a : Action) → n < count → Contains (life.actions n) a → IsOpening a epoch point → life.moments n ≤ t
       → HasOpenedAt run e t epoch point
   opened n epoch point t a within inside is_opening order =
       let Q : SummaryData → Type 0 = Allowed (life.states (suc n)).phase in
-      opened_later run e (life.moments n) t epoch point order (opening_right Q (life.moments n) a epoch point (right_action n a within inside) is_opening)
+      opened_later run e (life.moments n) t epoch point order (opening_right Q (Own life n) (life.moments n) a epoch point (right_action n a within inside) is_opening)
 
 pub admissions_keep_rules : AdmissionsKeepRules
 admissions_keep_rules run h stop content guards e life count is n node t asked within inside order upto =
@@ -409,19 +448,19 @@ admissions_keep_rules run h stop content guards e life count is n node t asked w
 
 -- what was right to send may be executed from then on
 allowed : (run : VolumeRun) (h : History) (stop : ℕ) (content : ReplicaData → Content) (guards : Guards) (e s t node : ℕ) (Q : SummaryData → Type 0)
-    (asked : Request) → FollowsUntil run stop → IsEmitted run h stop → HasGuards run h stop content guards → s ≤ t → t ≤ stop
-    → Right run h e Q s node asked → IsAllowed run t node (guards t node) asked
-allowed run h stop content guards e s t node Q (request.Fence generation) follows emitted guarded order upto right = (e, right)
-allowed run h stop content guards e s t node Q (request.Propose generation birth cut) follows emitted guarded order upto right =
+    (F : Fact → Type 0) (asked : Request) → FollowsUntil run stop → IsEmitted run h stop → HasGuards run h stop content guards → s ≤ t → t ≤ stop
+    → Right run h e Q F s node asked → IsAllowed run t node (guards t node) asked
+allowed run h stop content guards e s t node Q F (request.Fence generation) follows emitted guarded order upto right = (e, right)
+allowed run h stop content guards e s t node Q F (request.Propose generation birth cut) follows emitted guarded order upto right =
     let own : IsOwnProposal run e t cut = proposal_later run e s t cut order right.1 in
     record { engine = e; generation_is = right.0; cut_is = own.0; may = own.1 }
-allowed run h stop content guards e s t node Q (request.Admit asked) follows emitted guarded order upto right =
+allowed run h stop content guards e s t node Q F (request.Admit asked) follows emitted guarded order upto right =
     inr (admits_later run h stop content guards e s t node asked follows emitted guarded order upto right)
-allowed run h stop content guards e s t node Q asked follows emitted guarded order upto right = tt
+allowed run h stop content guards e s t node Q F asked follows emitted guarded order upto right = tt
 
 pub requests_keep_rules : RequestsKeepRules
 requests_keep_rules run h stop content guards e life count is n node t asked within inside order upto =
-    allowed run h stop content guards e (life.moments n) t node (Allowed (life.states (suc n)).phase) asked is.follows is.emitted is.guarded order upto
+    allowed run h stop content guards e (life.moments n) t node (Allowed (life.states (suc n)).phase) (Own life n) asked is.follows is.emitted is.guarded order upto
     (right_action run h stop content guards e life count is n (Ask node asked) within inside)
 
 pub takes_keep_rules : TakesKeepRules

@@ -6,6 +6,7 @@ use Rattle.redo_core.specs.Shape.{epoch_count, cut_fault}
 use Rattle.redo_core.specs.declared.facts.Fact.{Fact}
 use Rattle.segment_theorems.specs.State.{empty_state}
 use Rattle.segment_theorems.specs.Promises.{KeepsMeaning}
+use Rattle.replica.specs.Meaning.{Brings}
 use Rattle.replica.specs.Parts.{ReplicaData}
 use Rattle.replica.specs.declared.requests.Request.{Request as SegmentRequest}
 use Rattle.guard.specs.declared.requests.Request.{Request}
@@ -20,7 +21,7 @@ use Rattle.volume_theorems.specs.Opening.{IsCutSent}
 use Rattle.volume_theorems.specs.Protocol.{Moves}
 use Rattle.volume_theorems.specs.Stopping.{FollowsUntil}
 use Rattle.volume_guards.specs.Guards.{as_node}
-use Rattle.volume_logs.specs.Histories.{History}
+use Rattle.volume_logs.specs.Histories.{History, log_at}
 use Rattle.volume_logs.specs.Emitting.{IsEmitted}
 use Rattle.volume_logs.specs.Joining.{IsBlank}
 use Rattle.volume_engines.specs.Lives.{Life, Guards, IsLife}
@@ -28,10 +29,10 @@ use Rattle.volume_engines.specs.World.{HasGuards}
 use Rattle.volume_engines.specs.Engines.{IsEngineOf}
 use Rattle.volume_engines.specs.Emissions.{HasEmissions}
 use Rattle.volume_engines.specs.Resuming.{OpensAt}
-use Rattle.volume_engines.specs.Following.{move_shown, Executes, IsNextMoment}
+use Rattle.volume_engines.specs.Following.{move_shown, Executes, IsNextMoment, IsRecorded}
 
 -- ---- what happens at a moment
--- a life of engine e has asked the node by the moment t
+-- A life of engine e has asked the node before the moment t, and the history has what the life has emitted by then.
 pub record HasAskedNode (run : VolumeRun) (h : History) (guards : Guards) (t e node : ℕ) (asked : Request) : Type 0 where
   pub life : Life
   pub count : ℕ
@@ -41,7 +42,8 @@ pub record HasAskedNode (run : VolumeRun) (h : History) (guards : Guards) (t e n
   pub step : ℕ
   pub within : step < count
   pub asks : Contains (life.actions step) (Ask node asked)
-  pub sent : life.moments step ≤ t
+  pub sent : life.moments step < t
+  pub written : IsRecorded h life count t
 
 -- a guard executes what a life has asked, and makes the move that its reply shows
 pub record ServesLife (run : VolumeRun) (h : History) (guards : Guards) (t : ℕ) : Type 0 where
@@ -50,15 +52,17 @@ pub record ServesLife (run : VolumeRun) (h : History) (guards : Guards) (t : ℕ
   pub asked : Request
   pub told : Reply
   pub asks : HasAskedNode run h guards t engine node asked
-  pub executes : Executes run h guards t node asked told
+  pub executes : Executes run guards t node asked told
   pub move : run.moves t ≡ move_shown engine asked told
 
--- a guard executes a plain request, as other nodes send it, or as the node itself folds and discards
+-- A guard executes a plain request, as other nodes send it, or as the node itself folds and discards. What it brings is of the log.
 pub record ServesPeer (run : VolumeRun) (h : History) (guards : Guards) (t : ℕ) : Type 0 where
   pub node : ℕ
   pub asked : SegmentRequest
   pub told : Reply
-  pub executes : Executes run h guards t node (request.Plain asked) told
+  pub executes : Executes run guards t node (request.Plain asked) told
+  pub brought : List Fact
+  pub brings : Brings h.readers (log_at h t) (guards t node).replica asked brought
   pub move : run.moves t ≡ move_shown 0 (request.Plain asked) told
 
 -- a move that no request of an opening or of a peer makes
