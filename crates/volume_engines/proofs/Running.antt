@@ -33,7 +33,6 @@ use Rattle.volume_guards.proofs.Guards.{not_later}
 use Rattle.volume_logs.specs.Histories.{History, log_at}
 use Rattle.volume_logs.specs.Emitting.{IsEmitted}
 use Rattle.volume_logs.proofs.Moving.{nothing_held, emitted_first}
-use Rattle.volume_logs.proofs.Sound.{log_is_sound}
 use Rattle.volume_engines.specs.Lives.{Life, Guards}
 use Rattle.volume_engines.specs.World.{HoldsPart, HasGuards}
 use Rattle.volume_engines.specs.Following.{plain_move, move_shown, Executes, IsNextMoment, IsRecorded, LivesFollowOn}
@@ -245,7 +244,7 @@ module _ (run : VolumeRun) (h : History) (stop : ℕ) (content : ReplicaData →
       let x = turn.asks in
       let within : x.step < x.count = x.within in
       served run h content guards t turn.node turn.asked turn.told kept.0 kept.1 kept.2 (is.next t low) turn.executes turn.engine x.life (suc x.step) x.count
-      x.step (life_in t turn.engine turn.node turn.asked kept x) (omega arith) x.written (omega arith) x.sent x.asks turn.move
+      x.step (life_in t turn.engine turn.node turn.asked kept x) (omega arith) (x.written kept.0) (omega arith) x.sent x.asks turn.move
 
   serves_peer : (t : ℕ) → t < stop → Kept t → ServesPeer run h guards t → Next t
   serves_peer t low kept turn =
@@ -269,7 +268,7 @@ module _ (run : VolumeRun) (h : History) (stop : ℕ) (content : ReplicaData →
         (λ empty. own_means [] (subst (λ (s : State). Means h.readers log [] s) (sym empty) (empty_means h.readers log)))
         (λ keeps.
         let x : HoldsPart h t content (guards t (run.actor t)) = kept.2.holds t (run.actor t) (omega arith) in
-        own_means x.part (keeps h.readers log x.part (log_is_sound run h t t kept.0 kept.1 (omega arith)) x.means))
+        own_means x.part (keeps x.part x.means))
         alone.segment
 
     moves_alone : Next t

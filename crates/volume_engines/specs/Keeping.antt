@@ -1,4 +1,4 @@
--- In a run of guards and machines nothing that was reported as durable is lost.
+-- In a run of guards and machines no later truncation annuls what was reported as durable.
 use Rattle.std.specs.Prelude.{◌≡◌, ℕ, ◌<◌, ◌≤◌}
 use Rattle.std.specs.List.{Contains}
 use Rattle.redo_core.specs.Data.{CutData}

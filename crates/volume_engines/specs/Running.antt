@@ -4,8 +4,8 @@ use Rattle.std.specs.List.{Contains}
 use Rattle.redo_core.specs.Data.{CutData}
 use Rattle.redo_core.specs.Shape.{epoch_count, cut_fault}
 use Rattle.redo_core.specs.declared.facts.Fact.{Fact}
-use Rattle.segment_theorems.specs.State.{empty_state}
-use Rattle.segment_theorems.specs.Promises.{KeepsMeaning}
+use Rattle.segment_theorems.specs.State.{State, empty_state}
+use Rattle.segment_theorems.specs.Means.{Means}
 use Rattle.replica.specs.Meaning.{Brings}
 use Rattle.replica.specs.Parts.{ReplicaData}
 use Rattle.replica.specs.declared.requests.Request.{Request as SegmentRequest}
@@ -32,7 +32,7 @@ use Rattle.volume_engines.specs.Resuming.{OpensAt}
 use Rattle.volume_engines.specs.Following.{move_shown, Executes, IsNextMoment, IsRecorded}
 
 -- ---- what happens at a moment
--- A life of engine e has asked the node before the moment t, and the history has what the life has emitted by then.
+-- A life of engine e has asked the node before the moment t. While the rules are kept, the history has what the life has emitted by then.
 pub record HasAskedNode (run : VolumeRun) (h : History) (guards : Guards) (t e node : ℕ) (asked : Request) : Type 0 where
   pub life : Life
   pub count : ℕ
@@ -43,7 +43,7 @@ pub record HasAskedNode (run : VolumeRun) (h : History) (guards : Guards) (t e n
   pub within : step < count
   pub asks : Contains (life.actions step) (Ask node asked)
   pub sent : life.moments step < t
-  pub written : IsRecorded h life count t
+  pub written : FollowsUntil run t → IsRecorded h life count t
 
 -- a guard executes what a life has asked, and makes the move that its reply shows
 pub record ServesLife (run : VolumeRun) (h : History) (guards : Guards) (t : ℕ) : Type 0 where
@@ -76,13 +76,16 @@ IsAlone move = ⊥
 abbrev pub IsEmpty : History → GuardData → Type 0
 IsEmpty h g = g.replica.cached.segment ≡ empty_state h.readers
 
--- A node moves by itself, as the rules allow: it rests, comes back with nothing, or is created. Its segment is empty, or means whatever it meant:
--- a node that stops and returns may store the facts in another way.
+-- one segment means whatever facts of the log before the moment t another one means, and may store them in another way
+abbrev pub MeansNoLess : History → ℕ → State → State → Type 0
+MeansNoLess h t old new = (part : List Fact) → Means h.readers (log_at h t) part old → Means h.readers (log_at h t) part new
+
+-- A node moves by itself, as the rules allow: it rests or returns, comes back with nothing, or is created. Its segment is empty, or means no less.
 pub record MovesAlone (run : VolumeRun) (h : History) (guards : Guards) (t : ℕ) : Type 0 where
   pub alone : IsAlone (run.moves t)
   pub moves : Moves run t (run.actor t) (run.moves t) (run.nodes t (run.actor t)) (run.nodes (suc t) (run.actor t))
   pub segment : IsEmpty h (guards (suc t) (run.actor t))
-      ⊎ KeepsMeaning (guards t (run.actor t)).replica.cached.segment (guards (suc t) (run.actor t)).replica.cached.segment
+      ⊎ MeansNoLess h t (guards t (run.actor t)).replica.cached.segment (guards (suc t) (run.actor t)).replica.cached.segment
   pub others : (i : ℕ) → i ≢ run.actor t → guards (suc t) i ≡ guards t i
 
 -- ---- the history

@@ -88,7 +88,7 @@ pub fn openings_last()
     ensures { OpeningsLast }
 {}
 
-/// What a machine reports as durable in such a run, no later truncation annuls: nothing that was reported as durable is lost.
+/// What a machine reports as durable in such a run, no later truncation annuls.
 pub fn reports_last()
     ensures { ReportsLast }
 {}
