@@ -189,8 +189,10 @@ class Play:
         meaning = self.meaning(i)
         shown, *pages = self.nodes[i].ask_all([b"ask", *(words("read", page, meaning.complete, 0, 4096) for page in range(PAGES))])
         need_same(f"the summary of node {i}", shown, b"summary " + summary_of(meaning))
+        # An advance may come before the records that it is about: then no point that the node has reached may be read.
+        is_below = meaning.complete < meaning.min
         for page, read in enumerate(pages):
-            need_same(f"page {page} of node {i}", read, b"page " + meaning.page(page, meaning.complete))
+            need_same(f"page {page} of node {i}", read, words("below", meaning.min) if is_below else b"page " + meaning.page(page, meaning.complete))
 
     def answer_of(self, i, request, answer):
         """The frame of what a node of the model answers; None is the answer to what it takes plainly."""

@@ -1,7 +1,7 @@
 """Schedules over the machine's model: those of the volume model, some that the machine's choices need, and random ones."""
 
 from .volume_machine import Machines
-from .volume_schedules import OPTIONS, SCHEDULES, Doubled, Random, Schedule
+from .volume_schedules import OPTIONS, SCHEDULES, Doubled, Random, Schedule, cut_of
 
 
 class MachineSchedule(Schedule):
@@ -125,6 +125,16 @@ def read_points(s):
     s.transaction(c, [1, 2])
 
 
+def advance_before_the_records(s):
+    """Node 2 takes the truncation and an advance, and no record: it may read nothing that it has reached."""
+    a = s.opened()
+    s.give(a, [2], "fence")
+    s.transaction(a, [0, 1])
+    s.do("advance", a, False)
+    s.give(a, [2], "take", having=cut_of(1))
+    s.give(a, [2], "take", having=lambda request: request[4][0] == "advance")
+
+
 def restarted_nodes(s):
     """Nodes come back with their files between the steps of an opening, and after a commit."""
     a = s.committed()
@@ -175,6 +185,7 @@ DIRECTED = {
     "two_truncations_of_one_epoch": two_truncations_of_one_epoch,
     "overlapping_numbers": overlapping_numbers,
     "read_points": read_points,
+    "advance_before_the_records": advance_before_the_records,
     "restarted_nodes": restarted_nodes,
     "broken_connections": broken_connections,
 }
