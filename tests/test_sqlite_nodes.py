@@ -18,7 +18,7 @@ PROCESSES = 8  # that play rounds at the same time
 
 # Faults of the driver: the schedule that finds each, a file, and what is there with what is put in its place.
 MUTANTS = {
-    "acknowledges_at_once": ("two_engines", "progress.rs", {"if durable >= commit_point {": "if durable >= commit_point.min(1) {"}),
+    "acknowledges_at_once": ("not_yet_durable", "progress.rs", {"if durable >= commit_point {": "if durable >= commit_point.min(1) {"}),
     "page_0_first": (
         "one_snapshot",
         "driver.rs",
