@@ -544,3 +544,44 @@ impl<M: Machine> Driver<M> {
 fn accepted(outcome: Outcome) -> Result<Option<u64>, VolumeError> {
     outcome.refused.map_or(Ok(outcome.committed), |fault| Err(fault.into()))
 }
+
+#[cfg(test)]
+mod tests {
+    use super::*;
+    use crate::machine::OutOfMemory;
+    use std::sync::{mpsc, Mutex};
+    use yieldcleat_client::Address;
+
+    /// Asks node 0 to be fenced, and keeps the answers that it hears.
+    struct Listening(Arc<Mutex<Vec<Vec<u8>>>>);
+
+    impl Machine for Listening {
+        fn step(&mut self, event: Event<'_>) -> Result<Vec<Action>, OutOfMemory> {
+            match event {
+                Event::Open { generation } => return Ok(vec![Action::Ask { node: 0, request: engines::fence(generation) }]),
+                Event::Answered { answer, .. } => self.0.lock().unwrap().push(answer.to_vec()),
+                _ => {}
+            }
+            Ok(Vec::new())
+        }
+    }
+
+    #[test]
+    fn an_opening_hears_answers_to_its_own_requests() {
+        let heard = Arc::default();
+        let options = Options::new(vec![Address::Unix("nowhere".into())]);
+        let driver = Driver::new(Listening(Arc::clone(&heard)), &options, Arc::default());
+        let (says, inputs) = mpsc::channel();
+        let (queue, asked) = mpsc::channel();
+        let open = |generation| Input::Call(Call::Open { generation, done: mpsc::channel().0 });
+        let answered = |generation, answer: &[u8]| {
+            Input::Heard(Heard::Answered { node: 0, request: engines::fence(generation), answer: answer.to_vec() })
+        };
+        let inputs_of =
+            [Input::Heard(Heard::Up { node: 0, queue }), open(3), open(4), answered(3, b"fresh 1"), answered(4, b"fresh 2"), Input::Close];
+        inputs_of.into_iter().for_each(|input| says.send(input).unwrap());
+        driver.run(&inputs);
+        assert_eq!(asked.iter().collect::<Vec<_>>(), [engines::fence(3), engines::fence(4)]);
+        assert_eq!(*heard.lock().unwrap(), [b"fresh 2"]);
+    }
+}
