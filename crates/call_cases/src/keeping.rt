@@ -4,7 +4,7 @@ ghost use Rattle.std.specs.Prelude.{◌≡◌, Ok, IfOk};
 
 use crate::answer::Answer;
 use crate::common::in_box;
-use redo_core::Refused;
+use redo_core::{RecordFault, Refused, ShapeFault};
 use std::alloc::{AllocError, Global};
 
 /// The result in a box.
@@ -39,5 +39,16 @@ pub fn or_fault<T, V: Drop, F>(made: Result<T, Refused<V, F>>) -> Result<T, F>
     match made {
         Ok(made) => Ok(made),
         Err(refused) => Err(refused.fault),
+    }
+}
+
+/// The record, or the fault of its shape: what was returned with it is dropped. The only error is an allocation failure.
+pub fn or_shape_fault<T, V: Drop>(
+    made: Result<T, Refused<V, RecordFault>>,
+) -> Result<Result<T, ShapeFault>, AllocError> {
+    match or_fault(made) {
+        Ok(made) => Ok(Ok(made)),
+        Err(RecordFault::Shape(fault)) => Ok(Err(fault)),
+        Err(RecordFault::Memory) => Err(AllocError),
     }
 }

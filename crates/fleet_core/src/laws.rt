@@ -5,7 +5,7 @@ ghost use Rattle.fleet_core.specs.Laws.{OneReply, OneRun, RunsGoOn, CallsGoOn, M
 use log_theorems::{least_upper_bound, order_by_parts};
 use segment_theorems::states_answer;
 
-/// The headline: after any script over a sound log the replies are those of the machine, and each segment answers as the set of facts
+/// The main theorem: after any script over a sound log the replies are those of the machine, and each segment answers as the set of facts
 /// that reached its node; and the meaning of a union is the least that is at or above both.
 pub fn headline()
     ensures { Headline }

@@ -7,7 +7,7 @@
 //! set the union with another node's, and two nodes are compared by what their sets mean. A node that is asked makes a message of its
 //! set, and one that answers a message of that and its own; an absorb makes a node's set the union with the answering node's exactly
 //! where it answers for the summary of the asking node's, and otherwise reports what of that is uncovered. Messages stay for ever, whatever
-//! becomes of the nodes that made them, and each may be used any number of times. Over any facts each reply and each new state is that
+//! becomes of the nodes that made them, and each may be used any number of times. For any facts, sound or not, each reply and each new state is that
 //! of the segments' call, and the other nodes stay as they were (`specs/Calls`, `specs/MessageCalls`).
 #![tactic(auto)]
 

@@ -1,8 +1,8 @@
 //! A drill: nodes of one log that workers in threads deliver to, fold and bring together, and the result as text.
 //!
-//! `drill` runs one from end to end. Each of its stages is a call too: a floor is opened, its plan is worked, the nodes are closed and
-//! the receipts settled, the segments are joined, and a report is written. Where all workers were started, the receipts of each node
-//! settle; each joined segment means a part of the log.
+//! `drill` runs one from end to end. Each of its stages is a call too: a setup is opened, its plan is worked, the nodes are closed and
+//! the receipts verified, the segments are joined, and a report is written. Where all workers were started, the receipts of each node
+//! are verified; each joined segment means a part of the log.
 #![tactic(auto)]
 
 mod dealing;

@@ -28,7 +28,7 @@ pub struct DrillResult<L: LogName> {
     ghost passes: { AllStarted refusals.items → Each (λ k n s. (is_some s ≡ true) × ((j : _) → s ≡ Some j → IsPassOf n j.pass × ((a : _) → slice_get answers.items k ≡ Some a → j.pass.list ≡ receipts_in a.items))) nodes.items inlets.items },
 }
 
-/// Runs the workers of a floor under a gate. It fails only if memory runs out, before the first worker starts; what is refused later
+/// Runs the workers of a setup under a gate. It fails only if memory runs out, before the first worker starts; what is refused later
 /// is in `refusals`.
 pub fn work<L: LogName + Send + Sync, G: Gate + Sync, R: Threads + Wait + Sync>(
     rt: &R,

@@ -28,7 +28,7 @@ impl<L: LogName> Model for Board<L> {
 }
 
 /// What one thread knows of a board: for each word the greatest front that it published there or saw.
-/// It has room for one look at all words.
+/// It has room to read all words once.
 #[derive(Drop)]
 pub struct Seat<L: LogName> {
     token: TableSeat,
@@ -81,7 +81,7 @@ impl<L: LogName> Board<L> {
         LogFront::of_word(word)
     }
 
-    /// Looks at each word once, in the order of the nodes, and answers the front that at least `need` words had reached: the
+    /// Reads each word once, in the order of the nodes, and returns the front that at least `need` words had reached: the
     /// `need`-th greatest, from 1.
     pub fn quorum(&self, seat: &mut Seat<L>, need: usize) -> LogFront<L>
         requires own { seat.old.board ≡ self.now }

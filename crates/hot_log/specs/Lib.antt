@@ -10,6 +10,7 @@ pub mod Paged
 pub mod Anew
 pub mod Missing
 pub mod Kept
+pub mod Spans
 pub mod Gaps
 pub mod Seen
 pub mod Scanning

@@ -10,7 +10,7 @@ ghost use Rattle.redo_core.specs.Keys.{KeyBefore};
 ghost use Rattle.std.specs.List.{Contains};
 
 use crate::packed::PackedKey;
-use crate::search::is_kept;
+use crate::spans::keeps;
 use epoch_book::EpochBook;
 use redo_core::Key;
 use sorted_runs::{Entries, SortedRuns};
@@ -140,9 +140,10 @@ impl KeyPages {
         ensures { IfOk result (λ v. Lists KeyBefore (IsKeyKept book.now self.now above point) v.items) }
     {
         let mut kept = Vec::new(alloc);
+        let mut span = None;
         for (key, _) in self.map.above(above) {
             let key = key.key();
-            if is_kept(book, key, point) {
+            if keeps(book, &mut span, key, point) {
                 kept.push(key)?;
             }
         }

@@ -23,6 +23,7 @@ mod packed;
 mod records;
 mod removal;
 mod search;
+mod spans;
 mod steps;
 mod unlisted;
 mod view;

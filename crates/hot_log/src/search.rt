@@ -197,7 +197,7 @@ impl<'a> View<'a> {
         }
     }
 
-    /// Whether no alive record is above an LSN, by one look at the greatest key, where none there is of an epoch before the one
+    /// Whether no alive record is above an LSN, by the greatest key alone, where none there is of an epoch before the one
     /// given. Where records above are dead or wait, it may be false too.
     pub fn has_none_above(&self, number: u64, since: u16) -> bool
         requires { seen_in self.now HasNoneEarlier number since }

@@ -5,7 +5,9 @@ ghost use Rattle.redo_core.specs.Sound.{IsSound};
 ghost use Rattle.log_law.specs.Writing.{AppendsRecord, RefusesAppend, RecoversAt, RefusesRecover, AdvancesAt, RefusesPoint, plain_record, writer_of};
 
 use crate::alive::AliveRecords;
-use redo_core::{Advance, Cut, Fact, ReadPoints, Record, Refused, Roster, ShapeFault, Write};
+use redo_core::{
+    Advance, Cut, Fact, ReadPoints, Record, RecordFault, Refused, Roster, ShapeFault, Write,
+};
 use std::alloc::{AllocError, Global};
 use std::marker::Model;
 use thiserror::Error;
@@ -98,7 +100,10 @@ impl Writer {
                 fault: WriterFault::NumberNotAbove { bound: self.last },
             });
         }
-        let Ok(copied) = writes.clone() else {
+        let back = self.alive.top();
+        let block_back = self.alive.top_of(page);
+        let epoch = self.alive.view();
+        let Ok((redo, kept)) = owned_twice(epoch, number, back, page, block_back, &writes) else {
             return Err(Refused {
                 value: writes,
                 fault: WriterFault::Memory,
@@ -110,19 +115,15 @@ impl Writer {
                 fault: WriterFault::Memory,
             });
         }
-        let back = self.alive.top();
-        let block_back = self.alive.top_of(page);
         if let Err(_) = self.alive.push(number, page) {
             return Err(Refused {
                 value: writes,
                 fault: WriterFault::Memory,
             });
         }
-        let epoch = self.alive.view();
-        let kept = record_with_links(epoch, number, back, page, block_back, copied);
         self.log.push(Fact::Record(kept)).unwrap();
         self.last = number;
-        Ok(record_with_links(epoch, number, back, page, block_back, writes))
+        Ok(redo)
     }
 
     /// Opens the next epoch: LSNs above `lo` are annulled, and its own are above `hi`.
@@ -192,19 +193,24 @@ impl Writer {
     }
 }
 
-fn record_with_links(
+/// A record of a copy of these writes, with two owners. The only error is an allocation failure.
+fn owned_twice(
     epoch: u16,
     number: u64,
     back: u64,
     page: u16,
     block_back: u64,
-    writes: Vec<Write>,
-) -> Record
-    requires { record_fault (record_of epoch number back page block_back writes.items) ≡ None }
-    ensures { result ≡ record_of epoch number back page block_back writes.items }
+    writes: &Vec<Write>,
+) -> Result<(Record, Record), AllocError>
+    requires { record_fault (record_of epoch number back page block_back writes.now.items) ≡ None }
+    ensures { let given = record_of epoch number back page block_back writes.now.items in
+        IfOk result (λ both. (both.0 ≡ given) × (both.1 ≡ given)) }
 {
-    match Record::new(epoch, number, back, page, block_back, writes) {
-        Ok(redo) => redo,
-        Err(_) => unreachable!(),
+    match Record::new(epoch, number, back, page, block_back, writes.clone()?) {
+        Ok(redo) => Ok((redo.copy()?, redo)),
+        Err(refused) => match refused.fault {
+            RecordFault::Shape(_) => unreachable!(),
+            RecordFault::Memory => Err(AllocError),
+        },
     }
 }

@@ -4,7 +4,7 @@ ghost use Rattle.redo_core.specs.Data.{record_of};
 ghost use Rattle.redo_core.specs.declared.facts.Fact.TheVariants.{Record};
 ghost use Rattle.named_log.specs.DrillLog.{drill_writes, record_of_epoch_0, record_of_epoch_1, last_of_page};
 
-use redo_core::{Fact, Write};
+use redo_core::{Fact, RecordFault, Write};
 use std::alloc::{AllocError, Global};
 
 /// The record of an LSN of epoch 0.
@@ -63,7 +63,10 @@ fn record(
     let writes = writes(alloc, number)?;
     match redo_core::Record::new(epoch, number, back, page, block_back, writes) {
         Ok(redo) => Ok(Fact::Record(redo)),
-        Err(_) => unreachable!(),
+        Err(refused) => match refused.fault {
+            RecordFault::Shape(_) => unreachable!(),
+            RecordFault::Memory => Err(AllocError),
+        },
     }
 }
 

@@ -1,7 +1,7 @@
 //! What a stream says of the guard's steps, and of those of the replica inside.
 ghost use Rattle.node_stream.specs.Running.{AnswersRun, FramesRun, PlainlyRun};
 
-/// The answers to lines are those of `Guard::step` on the requests of the lines, one after the other, and the replica inside goes through the
+/// The answers to lines are those of `Guard::step` on the requests of the lines, one after the other, and the replica inside takes the
 /// turns that its guard has it carry out; so `replica::laws::runs_mean` says what the segment then means inside one sound log.
 pub fn answers_run()
     ensures { AnswersRun }

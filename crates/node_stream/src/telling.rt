@@ -28,7 +28,7 @@ fn digits(alloc: Global, word: &str, bytes: &[u8]) -> Result<Answer, AllocError>
     Ok(Answer::Made(text.into_bytes()))
 }
 
-/// The bytes of a page that are shown.
+/// The bytes of a page that the request asks for.
 pub fn page(alloc: Global, window: Window, image: &Page) -> Result<Answer, AllocError>
     requires { IsInside window }
     ensures { IfOk result (λ a. text_of a ≡ bytes_line (codes "page") (window_of window image.now)) }

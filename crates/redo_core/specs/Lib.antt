@@ -3,7 +3,9 @@ pub mod Writes
 pub mod Data
 pub mod Body
 pub mod KeptBody
+pub mod Parts
 pub mod Shape
+pub mod Making
 pub mod Writing
 pub mod Sets
 pub mod Order

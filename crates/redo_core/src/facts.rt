@@ -15,28 +15,19 @@ pub enum Fact {
 }
 
 impl Fact {
-    /// An equal fact: with memory of its own, unless this one is shared. The only error is an allocation failure.
+    /// An equal fact; a record's is one more owner of it. It allocates nothing; the error means that the owner count would overflow.
     pub fn copy(&self) -> Result<Self, AllocError>
         ensures { IfOk result (λ f. f ≡ self.now) }
     {
         self.clone()
     }
 
-    /// An equal fact, whose copies share its patches as those of a shared record do. The only error is an allocation failure; it returns
-    /// the fact.
+    /// The fact, whose copies share its patches as those of every record do.
     pub fn share(self) -> Result<Self, AllocFailed<Self>>
         ensures ok { IfOk result (λ f. f ≡ self) }
         ensures err { IfErr result (λ e. e.value ≡ self) }
     {
-        match self {
-            Fact::Record(redo) => match redo.share() {
-                Ok(redo) => Ok(Fact::Record(redo)),
-                Err(refused) => Err(AllocFailed {
-                    value: Fact::Record(refused.value),
-                }),
-            },
-            other => Ok(other),
-        }
+        Ok(self)
     }
 
     /// Whether the other fact equals this one.

@@ -13,7 +13,7 @@ use crate::lists::read_list;
 use crate::patches::{PatchList, body_has_fill, has_fill, patch_count, put_patches};
 use crate::tags;
 use bytes::{BufMut, BytesMut};
-use redo_core::{Body, MAX_BYTES, MAX_PATCHES, Patch, Record};
+use redo_core::{Body, MAX_BYTES, MAX_PATCHES, Patch, Record, RecordFault};
 use std::alloc::{AllocError, Global};
 use std::mem::size_of;
 
@@ -91,7 +91,10 @@ fn read_record_part(
         patches,
     ) {
         Ok(record) => Ok((record.share()?, rest)),
-        Err(_) => Err(WireError::Fault(WireFault::Shape)),
+        Err(refused) => match refused.fault {
+            RecordFault::Shape(_) => Err(WireError::Fault(WireFault::Shape)),
+            RecordFault::Memory => Err(WireError::Memory),
+        },
     }
 }
 

@@ -1,2 +1,3 @@
 pub mod Tracking
 pub mod Continuing
+pub mod Refusing

@@ -7,9 +7,16 @@ use Rattle.redo_core.specs.declared.facts.Fact.{Fact}
 use Rattle.redo_core.specs.declared.patches.Patch.{Patch}
 use Rattle.log_law.specs.Writing.{IsBound}
 use Rattle.redo_core.specs.declared.shapes.ShapeFault.{ShapeFault}
+use Rattle.redo_core.specs.declared.records.RecordFault.{RecordFault}
+use Rattle.redo_core.specs.declared.records.RecordFault.TheVariants.{Shape as Misshapen, Memory as NoMemory}
 use Rattle.log_law.specs.declared.writer.WriterFault.{WriterFault}
 use Rattle.log_law.specs.declared.writer.WriterFault.TheVariants.{Shape, LoBelowAdvance, NumberNotAbove, OtherRoster, EpochsUsedUp, Memory}
 use Rattle.redo_writer.specs.State.{WriterState}
+
+-- the fault of a record, as a writer gives it
+abbrev pub writer_fault : RecordFault → WriterFault
+writer_fault (Misshapen fault) = Shape fault
+writer_fault NoMemory = Memory
 
 -- a fault of the shape, or else what comes after it
 abbrev pub shape_first : Option ShapeFault → Option WriterFault → Option WriterFault

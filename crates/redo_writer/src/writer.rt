@@ -9,12 +9,12 @@ ghost use Rattle.redo_writer.specs.declared.parts.AliveRecord.{AliveRecord as En
 ghost use Rattle.redo_writer.specs.State.{writer_of_parts, empty_writer, next_record};
 ghost use Rattle.redo_writer.specs.Continues.{Continues};
 ghost use Rattle.redo_writer.specs.Changes.{KeepsRecord, OpensEpoch, RaisesReader, DropsSettled};
-ghost use Rattle.redo_writer.specs.Refusals.{append_refusal, RefusesRecord, RefusesOnLog, recover_refusal, advance_refusal};
+ghost use Rattle.redo_writer.specs.Refusals.{append_refusal, RefusesRecord, RefusesOnLog, writer_fault, recover_refusal, advance_refusal};
 
 use crate::parts::{AliveRecord, WriterParts};
 use crate::tail::{annul_above, keep_newest, number_on_top, put_top, reserve_top, settle, top_of};
 use log_law::WriterFault;
-use redo_core::{Advance, Cut, Patch, ReadPoints, Record, Refused, Roster};
+use redo_core::{Advance, Cut, Patch, ReadPoints, Record, RecordFault, Refused, Roster};
 use std::alloc::{AllocError, Global};
 use std::collections::VecDeque;
 use std::marker::Model;
@@ -99,7 +99,7 @@ impl RedoWriter {
     /// The record that `append` would return, where it does not lack memory. The writer does not keep it.
     ///
     /// Errors give the patches back: a number that is not above the epoch's last one, or its `hi`, with that bound; a fault of the record's
-    /// shape.
+    /// shape; `Memory`.
     pub fn preview(
         &self,
         number: u64,
@@ -108,7 +108,7 @@ impl RedoWriter {
         patches: Vec<Patch>,
     ) -> Result<Record, Refused<Vec<Patch>, WriterFault>>
         ensures record { IfOk result (λ r. r ≡ next_record self.now number page init patches.items) }
-        ensures fault { IfErr result (λ e. append_refusal self.now (next_record self.now number page init patches.items) ≡ Some e.fault) }
+        ensures fault { IfErr result (λ e. RefusesRecord self.now (next_record self.now number page init patches.items) e.fault) }
         ensures returned { IfErr result (λ e. e.value ≡ patches) }
     {
         if number <= self.last {
@@ -123,7 +123,7 @@ impl RedoWriter {
             Ok(redo) => Ok(redo),
             Err(refused) => Err(Refused {
                 value: refused.value,
-                fault: WriterFault::Shape(refused.fault),
+                fault: writer_fault(refused.fault),
             }),
         }
     }
@@ -175,7 +175,7 @@ impl RedoWriter {
             }
             Err(refused) => Err(Refused {
                 value: refused.value,
-                fault: WriterFault::Shape(refused.fault),
+                fault: writer_fault(refused.fault),
             }),
         }
     }
@@ -242,5 +242,15 @@ impl RedoWriter {
     {
         let point = self.points.least();
         self.settled = settle(&mut self.alive, self.settled, point);
+    }
+}
+
+/// The same reason, as a writer gives it.
+fn writer_fault(fault: RecordFault) -> WriterFault
+    ensures { result ≡ writer_fault fault }
+{
+    match fault {
+        RecordFault::Shape(fault) => WriterFault::Shape(fault),
+        RecordFault::Memory => WriterFault::Memory,
     }
 }

@@ -1,4 +1,4 @@
-//! Snapshots (hydration): a new segment put together from the pieces of an old one, in whatever order they come.
+//! Snapshots: a new segment put together from the pieces of an old one, in whatever order they come.
 //!
 //! `freeze` makes a `Snapshot` of a segment, which is exported in pieces: the head with its book and anchor, a piece for each nonzero
 //! page at the anchor, and the records that its meaning keeps, 64 a piece. A `Staging` takes pieces of one name and total, each once.

@@ -2,6 +2,7 @@
 
 use crate::answer::Answer;
 use crate::given::page_of;
+use crate::keeping::or_shape_fault;
 use case_io::Row;
 use redo_core::{Body, Fact, Page, Patch, Record, Write, apply};
 use script_text::fact_text;
@@ -68,17 +69,17 @@ fn writes_of(alloc: Global, redo: &Record) -> Result<Vec<Write>, AllocError> {
     }
 }
 
-fn made_of_writes(redo: &Record, writes: Vec<Write>) -> Option<Fact> {
+fn made_of_writes(redo: &Record, writes: Vec<Write>) -> Result<Option<Fact>, AllocError> {
     let (number, back, block_back) = (redo.number(), redo.back(), redo.block_back());
     let made = Record::new(redo.epoch(), number, back, redo.page(), block_back, writes);
-    made.ok().map(Fact::Record)
+    Ok(or_shape_fault(made)?.ok().map(Fact::Record))
 }
 
-fn made_of_patches(redo: &Record, patches: Vec<Patch>) -> Option<Fact> {
+fn made_of_patches(redo: &Record, patches: Vec<Patch>) -> Result<Option<Fact>, AllocError> {
     let (number, back, block_back) = (redo.number(), redo.back(), redo.block_back());
     let (epoch, page) = (redo.epoch(), redo.page());
     let made = Record::with(epoch, number, back, page, block_back, false, patches);
-    made.ok().map(Fact::Record)
+    Ok(or_shape_fault(made)?.ok().map(Fact::Record))
 }
 
 // A copy of a copy that was shared and then dropped.
@@ -94,12 +95,12 @@ fn are_one(one: &Fact, two: &Fact) -> Result<bool, AllocError> {
 }
 
 fn from_writes(alloc: Global, redo: &Record) -> Result<Option<Fact>, AllocError> {
-    Ok(made_of_writes(redo, writes_of(alloc, redo)?))
+    made_of_writes(redo, writes_of(alloc, redo)?)
 }
 
 fn from_patches(alloc: Global, redo: &Record) -> Result<Option<Fact>, AllocError> {
     let writes = writes_of(alloc, redo)?;
-    Ok(made_of_patches(redo, plain_patches(alloc, &writes)?))
+    made_of_patches(redo, plain_patches(alloc, &writes)?)
 }
 
 fn have_one_line(alloc: Global, one: &Fact, two: &Fact) -> Result<bool, AllocError> {

@@ -1,7 +1,7 @@
 //! Calls that make values of redo_core, each with its first fault.
 
 use crate::answer::Answer;
-use crate::keeping::or_fault;
+use crate::keeping::or_shape_fault;
 use case_io::Row;
 use redo_core::{Advance, Cut, Patch, ReadPoints, Record, Roster, ShapeFault, Write};
 use std::alloc::{AllocError, Global};
@@ -34,13 +34,13 @@ fn made<T: Drop>(alloc: Global, outcome: Result<T, ShapeFault>) -> Result<Answer
 fn record(row: &Row) -> Result<Answer, AllocError> {
     let writes = writes(row.alloc, row.number(3), row.short(4), row.short(5))?;
     let outcome = Record::new(0, row.number(0), row.number(1), 0, row.number(2), writes);
-    made(row.alloc, or_fault(outcome))
+    made(row.alloc, or_shape_fault(outcome)?)
 }
 
 fn record_of_fills(row: &Row) -> Result<Answer, AllocError> {
     let fills = fills(row.alloc, row.number(0), row.short(1), row.short(2))?;
     let outcome = Record::with(0, 1, 0, 0, 0, true, fills);
-    made(row.alloc, or_fault(outcome))
+    made(row.alloc, or_shape_fault(outcome)?)
 }
 
 // Raises the points by three advances, where the roster has their readers.

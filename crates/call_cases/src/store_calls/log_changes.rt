@@ -1,6 +1,6 @@
 use crate::answer::Answer;
 use crate::given::key;
-use crate::keeping::renew;
+use crate::keeping::{or_shape_fault, renew};
 use crate::store_calls::bench::Fixture;
 use crate::store_calls::book_calls;
 use case_io::Row;
@@ -12,7 +12,8 @@ use std::alloc::AllocError;
 // Puts a record that writes nothing: epoch, LSN, segment backlink and page.
 fn put(log: &mut HotLog, row: &Row, init: bool) -> Result<Answer, AllocError> {
     let (epoch, number, back, page) = (row.short(0), row.number(1), row.number(2), row.short(3));
-    match Record::with(epoch, number, back, page, 0, init, Vec::new(row.alloc)) {
+    let made = Record::with(epoch, number, back, page, 0, init, Vec::new(row.alloc));
+    match or_shape_fault(made)? {
         Ok(redo) => put_record(log, row, redo),
         Err(_) => Ok(Answer::Word("Misshapen")),
     }

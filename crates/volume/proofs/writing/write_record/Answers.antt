@@ -1,4 +1,4 @@
-use Rattle.std.proofs.Common.{◌≡◌, ◌∙◌, ◌+◌, ◌∷◌, ◌++◌, [], List, Some, inr, refl, sym, ap, subst, IfOk}
+use Rattle.std.proofs.Common.{◌≡◌, ◌∙◌, ◌+◌, ◌∷◌, ◌++◌, [], List, inl, inr, refl, sym, ap, subst, IfOk}
 use Rattle.std.proofs.lemmas.Result.{IfOk-weaker}
 use Rattle.std.proofs.lemmas.List.Elements.{same_from_all_zip}
 use Rattle.redo_core.specs.Data.{RecordData}
@@ -35,7 +35,9 @@ pub returns-in-Err-clause-writes : goal.returns-in-Err-clause-writes
 returns-in-Err-clause-writes c =
     let w = c.args.writing.now in let redo = record_of_page w.writer c.args.page c.args.init c.args.patches.items in
     let why = c.in-Err.refused.fault in
-    let fault : append_refusal w.writer redo ≡ Some why =
-    sym (ap (append_refusal w.writer) (made (goal.at.returns-in-Err-clause-writes c).In_ok-clone)) ∙ c.in-Err.ensures.fault in
+    let same = made (goal.at.returns-in-Err-clause-writes c).In_ok-clone in
     IfOk-weaker c.refused_as.result (λ v. IsRefusedAs why v.items) (λ v. AddsRecord w redo v.items w)
-    (λ v is. inr (fault_named why, inr (why, fault, refl), (is.1, refl))) c.refused_as.ensures
+    (λ v is. elim c.in-Err.ensures.fault [
+      | inl fault ↦ inr (fault_named why, inr (why, sym (ap (append_refusal w.writer) same) ∙ fault, refl), (is.1, refl))
+      | inr lack ↦ absurd (is.0 lack.0)
+    ]) c.refused_as.ensures

@@ -20,20 +20,24 @@ loop-key-preserved-in-Continue-1 c =
     let start : c.into_iter-key-iterator.result ≡ es = c.into_iter-key-iterator.ensures.into_iter_gives in
     let split : es ≡ xs ++ x ∷ c.next.new.self =
     sym start ∙ rest_so_far deref_pair c.loop-key.yielded c.into_iter-key-iterator.result c.loop-key.key-iterator c.loop-key.yielded_by ∙ ap (λ (l : List Entry). xs ++ l) c.in-Some.ensures.steps in
-    let more = kept_more b c.args.point m c.args.above es xs c.next.new.self x c.loop-key.kept.items c.self.invariant (sym c.above-key-items.ensures.above) split c.loop-key.invariant (subst (KeepsKey b c.args.point) c.key-key.ensures (c.is_kept.ensures.0 c.if-is_kept.true)) in
-    let joined : map deref_pair (c.loop-key.yielded ++ (c.in-Some.key, c.in-Some.field-0-1) ∷ []) ≡ xs ++ x ∷ [] = rw map-append in
-    subst (λ (l : List Entry). ListsKept b c.args.point l c.push.new.self.items) (sym joined)
-    (subst (ListsKept b c.args.point (xs ++ x ∷ [])) (sym c.in_ok-push.ensures.items)
-    (subst (λ (k : Key). ListsKept b c.args.point (xs ++ x ∷ []) (c.loop-key.kept.items ++ k ∷ [])) (sym c.key-key.ensures) more))
+    let more = kept_more b c.args.point m c.args.above es xs c.next.new.self x c.loop-key.kept.items c.self.invariant (sym c.above-key-items.ensures.above) split c.loop-key.invariant.0 (subst (KeepsKey b c.args.point) c.key-key.ensures (c.keeps.ensures.keeps.0 c.if-keeps.true)) in
+    let joined : map deref_pair (c.loop-key.yielded ++ (c.in-Some.key, c.in-Some.field-0-1) ∷ []) ≡ xs ++ x ∷ [] = rw map-append in (
+      subst (λ (l : List Entry). ListsKept b c.args.point l c.push.new.self.items) (sym joined)
+          (subst (ListsKept b c.args.point (xs ++ x ∷ [])) (sym c.in_ok-push.ensures.items)
+          (subst (λ (k : Key). ListsKept b c.args.point (xs ++ x ∷ []) (c.loop-key.kept.items ++ k ∷ [])) (sym c.key-key.ensures) more)),
+      c.keeps.ensures.span,
+    )
 
 pub loop-key-preserved : goal.loop-key-preserved
 loop-key-preserved c =
     let b = c.args.book.now in
     let xs : List Entry = map deref_pair c.loop-key.yielded in
     let x : Entry = (c.in-Some.key.now, c.in-Some.field-0-1.now) in
-    let joined : map deref_pair (c.loop-key.yielded ++ (c.in-Some.key, c.in-Some.field-0-1) ∷ []) ≡ xs ++ x ∷ [] = rw map-append in
-    subst (λ (l : List Entry). ListsKept b c.args.point l c.loop-key.kept.items) (sym joined)
-    (kept_left b c.args.point xs x c.loop-key.kept.items c.loop-key.invariant (λ (keeps : KeepsKey b c.args.point x.0). let yes = c.is_kept.ensures.1 (subst (KeepsKey b c.args.point) (sym c.key-key.ensures) keeps) in absurd (false≢true (sym c.if-is_kept.false ∙ yes))))
+    let joined : map deref_pair (c.loop-key.yielded ++ (c.in-Some.key, c.in-Some.field-0-1) ∷ []) ≡ xs ++ x ∷ [] = rw map-append in (
+      subst (λ (l : List Entry). ListsKept b c.args.point l c.loop-key.kept.items) (sym joined)
+          (kept_left b c.args.point xs x c.loop-key.kept.items c.loop-key.invariant.0 (λ (keeps : KeepsKey b c.args.point x.0). let yes = c.keeps.ensures.keeps.1 (subst (KeepsKey b c.args.point) (sym c.key-key.ensures) keeps) in absurd (false≢true (sym c.if-keeps.false ∙ yes)))),
+      c.keeps.ensures.span,
+    )
 
 pub returns : goal.returns
 returns c =
@@ -46,7 +50,7 @@ returns c =
     sym start ∙ rest_so_far deref_pair c.loop-key.yielded c.into_iter-key-iterator.result c.loop-key.key-iterator c.loop-key.yielded_by ∙ ap (λ (l : List Entry). xs ++ l) c.in-None.ensures.steps.0 ∙ append-nil xs in
     subst (λ (l : List Entry). Lists KeyBefore (IsKeyKept b l c.args.above c.args.point) keys) c.self.view_is
     (kept_all b c.args.point m c.args.above es keys (sym c.above-key-items.ensures.above)
-    (subst (λ (l : List Entry). ListsKept b c.args.point l keys) (sym all) c.loop-key.invariant))
+    (subst (λ (l : List Entry). ListsKept b c.args.point l keys) (sym all) c.loop-key.invariant.0))
 
 pub loop-key-init : goal.loop-key-init
-loop-key-init c = kept_none c.args.book.now c.args.point _ c.new-kept.ensures.items
+loop-key-init c = (kept_none c.args.book.now c.args.point _ c.new-kept.ensures.items, tt)

@@ -35,7 +35,7 @@ invariant_of-self-in_default-remove-2 c = absurd (never c)
 pub returns-in_default-remove-2-clause-removes : goal.returns-in_default-remove-2-clause-removes
 returns-in_default-remove-2-clause-removes c = absurd (never c)
 
-goes : (c : goal.After-drop-redo-inside) → Removes (HasKey c.in-Some.packed) c.self.inside.records c.remove-2.new.self
+goes : (c : goal.After-drop-redo) → Removes (HasKey c.in-Some.packed) c.self.inside.records c.remove-2.new.self
 goes c =
     let p = c.in-Some.packed in
     removes_key c.self.inside.records c.remove-2.new.self c.self.inside.by_key p.epoch p.number c.in-Some-remove.page c.self.invariant.form c.self.invariant.by_key

@@ -7,17 +7,24 @@ pub returns-in-Some-clause-fault : goal.returns-in-Some-clause-fault
 returns-in-Some-clause-fault c = (
   refl,
   ap (λ ws. record_fault (record_of c.args.epoch c.args.number c.args.back c.args.page c.args.block_back ws)) (sym c.deref.ensures.value)
-      ∙ sym (c.in-Some.ensures c.args.epoch c.args.page),
+      ∙ sym (c.shape_fault.ensures c.args.epoch c.args.page) ∙ c.in-Some.is,
 )
 
-pub returns-in-None-clause-ok : goal.returns-in-None-clause-ok
-returns-in-None-clause-ok c = rw c.of_writes.ensures (
-  refl,
-  ap (λ ws. record_fault (record_of c.args.epoch c.args.number c.args.back c.args.page c.args.block_back ws)) (sym c.deref.ensures.value)
-      ∙ sym (c.in-None.ensures c.args.epoch c.args.page),
-)
-
-pub invariant_of-result : goal.invariant_of-result
-invariant_of-result c = rw c.of_writes.ensures (
+pub of_writes-requires : goal.of_writes-requires
+of_writes-requires c =
     ap (λ ws. record_fault (record_of c.args.epoch c.args.number c.args.back c.args.page c.args.block_back ws)) (sym c.deref.ensures.value)
-    ∙ sym (c.in-None.ensures c.args.epoch c.args.page))
+    ∙ sym (c.shape_fault.ensures c.args.epoch c.args.page) ∙ c.in_default.is
+
+pub returns-in-Ok-clause-ok : goal.returns-in-Ok-clause-ok
+returns-in-Ok-clause-ok c = (
+  c.in-Ok.ensures.ok,
+  ap (λ ws. record_fault (record_of c.args.epoch c.args.number c.args.back c.args.page c.args.block_back ws)) (sym c.deref.ensures.value)
+      ∙ sym (c.shape_fault.ensures c.args.epoch c.args.page) ∙ c.in_default.is,
+)
+
+pub returns-in-Err-clause-fault : goal.returns-in-Err-clause-fault
+returns-in-Err-clause-fault c = (
+  c.in-Err.ensures.err,
+  ap (λ ws. record_fault (record_of c.args.epoch c.args.number c.args.back c.args.page c.args.block_back ws)) (sym c.deref.ensures.value)
+      ∙ sym (c.shape_fault.ensures c.args.epoch c.args.page) ∙ c.in_default.is,
+)

@@ -5,17 +5,25 @@ use Rattle.redo_core.proofs.records.Record.with.Goals as goal
 pub returns-in-Some-clause-fault : goal.returns-in-Some-clause-fault
 returns-in-Some-clause-fault c = (
   refl,
-  sym (c.in-Some.ensures c.args.epoch c.args.page c.args.init c.args.patches.items
-      (ap patches_fault (sym c.deref.ensures.value) ∙ sym c.patches_fault.ensures)),
+  sym (c.first_fault.ensures c.args.epoch c.args.page c.args.init c.args.patches.items
+      (ap patches_fault (sym c.deref.ensures.value) ∙ sym c.patches_fault.ensures)) ∙ c.in-Some.is,
 )
 
-pub returns-in-None-clause-ok : goal.returns-in-None-clause-ok
-returns-in-None-clause-ok c = rw c.of_patches.ensures (
-  refl,
-  sym (c.in-None.ensures c.args.epoch c.args.page c.args.init c.args.patches.items
-      (ap patches_fault (sym c.deref.ensures.value) ∙ sym c.patches_fault.ensures)),
+pub of_patches-requires : goal.of_patches-requires
+of_patches-requires c =
+    sym (c.first_fault.ensures c.args.epoch c.args.page c.args.init c.args.patches.items
+    (ap patches_fault (sym c.deref.ensures.value) ∙ sym c.patches_fault.ensures)) ∙ c.in_default.is
+
+pub returns-in-Ok-clause-ok : goal.returns-in-Ok-clause-ok
+returns-in-Ok-clause-ok c = (
+  c.in-Ok.ensures.ok,
+  sym (c.first_fault.ensures c.args.epoch c.args.page c.args.init c.args.patches.items
+      (ap patches_fault (sym c.deref.ensures.value) ∙ sym c.patches_fault.ensures)) ∙ c.in_default.is,
 )
 
-pub invariant_of-result : goal.invariant_of-result
-invariant_of-result c = rw c.of_patches.ensures (sym (c.in-None.ensures c.args.epoch c.args.page c.args.init c.args.patches.items
-    (ap patches_fault (sym c.deref.ensures.value) ∙ sym c.patches_fault.ensures)))
+pub returns-in-Err-clause-fault : goal.returns-in-Err-clause-fault
+returns-in-Err-clause-fault c = (
+  c.in-Err.ensures.err,
+  sym (c.first_fault.ensures c.args.epoch c.args.page c.args.init c.args.patches.items
+      (ap patches_fault (sym c.deref.ensures.value) ∙ sym c.patches_fault.ensures)) ∙ c.in_default.is,
+)

@@ -1,9 +1,11 @@
 use Rattle.std.proofs.lemmas.Grind.{common_steps}
-use Rattle.std.proofs.Common.{subst, arith, rules}
-use Rattle.hot_log.specs.Putting.{Puts}
+use Rattle.std.proofs.Common.{◌≡◌, inl, inr, refl, sym, subst, arith, rules}
+use Rattle.hot_log.specs.Putting.{Puts, RefusesPut}
+use Rattle.hot_log.specs.declared.log.PutFault.TheVariants.{OtherRecord}
 use Rattle.redo_core.specs.declared.keys.Key.{Key}
 use Rattle.segment_core.specs.Savepoint.{NotesKey}
 use Rattle.segment_core.specs.Transaction.{reached}
+use Rattle.segment_core.specs.Uniting.{HoldsRecord}
 use Rattle.segment_core.proofs.Holding.{put_holds}
 use Rattle.segment_core.proofs.Savepoints.{more_began}
 use Rattle.segment_core.proofs.merge_transaction.MergeTransaction.hold.Goals as goal
@@ -38,3 +40,16 @@ returns-clause-unchanged c = grind (arith, common_steps)
 
 pub returns-clause-holds : goal.returns-clause-holds
 returns-clause-holds c = search rules
+
+pub returns-in-OtherRecord-clause-holds : goal.returns-in-OtherRecord-clause-holds
+returns-in-OtherRecord-clause-holds c =
+    let s = reached c.args.self.now in let t = c.put.new.self in let r = c.args.redo in
+    let same : t ≡ s = c.in-Err.ensures.unchanged in
+    let other : RefusesPut s.held r OtherRecord = subst (RefusesPut s.held r) c.in-OtherRecord.is c.in-Err.ensures.refused.1 in
+    subst (HoldsRecord s r) (sym same) (record {
+      book = refl;
+      rest = record { base = refl; store = refl };
+      before = λ x m. m;
+      more = λ x m. inl m;
+      held = inr (other.0, other.1, other.2.0, other.2.1, other.3);
+    })
