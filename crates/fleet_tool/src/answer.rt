@@ -12,7 +12,6 @@ ghost use Rattle.script_text.specs.TextReasons.{ExplainsScript, ExplainsLog, IsE
 ghost use Rattle.fleet_tool.specs.declared.explaining.Reason.TheVariants.{BadLine};
 ghost use Rattle.fleet_tool.specs.Explaining.{HasSoundLog, IsTrueReason};
 ghost use Rattle.fleet_tool.specs.TaskName.{as_text_task};
-ghost use Rattle.fleet_tool.specs.declared.job.TextTask.{TextTask};
 ghost use Rattle.fleet_tool.specs.Output.{SaysBadLine, SaysUnsound, SaysReplies, IsRunOutput, IsCheckOutput, IsOutputOf};
 
 use crate::explaining::{Reason, fault_reason};
@@ -21,9 +20,10 @@ use crate::placed_steps::answers;
 use fleet_core::Fleet;
 use log_law::{CheckFault, check_log};
 use redo_core::LawFault;
-use script_text::{Log, Script, ScriptError, TextReason, read_facts, read_script};
+use script_text::{Log, Script, ScriptError, TextReason, read_facts_by, read_script_by};
 use std::alloc::{AllocError, Global};
 use std::mem::forget;
+use std::thread::Threads;
 use text::worded_line;
 
 /// The outcome of an answered input, apart from its text.
@@ -69,7 +69,7 @@ fn unsound(alloc: Global, fault: LawFault, reason: Option<Reason>) -> Result<Ans
     })
 }
 
-/// What becomes of the script and the fleet behind an answer.
+/// What becomes of a script, its fleet or a log after the answer.
 #[derive(Clone, Copy)]
 enum Remains {
     Dropped,
@@ -105,24 +105,25 @@ fn replies(alloc: Global, script: Script, remains: Remains) -> Result<Answered, 
 }
 
 // The script that a text encodes. Drops the text: a long one takes as much memory as its script.
-fn script_in(alloc: Global, text: Vec<u8>) -> Result<Script, ScriptError>
+fn script_in<R: Threads + Sync>(rt: &R, alloc: Global, text: Vec<u8>) -> Result<Script, ScriptError>
     ensures script { Gives script_data result (script_of text.items) }
     ensures range { IfOk result (λ s. All (IsInRange (length s.facts.items)) s.steps.items) }
     ensures reason { IfErr result (IsExplained (ExplainsScript text.items)) }
 {
-    read_script(alloc, &text)
+    read_script_by(rt, alloc, &text)
 }
 
 // The log that a text encodes. Drops the text too.
-fn log_in(alloc: Global, text: Vec<u8>) -> Result<Log, ScriptError>
+fn log_in<R: Threads + Sync>(rt: &R, alloc: Global, text: Vec<u8>) -> Result<Log, ScriptError>
     ensures log { Gives log_data result (facts_of text.items) }
     ensures reason { IfErr result (IsExplained (ExplainsLog text.items)) }
 {
-    read_facts(alloc, &text)
+    read_facts_by(rt, alloc, &text)
 }
 
 // The answer to a script; and the reason of a bad line or a fault, if it is sought.
-fn answer_script(
+fn answer_script<R: Threads + Sync>(
+    rt: &R,
     alloc: Global,
     input: Vec<u8>,
     explains: bool,
@@ -131,7 +132,7 @@ fn answer_script(
     ensures output { IfOk result (λ a. IsRunOutput (script_of input.items) (string_bytes a.text) a.verdict) }
     ensures reason { explains ≡ true → IfOk result (λ a. MatchOption a.reason (HasSoundLog LinesTask.Run input.items) (IsTrueReason LinesTask.Run input.items)) }
 {
-    match script_in(alloc, input) {
+    match script_in(rt, alloc, input) {
         Err(ScriptError::Memory) => Err(AllocError),
         Err(ScriptError::BadLine { at, reason }) => bad_line(alloc, at, reason),
         Ok(script) => match check_log(alloc, &script.facts, script.roster) {
@@ -158,11 +159,17 @@ fn count(alloc: Global, facts: usize) -> Result<Answered, AllocError>
 }
 
 // The same for fact lines alone.
-fn answer_facts(alloc: Global, input: Vec<u8>, explains: bool) -> Result<Answered, AllocError>
+fn answer_facts<R: Threads + Sync>(
+    rt: &R,
+    alloc: Global,
+    input: Vec<u8>,
+    explains: bool,
+    remains: Remains,
+) -> Result<Answered, AllocError>
     ensures output { IfOk result (λ a. IsCheckOutput (facts_of input.items) (string_bytes a.text) a.verdict) }
     ensures reason { explains ≡ true → IfOk result (λ a. MatchOption a.reason (HasSoundLog LinesTask.Check input.items) (IsTrueReason LinesTask.Check input.items)) }
 {
-    match log_in(alloc, input) {
+    match log_in(rt, alloc, input) {
         Err(ScriptError::Memory) => Err(AllocError),
         Err(ScriptError::BadLine { at, reason }) => bad_line(alloc, at, reason),
         Ok(log) => match check_log(alloc, &log.facts, log.roster) {
@@ -171,13 +178,18 @@ fn answer_facts(alloc: Global, input: Vec<u8>, explains: bool) -> Result<Answere
                 let reason = fault_reason(alloc, explains, &log.facts, log.roster, fault)?;
                 unsound(alloc, fault, reason)
             }
-            Ok(()) => count(alloc, log.facts.len()),
+            Ok(()) => {
+                let facts = log.facts.len();
+                remains.leave(log);
+                count(alloc, facts)
+            }
         },
     }
 }
 
 /// The task's output for an input; and the reason of a bad line or a fault, if it is sought. Fails only if memory runs out.
-pub fn answer(
+pub fn answer<R: Threads + Sync>(
+    rt: &R,
     alloc: Global,
     task: LinesTask,
     input: Vec<u8>,
@@ -187,14 +199,22 @@ pub fn answer(
     ensures reason { explains ≡ true → IfOk result (λ a. MatchOption a.reason (HasSoundLog task input.items) (IsTrueReason task input.items)) }
 {
     match task {
-        LinesTask::Run => answer_script(alloc, input, explains, Remains::Dropped),
-        LinesTask::Check => answer_facts(alloc, input, explains),
+        LinesTask::Run => answer_script(rt, alloc, input, explains, Remains::Dropped),
+        LinesTask::Check => answer_facts(rt, alloc, input, explains, Remains::Dropped),
     }
 }
 
-/// The output for a script, where the program ends with it. Fails only if memory runs out.
-pub fn last_answer(alloc: Global, input: Vec<u8>) -> Result<Answered, AllocError>
-    ensures { IfOk result (λ a. IsOutputOf TextTask.Run input.items (string_bytes a.text) a.verdict) }
+/// The task's output for an input, where the program ends with it. Fails only if memory runs out.
+pub fn last_answer<R: Threads + Sync>(
+    rt: &R,
+    alloc: Global,
+    task: LinesTask,
+    input: Vec<u8>,
+) -> Result<Answered, AllocError>
+    ensures { IfOk result (λ a. IsOutputOf (as_text_task task) input.items (string_bytes a.text) a.verdict) }
 {
-    answer_script(alloc, input, false, Remains::Forgotten)
+    match task {
+        LinesTask::Run => answer_script(rt, alloc, input, false, Remains::Forgotten),
+        LinesTask::Check => answer_facts(rt, alloc, input, false, Remains::Forgotten),
+    }
 }

@@ -19,6 +19,9 @@ use text::{decoded, first_part, labelled, split_behind, worded};
 /// How many bytes of a capture are a thread's at least: fewer are described sooner than a thread is started.
 const LEAST_BLOCK: usize = 65536;
 
+/// How many blocks there are for each thread: two texts are joined at a time, so short blocks take less memory beside the whole text.
+const BLOCKS: usize = 2;
+
 fn fault_text(alloc: Global, fault: WireFault) -> Result<String, AllocError>
     ensures { IfOk result (λ s. string_bytes s ≡ codes "wire " ++ decimal (fault_number fault)) }
 {
@@ -128,32 +131,31 @@ fn lines_text(alloc: Global, input: &[u8]) -> Result<String, AllocError>
     Ok(text)
 }
 
-// The description of lines by so many threads, each of which describes a block of whole lines.
+// The description of lines in so many blocks of whole lines, which threads describe.
 #[cycle(blocks)]
 fn blocks_text<R: Threads + Sync>(
     rt: &R,
     alloc: Global,
     input: &[u8],
-    threads: usize,
+    blocks: usize,
 ) -> Result<String, AllocError>
     ensures { IfOk result (λ s. string_bytes s ≡ inspected input.now) }
 {
-    if threads < 2 {
+    if blocks < 2 {
         return lines_text(alloc, input);
     }
-    let low = threads / 2;
-    let high = threads - low;
-    let Some((first, second)) = split_behind(input, b'\n', input.len() / threads * low) else {
+    // The last block alone is the second text: the shorter the text that is joined last, the less memory both texts take.
+    let others = blocks - 1;
+    let Some((first, second)) = split_behind(input, b'\n', input.len() / blocks * others) else {
         return lines_text(alloc, input);
     };
     let front = || -> Result<String, AllocError>
         requires { IsSync R.row }
         ensures { IfOk result (λ s. string_bytes s ≡ inspected first.entry.now) }
-    { blocks_text(rt, alloc, first, low) };
+    { blocks_text(rt, alloc, first, others) };
     let back = || -> Result<String, AllocError>
-        requires { IsSync R.row }
         ensures { IfOk result (λ s. string_bytes s ≡ inspected second.entry.now) }
-    { blocks_text(rt, alloc, second, high) };
+    { lines_text(alloc, second) };
     let (text, more) = join(rt, front, back);
     let mut text = text?;
     text.push_str(&more?)?;
@@ -170,5 +172,8 @@ pub fn inspected<R: Threads + Sync>(
     ensures { IfOk result (λ s. string_bytes s ≡ inspected input.now) }
 {
     let threads = current_num_threads(rt).min(input.len() / LEAST_BLOCK);
-    blocks_text(rt, alloc, input, threads)
+    if threads < 2 {
+        return lines_text(alloc, input);
+    }
+    blocks_text(rt, alloc, input, BLOCKS * threads)
 }

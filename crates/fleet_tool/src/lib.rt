@@ -5,7 +5,8 @@
 //! every input whose bytes the reader specifies; an input has just one (`laws`). They read the whole input before they write anything;
 //! an error names the device that failed, or says that memory ran out, and after `Input` and `Memory` nothing was written.
 //!
-//! Threads describe the blocks of a long capture, and their descriptions are joined in order.
+//! Threads read the fact lines of a long text, and describe the lines of a long capture, in blocks of whole lines. What they make of the
+//! blocks is joined in order.
 //!
 //! `explain_text` answers as the first two do, and returns a true reason of a bad line or of a fault.
 //!

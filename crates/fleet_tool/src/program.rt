@@ -7,7 +7,7 @@ use crate::drill_line::DrillTask;
 use crate::drilling::drill_text;
 use crate::ending::{status_of, words_of};
 use crate::job::{LineFault, LinesTask, Task, TextTask, complaint, job_of};
-use crate::run::{check_text, explain_text, inspect_text, run_last_text};
+use crate::run::{explain_text, inspect_text, last_text};
 use framing::Named;
 use framing::devices::{RunFault, Watched};
 use std::alloc::AllocError;
@@ -60,8 +60,8 @@ fn answer_input(
     let mut reader = Watched::new(rt.reader());
     let mut writer = Watched::new(io::writer(rt));
     let ended = match task {
-        TextTask::Run => run_last_text(rt.alloc(), &mut reader, &mut writer),
-        TextTask::Check => check_text(rt.alloc(), &mut reader, &mut writer),
+        TextTask::Run => last_text(rt, rt.alloc(), LinesTask::Run, &mut reader, &mut writer),
+        TextTask::Check => last_text(rt, rt.alloc(), LinesTask::Check, &mut reader, &mut writer),
         TextTask::Inspect => inspect_text(rt, rt.alloc(), &mut reader, &mut writer).map(
             |()| Verdict::Done,
         ),
@@ -70,10 +70,13 @@ fn answer_input(
 }
 
 /// Does the same, and prints the reason on standard error.
-fn explain_input(rt: &(impl Input + Print + Eprint + AllocGlobal), task: LinesTask) -> ExitCode {
+fn explain_input(
+    rt: &(impl Input + Print + Eprint + AllocGlobal + Threads + Sync),
+    task: LinesTask,
+) -> ExitCode {
     let mut reader = Watched::new(rt.reader());
     let mut writer = Watched::new(io::writer(rt));
-    let ended = explain_text(rt.alloc(), task, &mut reader, &mut writer);
+    let ended = explain_text(rt, rt.alloc(), task, &mut reader, &mut writer);
     if let Ok(explained) = &ended {
         if let Some(reason) = &explained.reason {
             let _ = rt.eprintln(format_args!("fleet: {reason}"));

@@ -19,7 +19,8 @@ use std::io::{Read, Write};
 use std::thread::Threads;
 
 /// Reads the whole input, and writes the task's answer to it and nothing else.
-fn answer_text<R: Read, W: Write>(
+fn answer_text<T: Threads + Sync, R: Read, W: Write>(
+    rt: &T,
     alloc: Global,
     task: LinesTask,
     reader: &mut Watched<R>,
@@ -30,7 +31,7 @@ fn answer_text<R: Read, W: Write>(
     ensures { IsTextCall R.remaining W.contents (IsOutputOf (as_text_task task)) reader.old reader.new writer.old writer.new result }
 {
     let input = read_all(alloc, reader)?;
-    let output = answer(alloc, task, input, false)?;
+    let output = answer(rt, alloc, task, input, false)?;
     write_all(writer, output.text.as_bytes())?;
     Ok(output.verdict)
 }
@@ -39,7 +40,8 @@ fn answer_text<R: Read, W: Write>(
 ///
 /// Errors: `Input` and `Output` only where that device failed, `Memory`. After `Input` and `Memory` the writer is unchanged;
 /// after `Output` it has a prefix of the answer.
-pub fn run_text<R: Read, W: Write>(
+pub fn run_text<T: Threads + Sync, R: Read, W: Write>(
+    rt: &T,
     alloc: Global,
     reader: &mut Watched<R>,
     writer: &mut Watched<W>,
@@ -48,21 +50,23 @@ pub fn run_text<R: Read, W: Write>(
     requires writer { has_failed writer.old ≡ false }
     ensures { IsTextCall R.remaining W.contents (IsOutputOf TextTask.Run) reader.old reader.new writer.old writer.new result }
 {
-    answer_text(alloc, LinesTask::Run, reader, writer)
+    answer_text(rt, alloc, LinesTask::Run, reader, writer)
 }
 
-/// Does the same for a program that ends with it: the script and the fleet stay in memory.
-pub(crate) fn run_last_text<R: Read, W: Write>(
+/// Does the same, or what `check_text` does, for a program that ends with it: what was read stays in memory.
+pub(crate) fn last_text<T: Threads + Sync, R: Read, W: Write>(
+    rt: &T,
     alloc: Global,
+    task: LinesTask,
     reader: &mut Watched<R>,
     writer: &mut Watched<W>,
 ) -> Result<Verdict, RunFault>
     requires reader { has_failed reader.old ≡ false }
     requires writer { has_failed writer.old ≡ false }
-    ensures { IsTextCall R.remaining W.contents (IsOutputOf TextTask.Run) reader.old reader.new writer.old writer.new result }
+    ensures { IsTextCall R.remaining W.contents (IsOutputOf (as_text_task task)) reader.old reader.new writer.old writer.new result }
 {
     let input = read_all(alloc, reader)?;
-    let output = last_answer(alloc, input)?;
+    let output = last_answer(rt, alloc, task, input)?;
     write_all(writer, output.text.as_bytes())?;
     Ok(output.verdict)
 }
@@ -70,7 +74,8 @@ pub(crate) fn run_last_text<R: Read, W: Write>(
 /// Answers a log: its first bad line, or its first fault, or the number of its facts.
 ///
 /// Errors as for `run_text`.
-pub fn check_text<R: Read, W: Write>(
+pub fn check_text<T: Threads + Sync, R: Read, W: Write>(
+    rt: &T,
     alloc: Global,
     reader: &mut Watched<R>,
     writer: &mut Watched<W>,
@@ -79,7 +84,7 @@ pub fn check_text<R: Read, W: Write>(
     requires writer { has_failed writer.old ≡ false }
     ensures { IsTextCall R.remaining W.contents (IsOutputOf TextTask.Check) reader.old reader.new writer.old writer.new result }
 {
-    answer_text(alloc, LinesTask::Check, reader, writer)
+    answer_text(rt, alloc, LinesTask::Check, reader, writer)
 }
 
 /// The outcome of an answered script or log, and the reason where its text names a bad line or a fault.
@@ -90,7 +95,8 @@ pub struct Explained {
 }
 
 // The task's output for an input, the outcome, and the reason.
-fn answer_and_reason(
+fn answer_and_reason<T: Threads + Sync>(
+    rt: &T,
     alloc: Global,
     task: LinesTask,
     input: Vec<u8>,
@@ -101,14 +107,15 @@ fn answer_and_reason(
         text,
         verdict,
         reason,
-    } = answer(alloc, task, input, true)?;
+    } = answer(rt, alloc, task, input, true)?;
     Ok((text, Explained { verdict, reason }))
 }
 
 /// Answers a script or a log as `run_text` and `check_text` do, and returns a true reason where the text names a bad line or a fault.
 ///
 /// Errors as for `run_text`.
-pub fn explain_text<R: Read, W: Write>(
+pub fn explain_text<T: Threads + Sync, R: Read, W: Write>(
+    rt: &T,
     alloc: Global,
     task: LinesTask,
     reader: &mut Watched<R>,
@@ -120,7 +127,7 @@ pub fn explain_text<R: Read, W: Write>(
         reader.old reader.new writer.old writer.new result }
 {
     let input = read_all(alloc, reader)?;
-    let (text, explained) = answer_and_reason(alloc, task, input)?;
+    let (text, explained) = answer_and_reason(rt, alloc, task, input)?;
     write_all(writer, text.as_bytes())?;
     Ok(explained)
 }

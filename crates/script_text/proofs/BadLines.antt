@@ -83,10 +83,10 @@ lines_none : {A : Type 0} (said : List ℕ → Option A) (count at : ℕ) (x : L
     → Refuses (lines_from said count at) at x
 lines_none said count at x in_time none = record { always = λ others some. rw (some_left (length others) some, in_time, none) refl }
 
-abbrev good_none : {A : Type 0} → Result (List A) ℕ
+abbrev pub good_none : {A : Type 0} → Result (List A) ℕ
 good_none = Ok []
 
-lines_last : {A : Type 0} (x : List ℕ) (at stop : ℕ) → cond (eqb (length x) 0) (good_none {A = A}) (Err at) ≡ Err stop → at ≡ stop
+pub lines_last : {A : Type 0} (x : List ℕ) (at stop : ℕ) → cond (eqb (length x) 0) (good_none {A = A}) (Err at) ≡ Err stop → at ≡ stop
 lines_last x at stop h = search rules
 
 lines_stop : {A : Type 0} (said : List ℕ → Option A) (count at : ℕ) (parts : List (List ℕ)) (stop : ℕ) → 0 < length parts

@@ -18,3 +18,5 @@ pub mod Lines
 pub mod StoppedLines
 pub mod Rosters
 pub mod BadLines
+pub mod JoinedLines
+pub mod RoundGo

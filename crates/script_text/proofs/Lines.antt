@@ -12,7 +12,7 @@ use Rattle.script_text.proofs.Results.{bad, some_left}
 use Rattle.script_text.proofs.Scripts.{script_next}
 use Rattle.text.proofs.Split.{some_parts}
 
-bad_either : {A : Type 0} (b : Bool) (at : ℕ) → cond b (Err at) (Err at) ≡ bad {A = A} at
+pub bad_either : {A : Type 0} (b : Bool) (at : ℕ) → cond b (Err at) (Err at) ≡ bad {A = A} at
 bad_either b at = search rules
 
 -- ---- lines that are read one by one

@@ -64,7 +64,7 @@ nodes_are_read line nodes h = count_is_read (codes "nodes") line most_nodes node
 
 -- ---- lines that are read one by one
 
-last_ok : {A : Type 0} (x : List ℕ) (at : ℕ) (ys : List A) → cond (eqb (length x) 0) (Ok []) (Err at) ≡ Ok ys → (x ≡ []) × (ys ≡ [])
+pub last_ok : {A : Type 0} (x : List ℕ) (at : ℕ) (ys : List A) → cond (eqb (length x) 0) (Ok []) (Err at) ≡ Ok ys → (x ≡ []) × (ys ≡ [])
 last_ok x at ys h = grind (arith, common_steps)
 
 -- the next line was read
@@ -171,7 +171,7 @@ fact_is_not_go : (x : List ℕ) (f : Fact) → fact_of x ≡ Some f → bytes_eq
 fact_is_not_go x f h = no_test (bytes_eq x (codes "go")) (λ t. let e : x ≡ codes "go" = true_is x (codes "go") t in go_is_no_fact f (sym (ap fact_of e) ∙ h))
 
 -- the next line is go
-script_go : (count at : ℕ) (rest : List (List ℕ)) → 0 < length rest → script_from count at (codes "go" ∷ rest) ≡ nodes_from count (at + 1) rest
+pub script_go : (count at : ℕ) (rest : List (List ℕ)) → 0 < length rest → script_from count at (codes "go" ∷ rest) ≡ nodes_from count (at + 1) rest
 script_go count at rest some = rw (some_left (length rest) some) refl
 
 -- the next line was read as a fact

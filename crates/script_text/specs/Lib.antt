@@ -12,4 +12,5 @@ pub mod ContentsReasons
 pub mod FactReasons
 pub mod LineReasons
 pub mod TextReasons
+pub mod ScriptParts
 pub mod Laws

@@ -14,7 +14,7 @@ use crate::field_reasons::count_parts;
 use crate::limits::{PAGE, SHORT};
 use crate::patch_reasons::patch_fault;
 use crate::reasons::{FactError, LineReason};
-use redo_core::{Fact, MAX_PATCHES, Patch, Record, Write};
+use redo_core::{Fact, MAX_PATCHES, Patch, Record, RecordFault, Write};
 use std::alloc::{AllocError, Global};
 use text::{decoded, first_part, is_word, number_before, put_bytes, read_number};
 
@@ -191,7 +191,10 @@ fn of_list(head: Head, init: bool, patches: Vec<Patch>) -> Result<Fact, FactErro
     } = head;
     match Record::with(epoch, number, back, page, block_back, init, patches) {
         Ok(redo) => Ok(Fact::Record(redo)),
-        Err(refused) => Err(FactError::Bad(LineReason::Shape(refused.fault))),
+        Err(refused) => match refused.fault {
+            RecordFault::Shape(fault) => Err(FactError::Bad(LineReason::Shape(fault))),
+            RecordFault::Memory => Err(FactError::Memory),
+        },
     }
 }
 

@@ -208,3 +208,15 @@ pub fn shared_fact(alloc: Global, line: &[u8]) -> Result<Fact, FactError>
     let fact = fact(alloc, line)?;
     Ok(fact.share()?)
 }
+
+/// The same fact, shared where `shares` says so.
+pub fn fact_or_shared(alloc: Global, line: &[u8], shares: bool) -> Result<Fact, FactError>
+    ensures fact { IfOk result (λ f. fact_of line.now ≡ Some f) }
+    ensures reason { IfErr result (IfBad (IsFactReason (parts_at 32 line.now))) }
+{
+    if shares {
+        shared_fact(alloc, line)
+    } else {
+        fact(alloc, line)
+    }
+}

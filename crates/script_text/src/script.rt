@@ -15,7 +15,7 @@ ghost use Rattle.script_text.specs.declared.reasons.LineReason.TheVariants.{Carr
 ghost use Rattle.script_text.specs.declared.reasons.TextReason.TheVariants.{ManyFacts, ManySteps};
 ghost use Rattle.script_text.specs.declared.script.ScriptError.TheVariants.{Memory};
 
-use crate::fact_line::{fact, shared_fact};
+use crate::fact_line::{fact_or_shared, shared_fact};
 use crate::forms::one;
 use crate::opening::read_opening;
 use crate::reasons::{FactError, LineReason, TextReason};
@@ -43,10 +43,10 @@ pub struct Script {
 
 /// What a script says below its roster.
 #[derive(Drop)]
-struct Asked {
-    facts: Vec<Fact>,
-    nodes: u16,
-    steps: Vec<Step<usize>>,
+pub struct Asked {
+    pub facts: Vec<Fact>,
+    pub nodes: u16,
+    pub steps: Vec<Step<usize>>,
 }
 
 /// Why a text was not read.
@@ -74,7 +74,7 @@ impl<T: Drop> From<AllocFailed<T>> for ScriptError {
 }
 
 /// How many fact lines, and how many step lines, there may be.
-const MOST: usize = 1000000;
+pub const MOST: usize = 1000000;
 
 /// How many nodes there may be.
 const MOST_NODES: u64 = 64;
@@ -221,7 +221,12 @@ fn nodes_at(at: usize, line: &[u8]) -> Result<u16, ScriptError>
 }
 
 /// What follows the line `go`: the nodes and the steps.
-fn after_go(alloc: Global, text: &[u8], facts: Vec<Fact>, at: usize) -> Result<Asked, ScriptError>
+pub fn after_go(
+    alloc: Global,
+    text: &[u8],
+    facts: Vec<Fact>,
+    at: usize,
+) -> Result<Asked, ScriptError>
     requires facts { length facts.items ≤ most }
     requires at { at ≤ most + 3 }
     ensures asked { Gives asked_data result (within (with_facts facts.items) (nodes_from (length facts.items) at (parts_at 10 text.now))) }
@@ -243,7 +248,7 @@ fn after_go(alloc: Global, text: &[u8], facts: Vec<Fact>, at: usize) -> Result<A
 }
 
 /// Fact lines up to `go`, and what follows. The first has the number `at`.
-fn script_lines(alloc: Global, text: &[u8], at: usize) -> Result<Asked, ScriptError>
+pub fn script_lines(alloc: Global, text: &[u8], at: usize) -> Result<Asked, ScriptError>
     requires { at ≤ 2 }
     ensures asked { Gives asked_data result (script_from 0 at (parts_at 10 text.now)) }
     ensures reason { IfErr result (IsExplained (IsScriptReason 0 at (parts_at 10 text.now))) }
@@ -270,8 +275,8 @@ fn script_lines(alloc: Global, text: &[u8], at: usize) -> Result<Asked, ScriptEr
     Err(end_at(at + facts.len(), rest, TextReason::NoGo))
 }
 
-/// Fact lines to the end of the text. The first has the number `at`.
-fn facts(alloc: Global, text: &[u8], at: usize) -> Result<Vec<Fact>, ScriptError>
+/// Fact lines to the end of the text, whose facts are shared by their copies where `shares` says so. The first has the number `at`.
+pub fn facts(alloc: Global, text: &[u8], at: usize, shares: bool) -> Result<Vec<Fact>, ScriptError>
     requires { at ≤ 2 }
     ensures facts { Gives (λ v. v.items) result (lines_from fact_of 0 at (parts_at 10 text.now)) }
     ensures reason { IfErr result (IsExplained (IsReasonFrom ExplainsFact ManyFacts 0 at (parts_at 10 text.now))) }
@@ -286,7 +291,7 @@ fn facts(alloc: Global, text: &[u8], at: usize) -> Result<Vec<Fact>, ScriptError
                 reason: TextReason::ManyFacts,
             });
         }
-        match fact(alloc, line) {
+        match fact_or_shared(alloc, line, shares) {
             Ok(next) => facts.push(next)?,
             Err(error) => return Err(bad_fact(here, line, error)),
         }
@@ -331,7 +336,7 @@ pub fn read_facts(alloc: Global, text: &[u8]) -> Result<Log, ScriptError>
     ensures reason { IfErr result (IsExplained (ExplainsLog text.now)) }
 {
     let opening = read_opening(text);
-    let facts = facts(alloc, opening.rest, opening.lines + 1)?;
+    let facts = facts(alloc, opening.rest, opening.lines + 1, false)?;
     Ok(Log {
         roster: opening.roster,
         facts,
