@@ -1,5 +1,6 @@
 """Fixtures that every test file shares: the built programs, the seed of random tests, and what refuses memory and devices."""
 
+import contextlib
 import random
 import secrets
 import subprocess
@@ -82,78 +83,25 @@ def program(request, crate):
     return place
 
 
-@pytest.fixture(scope="session")
-def fleet(request):
-    return program(request, "fleet")
+def built(crate, name=None):
+    """The fixture of a crate's program or archive."""
+    return pytest.fixture(lambda request: program(request, crate), scope="session", name=name or crate)
 
 
-@pytest.fixture(scope="session")
-def fleet_node(request):
-    return program(request, "fleet_node")
+fleet, fleet_node, volume_node, call_cases, thread_cases = map(built, ("fleet", "fleet_node", "volume_node", "call_cases", "thread_cases"))
+archive, volume_archive = built("node_c", "archive"), built("volume_c", "volume_archive")
 
 
-@pytest.fixture(scope="session")
-def volume_node(request):
-    return program(request, "volume_node")
+# What is built in a folder of its own
 
 
-@pytest.fixture(scope="session")
-def call_cases(request):
-    return program(request, "call_cases")
+def made(name, make):
+    return pytest.fixture(lambda tmp_path_factory: make(tmp_path_factory.mktemp(name)), scope="session", name=name)
 
 
-@pytest.fixture(scope="session")
-def thread_cases(request):
-    return program(request, "thread_cases")
-
-
-@pytest.fixture(scope="session")
-def archive(request):
-    return program(request, "node_c")
-
-
-@pytest.fixture(scope="session")
-def volume_archive(request):
-    return program(request, "volume_c")
-
-
-# What refuses
-
-
-@pytest.fixture(scope="session")
-def refusing(tmp_path_factory):
-    """Refuses allocations and starts of threads."""
-    return shims.Refusing(tmp_path_factory.mktemp("refusing"))
-
-
-@pytest.fixture(scope="session")
-def devices(tmp_path_factory):
-    """Cuts reads and writes short, and has them fail."""
-    return shims.Devices(tmp_path_factory.mktemp("devices"))
-
-
-# Storage servers
-
-
-@pytest.fixture(scope="session")
-def store_program(archive, tmp_path_factory):
-    made = stores.build(archive, tmp_path_factory.mktemp("store"))
-    return made or pytest.skip("no cargo is on the path")
-
-
-@pytest.fixture(scope="session")
-def disk(tmp_path_factory):
-    """Delays and reports flushes, and refuses writes."""
-    return stores.disk(tmp_path_factory.mktemp("disk"))
-
-
-# SQLite
-
-
-@pytest.fixture(scope="session")
-def double(tmp_path_factory):
-    """The VFS over the double of a volume."""
-    return sqlite_worlds.build(tmp_path_factory.mktemp("double"))
+refusing = made("refusing", shims.Refusing)  # refuses allocations, starts of threads, reads and writes, and cuts reads and writes short
+disk = made("disk", stores.disk)  # delays and reports flushes, and refuses writes
+double = made("double", sqlite_worlds.build)  # the VFS over the double of a volume
 
 
 @pytest.fixture(scope="session")
@@ -168,15 +116,20 @@ def parts(extension, store_program, disk):
     return extension, store_program, disk
 
 
+# Storage servers
+
+
+@pytest.fixture(scope="session")
+def store_program(archive, tmp_path_factory):
+    return stores.build(archive, tmp_path_factory.mktemp("store")) or pytest.skip("no cargo is on the path")
+
+
 @pytest.fixture
 def store(store_program, tmp_path):
     """Makes a server of a name, with more words of its command line."""
-    made = []
+    with contextlib.ExitStack() as stack:
 
-    def make(name="one", *words, **settings):
-        made.append(stores.Store(store_program, tmp_path / name, *words, **settings))
-        return made[-1]
+        def make(name="one", *words, **settings):
+            return stack.enter_context(contextlib.closing(stores.Store(store_program, tmp_path / name, *words, **settings)))
 
-    yield make
-    for it in made:
-        it.close()
+        yield make

@@ -3,19 +3,19 @@
 import os
 import random
 import threading
+from concurrent.futures import ThreadPoolExecutor
 
 import pytest
 
-from harness import SECONDS, captures, rounds, scripts, shrunk_script
+from harness import SECONDS, captures, expect_agreement, rounds, scripts, shrunk_script
 from harness.archive import Segment, library, program
-from harness.nodes import FramedNode, Play, as_frame
-from model import wire
-from model.facts import PAGE_LEN, Advance, Record, Write
-from model.wire import fact_bytes, frame, framed
-from test_memory import framed_rows, sweep_node
-from test_node import EXAMPLE, NODES, framed_pairs, is_played
+from harness.nodes import EXAMPLE, LIMIT, OWN, FramedNode, Play, framed_pairs
+from harness.store_checks import PAGES, advance, reads, replayed, takes
+from model import oracle, wire
+from model.wire import frame, framed
+from test_memory import sweep_node
+from test_node import NODES
 
-LIMIT = 67_108_864  # the most bytes of a frame
 WINDOW = 64  # requests that are not answered yet
 
 
@@ -37,11 +37,13 @@ def test_archive_example(segment):
     assert [segment.ask(line) for line, _ in pairs] == [told for _, told in pairs]
 
 
-def play(serve, text, choose):
-    """What differs from the oracle, or nothing."""
+def play(serve, text, key):
+    """What differs from the oracle where the key fixes the choices, or nothing, as where the text is no script of a sound log."""
+    if oracle.run(text)[1] != 0:
+        return ""
     segments = [Segment(serve) for _ in range(NODES)]
     try:
-        differs = Play(segments, text).difference(choose)
+        differs = Play(segments, text).difference(random.Random(key))
         ends = {it.close() for it in segments}
     except (AssertionError, OSError) as fault:
         return str(fault)
@@ -50,16 +52,9 @@ def play(serve, text, choose):
 
 def test_archive_random_scripts(serve, seed, seconds):
     """Gossip, folds, discards, reads and restarts from snapshots, beside the oracle."""
-    for place, choose in enumerate(rounds(seed, "archive", seconds)):
-        text, state = scripts.input_of_gossip(choose)[1], choose.getstate()
-
-        def differs(text):
-            choose.setstate(state)
-            return play(serve, text, choose)
-
-        if seen := differs(text):
-            least = shrunk_script(text, lambda it: is_played(it) and bool(differs(it)))
-            pytest.fail(f"seed {seed}, round {place}: {differs(least) or seen}; the least script:\n{least}")
+    for choose in rounds(seed, "archive", seconds):
+        text, key = scripts.input_of_gossip(choose)[1], choose.random()
+        expect_agreement(text, lambda it: play(serve, it, key), shrunk_script)
 
 
 # Hostile frames
@@ -94,7 +89,7 @@ def hostile(choose):
 
 def test_hostile_frames(segment, seed, seconds):
     """Each answer is what the layouts say, and nothing changes where a request asks for nothing."""
-    segment.told(*(b"take " + fact for fact in chain(40)))
+    segment.told(*chain(40))
     seen = set()
     for choose in rounds(seed, "hostile", seconds):
         request, wanted = hostile(choose)
@@ -145,29 +140,22 @@ def test_descriptors(serve):
 
 
 def chain(last):
-    """The facts of a log of one chain over four pages, with an advance at its half."""
-    for number in range(1, last + 1):
-        write = Write(2 * (number % 100), number.to_bytes(2, "big"))
-        yield fact_bytes(Record(0, number, number - 1, number % 4, max(0, number - 4), False, (write,)))
-    yield fact_bytes(Advance(0, 1, last // 2))
+    """The takes of a log of one chain over four pages, with an advance to its half."""
+    return [*takes(1, last), advance(last // 2)]
 
 
-def replayed(last, page):
-    image = bytearray(PAGE_LEN)
-    for number in range(1, last + 1):
-        if number % 4 == page:
-            image[2 * (number % 100) : 2 * (number % 100) + 2] = number.to_bytes(2, "big")
-    return b"page " + image
+def pages(last):
+    """What is answered to the reads after the chain."""
+    return [replayed(last, page) for page in range(PAGES)]
 
 
 def windows(last, size):
-    """Takes of the chain, each with a front behind it, so many at a time; and their answers."""
-    facts = list(chain(last))
-    for place in range(0, len(facts), size):
-        window = facts[place : place + size]
-        fronts = [(min(at, last), last // 2 if at > last else 0) for at in range(place + 1, place + 1 + len(window))]
-        wanted = [it for number, least in fronts for it in (b"changed", b"front 0 %d %d" % (number, least))]
-        yield [it for fact in window for it in (b"take " + fact, b"front")], wanted
+    """Takes of the chain, each with a front after it, so many at a time; and their answers."""
+    requests = [it for take in chain(last) for it in (take, b"front")]
+    fronts = [*((number, 0) for number in range(1, last + 1)), (last, last // 2)]
+    answers = [it for front in fronts for it in (b"changed", b"front 0 %d %d" % front)]
+    for place in range(0, len(requests), 2 * size):
+        yield requests[place : place + 2 * size], answers[place : place + 2 * size]
 
 
 def test_many_at_once(segment, last=3000):
@@ -180,40 +168,28 @@ def test_many_at_once(segment, last=3000):
 def test_archive_many_in_a_frame(segment, last=3000):
     for requests, wanted in windows(last, 2 * WINDOW):
         assert segment.told(b"many " + framed(requests)) == framed(wanted)
-    reads = [f"read {page} {last} 0 {PAGE_LEN}".encode() for page in range(4)]
-    assert segment.told(b"many " + framed(reads)) == framed(replayed(last, page) for page in range(4))
+    assert segment.told(b"many " + framed(reads(last))) == framed(pages(last))
 
 
-class Worker(threading.Thread):
-    """Feeds a segment of its own: the facts in an order of its own, then folds, and all four pages."""
-
-    def __init__(self, serve, facts, choose, begin):
-        super().__init__(daemon=True)
-        self.serve, self.facts, self.begin, self.seen = serve, choose.sample(facts, len(facts)), begin, None
-
-    def run(self):
-        segment = Segment(self.serve)
-        segment.ask("front")
-        self.begin.wait(SECONDS)
-        for fact in self.facts:
-            segment.told(b"take " + fact)
-        summary = segment.told(b"tidy", b"ask")
-        pages = [segment.told(f"read {page} {len(self.facts) - 1} 0 {PAGE_LEN}".encode()) for page in range(4)]
-        self.begin.wait(SECONDS)  # none ends before all have done their work
-        self.seen = summary, pages, segment.close()
+def fed(serve, last, choose, begin):
+    """What a segment of its own answers that takes the chain in a random order, and folds: its summary, all four pages, and its end."""
+    segment, requests = Segment(serve), chain(last)
+    segment.ask("front")
+    begin.wait(SECONDS)
+    for take in choose.sample(requests, len(requests)):
+        segment.told(take)
+    summary, images = segment.told(b"tidy", b"ask"), [segment.told(it) for it in reads(last)]
+    begin.wait(SECONDS)  # none ends before all have done their work
+    return summary, images, segment.close()
 
 
 def test_eight_at_once(serve, rng, count=8, last=2000):
     """Segments on as many threads, all within the call at the same time, share nothing and tell the same."""
-    facts, begin = list(chain(last)), threading.Barrier(count)
-    workers = [Worker(serve, facts, random.Random(rng.random()), begin) for _ in range(count)]
-    for it in workers:
-        it.start()
-    for it in workers:
-        it.join(4 * SECONDS)
-    wanted = workers[0].seen[0], [replayed(last, page) for page in range(4)], (0, b"")
-    assert [it.seen for it in workers] == [wanted] * count
+    begin, keys = threading.Barrier(count), [rng.random() for _ in range(count)]
+    with ThreadPoolExecutor(count) as pool:
+        seen = list(pool.map(lambda key: fed(serve, last, random.Random(key), begin), keys))
+    assert seen == [(seen[0][0], pages(last), (0, b""))] * count
 
 
 def test_archive_each_allocation_refused(archive, refusing, tmp_path):
-    sweep_node(refusing, program(archive, tmp_path), FramedNode, framed_rows(), 200)
+    sweep_node(refusing, program(archive, tmp_path), FramedNode, framed_pairs(OWN), 200)

@@ -1,5 +1,6 @@
 """The command line of `fleet`: bad ones, the help, a version, names of any bytes, and drills."""
 
+import itertools
 import os
 import shutil
 
@@ -37,12 +38,8 @@ DRILLS = [
     ("--size=large --workers=2 --nodes 1", 1, "large"),
     ("--nodes +2 --workers=008", 2, "small"),
 ]
-DRILLS += [
-    (f"--nodes={nodes} --workers={workers} --size {size}", nodes, size)
-    for size in drill.SIZES
-    for nodes in range(1, 7)
-    for workers in (1, 4, 8, 16)
-]
+ALL_SIZES = itertools.product(drill.SIZES, range(1, 7), (1, 4, 8, 16))
+DRILLS += [(f"--nodes={nodes} --workers={workers} --size {size}", nodes, size) for size, nodes, workers in ALL_SIZES]
 
 
 @pytest.mark.parametrize("words", BAD_LINES, ids=lambda words: " ".join(words) or "none")
@@ -72,12 +69,6 @@ def test_help(fleet, task):
 def test_version(fleet):
     status, version, said = answer(fleet, ["--version"])
     assert (status, version.split(b" ")[0], version.count(b"\n"), said) == (0, b"fleet", 1, b"")
-
-
-@pytest.mark.parametrize("words", ["--help", "run --help", "drill --help", "--version"])
-def test_help_to_a_full_device(fleet, words):
-    with open("/dev/full", "wb") as device:
-        assert answer(fleet, words.split(" "), stdout=device) == (4, None, b"fleet: output failed\n")
 
 
 def test_names_of_any_bytes(fleet, tmp_path):

@@ -1,6 +1,6 @@
 """Inputs and outputs that fail: folders, full devices, pipes that nobody reads, and each read and write of small runs."""
 
-import contextlib
+import math
 import os
 
 import pytest
@@ -15,9 +15,9 @@ LOST = [
     ("check --explain", b"rec 0 3 2 7 0 -\n"),
     ("check", b"x\n"),
     ("inspect", b"04\n"),
-    ("drill", b""),
+    *((words, b"") for words in ("drill", "--help", "run --help", "drill --help", "--version")),
 ]
-STEPS = (7, 3)  # the most bytes of a read and of a write
+STEPS = {"READ_STEP": 7, "WRITE_STEP": 3}  # the most bytes of a read and of a write
 CUT = [  # words, text, answer
     ("run", b"rec 0 3 0 7 0 0:6161\nrec 0 5 3 7 3 1:62\nrec 0 9 5 8 0 0:63\nmin 0 5\ngo\nnodes 1\ntake 1 3\nfront 1\n", b"changed\nfront 0 0 0\n"),
     (
@@ -31,25 +31,16 @@ CUT = [  # words, text, answer
 ]
 
 
-@contextlib.contextmanager
-def folder(path):
-    """A folder opens, but cannot be read."""
-    device = os.open(path, os.O_RDONLY)
-    try:
-        yield device
-    finally:
-        os.close(device)
+def answer_to_a_folder(program, *words):
+    """What the program answers to an input that opens, but cannot be read."""
+    return answer("sh", ["-c", '"$@" < /', "sh", program, *words])
 
 
-@contextlib.contextmanager
 def unread_pipe():
     """The end of a pipe that is written to, and its other end is closed."""
     reader, writer = os.pipe()
     os.close(reader)
-    try:
-        yield writer
-    finally:
-        os.close(writer)
+    return open(writer, "wb")
 
 
 def full():
@@ -57,9 +48,8 @@ def full():
 
 
 @pytest.mark.parametrize("task", ["run", "check", "inspect"])
-def test_input_fails(fleet, task, tmp_path):
-    with folder(tmp_path) as device:
-        assert answer(fleet, [task], stdin=device) == (4, b"", b"fleet: input failed\n")
+def test_input_fails(fleet, task):
+    assert answer_to_a_folder(fleet, task) == (4, b"", b"fleet: input failed\n")
 
 
 @pytest.mark.parametrize("device", [full, unread_pipe])
@@ -74,9 +64,8 @@ def test_an_empty_answer_loses_nothing(fleet):
         assert answer(fleet, ["run"], b"go\nnodes 1\n", stdout=output) == (0, None, b"")
 
 
-def test_node_input_fails(fleet_node, tmp_path):
-    with folder(tmp_path) as device:
-        assert answer(fleet_node, [], stdin=device) == (4, b"", b"fleet-node: input failed\n")
+def test_node_input_fails(fleet_node):
+    assert answer_to_a_folder(fleet_node) == (4, b"", b"fleet-node: input failed\n")
 
 
 @pytest.mark.parametrize("device", [full, unread_pipe])
@@ -86,13 +75,14 @@ def test_node_output_fails(fleet_node, device):
 
 
 @pytest.mark.parametrize("words, text, wanted", CUT, ids=lambda it: str(it)[:60])
-def test_each_call_fails(fleet, devices, words, text, wanted):
+def test_each_call_fails(fleet, refusing, words, text, wanted):
     """Each of many short reads fails in turn, and each of many short writes: nothing is written then, or a beginning of the answer."""
     command = [fleet, *words.split()]
-    assert devices.run(command, text, STEPS) == Answer(0, wanted)
-    reads, writes = devices.calls()  # (a drill reads nothing; else the last read finds the end)
-    assert (reads, writes) == (-(-len(text) // STEPS[0]) + bool(text), -(-len(wanted) // STEPS[1]))
-    failed = {at: devices.run(command, text, STEPS, reading=at) for at in range(1, reads + 1)}
+    counts, ample = refusing.counted(command, text, **STEPS)
+    assert ample == Answer(0, wanted)
+    reads = math.ceil(len(text) / STEPS["READ_STEP"]) + bool(text)  # (a drill reads nothing; else the last read finds the end)
+    assert (counts.reads, counts.writes) == (reads, math.ceil(len(wanted) / STEPS["WRITE_STEP"]))
+    failed = {at: refusing.run(command, text, FAIL_READ=at, **STEPS) for at in range(1, counts.reads + 1)}
     assert failed == dict.fromkeys(failed, Answer(4, b"", b"fleet: input failed\n"))
-    failed = {at: devices.run(command, text, STEPS, writing=at) for at in range(1, writes + 1)}
-    assert failed == {at: Answer(4, wanted[: (at - 1) * STEPS[1]], b"fleet: output failed\n") for at in failed}
+    failed = {at: refusing.run(command, text, FAIL_WRITE=at, **STEPS) for at in range(1, counts.writes + 1)}
+    assert failed == {at: Answer(4, wanted[: (at - 1) * STEPS["WRITE_STEP"]], b"fleet: output failed\n") for at in failed}

@@ -1,13 +1,14 @@
 """What `make dist` packs runs from any folder, and without the toolchain on the path."""
 
 import os
+import shutil
 import subprocess
 import sys
-import tarfile
+from pathlib import Path
 
 import pytest
 
-from harness import ROOT, answer
+from harness import ROOT, answer, ran
 
 pytestmark = pytest.mark.xdist_group("dist")  # which packs once
 
@@ -20,26 +21,20 @@ def unpacked(request, tmp_path_factory):
     for fixture in ("fleet", "fleet_node", "archive"):
         request.getfixturevalue(fixture)
     folder = tmp_path_factory.mktemp("dist")
-    words = [sys.executable, ROOT / "tools/dist.py", "--to", folder, "--as-built"]
-    done = subprocess.run(words, capture_output=True, text=True, check=False)
-    assert done.returncode == 0, done.stderr
-    packed = folder / done.stdout.strip().split("/")[-1]
-    with tarfile.open(packed) as archive:
-        archive.extractall(folder)
-    return folder / packed.name.removesuffix(".tar.gz")
+    packed = ran([sys.executable, ROOT / "tools/dist.py", "--to", folder, "--as-built"])[0].strip()
+    shutil.unpack_archive(packed, folder)
+    return Path(packed.removesuffix(".tar.gz"))
 
 
 def test_programs_run_without_the_toolchain(unpacked):
-    environment = {name: value for name, value in os.environ.items() if name != "PATH"}
-    example = unpacked / "share/examples/first.txt"
-    seen = answer(unpacked / "bin/fleet", ["run"], example.read_bytes(), env=environment)
-    assert (seen.status, seen.output) == (0, (ROOT / "examples/first.run.out").read_bytes())
-    seen = answer(unpacked / "bin/fleet-node", [], (unpacked / "share/examples/node.requests").read_bytes(), env=environment)
-    assert (seen.status, seen.output) == (0, (ROOT / "examples/node.answers").read_bytes())
+    without_path = {name: value for name, value in os.environ.items() if name != "PATH"}
+    for program, words, text, wanted in [("fleet", ["run"], "first.txt", "first.run.out"), ("fleet-node", [], "node.requests", "node.answers")]:
+        seen = answer(unpacked / "bin" / program, words, (unpacked / "share/examples" / text).read_bytes(), env=without_path)
+        assert (seen.status, seen.output) == (0, (ROOT / "examples" / wanted).read_bytes())
 
 
 def test_programs_need_no_library_of_the_toolchain(unpacked):
-    kit = os.path.realpath(subprocess.run(["rt", "doc"], capture_output=True, text=True, check=True).stdout.split()[-1]).rsplit("/", 1)[0]
+    kit = os.path.dirname(os.path.realpath(ran(["rt", "doc"])[0].split()[-1]))
     for program in ("fleet", "fleet-node"):
         linked = subprocess.run(["ldd", unpacked / "bin" / program], capture_output=True, text=True, check=False)
         assert kit not in linked.stdout + linked.stderr

@@ -1,14 +1,15 @@
-"""That the documents say what is: the map, the files that they name, pictures, counts and limits of length."""
+"""That the documents say what is: the map, the files that they name, the code that they quote, pictures, counts and limits of length."""
 
 import re
-import subprocess
 
 import pytest
 
-from harness import ROOT
+from harness import ROOT, ran
 
-import draw  # of tools/
+import build  # of tools/
+import draw
 
+CRATES = build.read_crates()
 PAGES = [ROOT / "README.md", *sorted((ROOT / "docs").glob("*.md")), *sorted(ROOT.glob("*/README.md"))]
 EACH_PAGE = pytest.mark.parametrize("page", PAGES, ids=lambda page: str(page.relative_to(ROOT)))
 FOLDERS = "crates|docs|examples|tests|tools|bench|client|embedding|store|volume|sqlite|.ci"
@@ -16,40 +17,25 @@ FILE = re.compile(rf"`((?:(?:{FOLDERS})/)?[A-Za-z_/*]+\.(?:md|py|rt|antt|txt|tex
 MAP_ROW = re.compile(r"^\| `([a-z_]+)` \| [^|]* \|([^|]*)\|$", re.M)
 
 
-def crates():
-    """The crates of crates.txt in their order, each with what it depends on."""
-    rows = re.findall(r"(?m)^([a-z_0-9]+)[^#\n]*:(.*)", (ROOT / "crates.txt").read_text())
-    return {name: deps.split() for name, deps in rows}
-
-
-def below(name, rows):
-    return {name}.union(*(below(dep, rows) for dep in rows[name] if dep in rows))
-
-
 def test_map_has_the_crates():
     """Each row names what the crate depends on, a library of the kit in backquotes, in the order of crates.txt."""
-    rows = crates()
+    rows = build.read_rows()
     named = [(name, deps.strip()) for name, deps in MAP_ROW.findall((ROOT / "docs/MAP.md").read_text()) if name in rows]
     assert named == [(name, ", ".join(dep if dep in rows else f"`{dep}`" for dep in deps)) for name, deps in rows.items()]
 
 
-@pytest.mark.parametrize("name", crates())
+@pytest.mark.parametrize("name", CRATES)
 def test_readme_names_the_users(name):
-    rows = crates()
-    told = re.search(r"(?m)^\*\*Used by\*\* (.*)$", (ROOT / "crates" / name / "README.md").read_text()).group(1)
-    assert {word for word in re.findall(r"`(\w+)`", told) if word in rows} == {other for other in rows if name in rows[other]}
+    users = re.search(r"(?m)^\*\*Used by\*\* (.*)$", (ROOT / "crates" / name / "README.md").read_text()).group(1)
+    assert {word for word in re.findall(r"`(\w+)`", users) if word in CRATES} == {other for other in CRATES if name in CRATES[other]}
 
 
 @EACH_PAGE
 def test_named_files_are_there(page):
     """A file is named by its path from the top, or by its name in the same folder or in docs/."""
-    absent = []
-    for name in FILE.findall(page.read_text()):
-        is_path = name.split("/")[0] in FOLDERS.split("|")
-        is_page = "/" not in name and name.endswith((".md", ".py"))
-        if (is_path or is_page) and "NAME" not in name and not any([*place.glob(name)] for place in (ROOT, ROOT / "docs", ROOT / "crates", page.parent)):
-            absent.append(name)
-    assert absent == []
+    named = [name for name in FILE.findall(page.read_text()) if "NAME" not in name]
+    named = [name for name in named if name.split("/")[0] in FOLDERS.split("|") or ("/" not in name and name.endswith((".md", ".py")))]
+    assert [name for name in named if not any(any(place.glob(name)) for place in (ROOT, ROOT / "docs", ROOT / "crates", page.parent))] == []
 
 
 @EACH_PAGE
@@ -65,6 +51,13 @@ def test_shown_pictures_are_there(page):
     assert [name for name in shown if not (page.parent / name).exists()] == []
 
 
+def test_the_embedding_of_threads():
+    """Each block of RUNNING_THREADS is a part of the example that is built, whole lines of it."""
+    blocks = re.findall(r"^```rust\n(.*?)^```$", (ROOT / "docs/RUNNING_THREADS.md").read_text(), re.DOTALL | re.MULTILINE)
+    source = "\n" + (ROOT / "crates/serve_example/src/main.rt").read_text()
+    assert blocks and [block for block in blocks if "\n" + block not in source] == []
+
+
 def test_pictures_are_made():
     """Each picture is byte for byte what the command makes that a document has for it (`make pictures`)."""
     made = draw.pictures()
@@ -74,14 +67,13 @@ def test_pictures_are_made():
 
 def test_readme_names_the_kit():
     """The program logic of the kit at hand, on which all proofs rest. A kit of another name with the same logic is no fault."""
-    kit = subprocess.run(["rt", "version"], capture_output=True, text=True, check=True).stdout.strip()
+    kit = ran(["rt", "version"])[0].strip()
     assert kit[kit.index("logic ") :] in (ROOT / "README.md").read_text()
 
 
 def test_readme_counts_crates():
     """How many crates the first `make` proves."""
-    rows = crates()
-    assert f"proves {len(below('fleet', rows) | below('fleet_node', rows))} crates" in (ROOT / "README.md").read_text()
+    assert f"proves {len(build.closure(CRATES, ['fleet', 'fleet_node']))} crates" in (ROOT / "README.md").read_text()
 
 
 def test_mutants_are_few():
@@ -99,5 +91,5 @@ TOOLS = [it for folder in ("tools", "bench", "examples") for it in sorted((ROOT 
 
 @pytest.mark.parametrize("tool", TOOLS, ids=lambda it: it.name)
 def test_tool_answers_help(tool):
-    done = subprocess.run([tool, "--help"], capture_output=True, text=True, timeout=60)
-    assert (done.returncode, done.stderr) == (0, "") and done.stdout.startswith("usage: ")
+    output, said = ran([tool, "--help"])
+    assert output.startswith("usage: ") and said == ""

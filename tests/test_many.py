@@ -1,14 +1,16 @@
 """The answers to many requests in one frame: at most 64 MiB together; what exceeds them is answered `long`, and nothing of it is lost."""
 
-import os
-import subprocess
+import itertools
 
 import pytest
 
-from harness.nodes import many
-from model.wire import frame, framed
+from harness.nodes import LIMIT, frames_of, many
+from harness.store_checks import advance
+from model.facts import Record, Write
+from model.wire import fact_bytes, frame, framed
 
-LIMIT = 2**26  # bytes of the answers to one frame, each with its length
+import measure  # of bench/
+
 SURE = 21  # bytes that are kept for each answer that is not known yet
 MOST = LIMIT // SURE  # requests in a frame
 PAGES = 1000  # in a delta of 4 MB
@@ -19,42 +21,20 @@ EMPTY = bytes.fromhex("10 0000 000000000000 00000000 000000000000 00000000")  # 
 
 def record(number, page=7):
     """A take of a record in one chain, the first of its page, which writes `a` there."""
-    back = (number - 1).to_bytes(6, "big")
-    return b"take \1\0\0" + number.to_bytes(6, "big") + back + page.to_bytes(2, "big") + bytes(6) + b"\1\0\0\0\1a"
-
-
-def advance(point):
-    return b"take \3\0\0" + point.to_bytes(6, "big")
-
-
-def frames_of(text):
-    """The frames of a text, in time that is linear in its bytes."""
-    told, at = [], 0
-    while at < len(text):
-        end = at + 4 + int.from_bytes(text[at : at + 4], "big")
-        told.append(text[at + 4 : end])
-        at = end
-    assert at == len(text)
-    return told
+    return b"take " + fact_bytes(Record(0, number, number - 1, page, 0, False, (Write(0, b"a"),)))
 
 
 def run(program, text, folder):
     """The answers to the frames of a text, and the most kilobytes that the program held."""
     (folder / "input").write_bytes(text)
-    with (folder / "input").open("rb") as given, (folder / "output").open("wb") as taken:
-        process = subprocess.Popen([program, "--frames"], stdin=given, stdout=taken)
-        _, status, usage = os.wait4(process.pid, 0)
-    process.returncode = os.waitstatus_to_exitcode(status)
-    assert process.returncode == 0
-    return frames_of((folder / "output").read_bytes()), usage.ru_maxrss
+    _, megabytes = measure.run_once(program, "--frames", folder / "input", folder / "output")
+    return frames_of((folder / "output").read_bytes()), 1024 * megabytes
 
 
 def difference(told, wanted):
     """Where two lists of answers differ first, and the beginnings of both there; None where they are the same."""
-    if told != wanted:
-        place = next((n for n, (one, other) in enumerate(zip(told, wanted)) if one != other), min(len(told), len(wanted)))
-        return place, [it[:20] for it in told[place : place + 1]], [it[:20] for it in wanted[place : place + 1]]
-    return None
+    pairs = enumerate(itertools.zip_longest(told, wanted, fillvalue=b"(none)"))
+    return next(((place, one[:20], other[:20]) for place, (one, other) in pairs if one != other), None)
 
 
 def cut_at_the_limit(answers):
@@ -97,9 +77,8 @@ def test_the_last_byte_of_the_limit(fleet_node, tmp_path, more):
 
 
 def test_as_many_requests_as_a_frame_has_room_for(fleet_node, tmp_path):
-    (told, front), _ = run(fleet_node, many([record(1), *[b""] * (MOST - 1)]) + frame(b"front"), tmp_path)
-    assert difference([told], [framed([b"changed", *[b"bad request"] * (MOST - 1)])]) is None
-    assert front == b"front 0 1 0"
+    told, _ = run(fleet_node, many([record(1), *[b""] * (MOST - 1)]) + frame(b"front"), tmp_path)
+    assert difference(told, [framed([b"changed", *[b"bad request"] * (MOST - 1)]), b"front 0 1 0"]) is None
 
 
 def test_too_many_requests_are_not_carried_out(fleet_node, tmp_path):

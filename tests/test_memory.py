@@ -1,23 +1,25 @@
 """Refused allocations and refused starts of threads, and how much memory a run may ask for."""
 
+import re
+
 import pytest
 
-from harness import ROOT, Answer, answer, cases
-from harness.nodes import FramedNode, Node, as_frame, frames_of, has_frame, many
+from harness import ROOT, Answer, answer
+from harness.nodes import LIMIT, OWN, FramedNode, Node, as_frame, framed_pairs, frames_of, many
 from model import oracle
-from model.wire import frame, framed, inspected
+from model.wire import frame, framed
+from test_texts import LONG_FACTS, TEXTS
 
 NO_MEMORY = Answer(5, b"", b"fleet: out of memory\n")
 SLACK = 64 * 1024  # bytes that an inspection may hold beside its input
 TABLES = 4 * 1024 * 1024  # bytes that the laws of a log may hold for their epochs
-SWEPT = [  # example, task, what an allocation may ask for beyond the input's size
-    ("readers", "run", TABLES),
-    ("merge", "run", TABLES),
-    ("gossip", "run", TABLES),
-    ("unsound", "check", TABLES),
-    ("capture", "inspect", SLACK),
-]
-CASES = [  # of tests/cases: joins, gossip, and the check of a sound log
+TEXT_OF = {case.name: case for case in TEXTS}
+SWEPT = [  # several readers, joins, gossip, the check of a sound log and of another, and a capture
+    "example readers",
+    "example merge",
+    "example gossip",
+    "example unsound",
+    "example capture",
     "two_nodes: run joined into an empty one",
     "two_nodes: run that heard other facts",
     "gossip: run gap filled",
@@ -26,59 +28,51 @@ CASES = [  # of tests/cases: joins, gossip, and the check of a sound log
 ]
 DRILL = ["drill", "--nodes", "2", "--workers", "2"]
 MOST = 300  # how many allocations of a node's run are refused, spread evenly over it
-LIMIT = 67_108_864  # the most bytes of a frame
 
 
-def example(name):
-    return (ROOT / f"examples/{name}.txt").read_bytes()
-
-
-def judge(answers, ample):
-    """Each refusal is answered as such, or by the ample answer, and some are answered as such."""
+def sweep(refusing, command, text=b"", setting="FAIL_ALLOC"):
+    """Refuses each allocation or start in turn: each refusal is answered as such, or as with ample memory, and some are answered as such.
+    Returns what the command asks for, and how it ends with ample memory."""
+    counts, ample = refusing.counted(command, text)
+    most = {"FAIL_ALLOC": counts.allocations, "FAIL_START": counts.starts}[setting]
+    answers = {n: refusing.run(command, text, **{setting: n}) for n in range(1, most + 1)}
     assert {n: it for n, it in answers.items() if it not in (NO_MEMORY, ample)} == {}
     assert NO_MEMORY in answers.values()
+    return counts, ample
 
 
-@pytest.mark.parametrize("name, task, slack", SWEPT)
-def test_each_allocation_refused(fleet, refusing, name, task, slack):
-    """And none is much larger than there is cause for."""
-    text = example(name)
-    counts, ample = refusing.counted([fleet, task], text)
-    judge({n: refusing.run([fleet, task], text, allocation=n) for n in range(1, counts.allocations + 1)}, ample)
-    assert counts.greatest <= len(text) + slack
-
-
-@pytest.mark.parametrize("name", CASES)
-def test_each_allocation_of_a_case_refused(fleet, refusing, name):
-    """And with ample memory the answer is the one that the case has."""
-    (case,) = [it for it in cases() if it.name == name]
-    counts, ample = refusing.counted([fleet, case.task], case.text)
+@pytest.mark.parametrize("name", SWEPT)
+def test_each_allocation_refused(fleet, refusing, name):
+    """And none is much larger than there is cause for. With ample memory the answer is the one that the text has."""
+    case = TEXT_OF[name]
+    counts, ample = sweep(refusing, [fleet, case.task], case.text)
     assert ample == Answer(case.status, case.output)
-    judge({n: refusing.run([fleet, case.task], case.text, allocation=n) for n in range(1, counts.allocations + 1)}, ample)
+    assert counts.greatest <= len(case.text) + (SLACK if case.task == "inspect" else TABLES)
 
 
 def test_the_swept_script_has_each_step():
-    asked = {line.split(b" ")[0].decode() for line in example("gossip").split(b"go\n")[1].splitlines()}
+    asked = {line.split(b" ")[0].decode() for line in TEXT_OF["example gossip"].text.split(b"go\n")[1].splitlines()}
     assert set(oracle.STEPS) <= asked
 
 
-def test_each_allocation_of_a_drill_refused(fleet, refusing):
-    counts, ample = refusing.counted([fleet, *DRILL])
-    judge({n: refusing.run([fleet, *DRILL], allocation=n) for n in range(1, counts.allocations + 1)}, ample)
-
-
-def test_each_start_of_a_drill_refused(fleet, refusing):
+@pytest.mark.parametrize("setting", ["FAIL_ALLOC", "FAIL_START"])
+def test_each_refusal_of_a_drill(fleet, refusing, setting):
     """No worker waits for one that is not there."""
-    counts, ample = refusing.counted([fleet, *DRILL])
-    judge({n: refusing.run([fleet, *DRILL], start=n) for n in range(1, counts.starts + 1)}, ample)
+    sweep(refusing, [fleet, *DRILL], setting=setting)
 
 
-def test_each_start_of_an_inspection_refused(fleet, refusing):
-    """A capture that several threads describe is described all the same."""
-    text = example("capture") * 1000
-    counts, ample = refusing.counted([fleet, "inspect"], text)
-    assert ample == Answer(0, inspected(text))
-    assert all(refusing.run([fleet, "inspect"], text, start=n) == ample for n in range(1, counts.starts + 1))
+@pytest.mark.parametrize("task", ["inspect", "check", "run"])
+def test_each_start_of_a_long_text_refused(fleet, refusing, task):
+    """What several threads describe or read is described or read all the same without any one of them."""
+    capture, facts = TEXT_OF["example capture"], b"".join(LONG_FACTS)
+    text, output = {
+        "inspect": (capture.text * 1000, capture.output * 1000),
+        "check": (facts, b"sound 1050\n"),
+        "run": (facts + b"go\nnodes 1\nfront 1\n", b"front 0 0 0\n"),
+    }[task]
+    counts, ample = refusing.counted([fleet, task], text)
+    assert ample == Answer(0, output)
+    assert all(refusing.run([fleet, task], text, FAIL_START=n) == ample for n in range(1, counts.starts + 1))
 
 
 ALL, NO_BOOK, REST = "ff" * 4, "0000 000000000000 00000000", "00" * 40
@@ -116,20 +110,16 @@ def test_a_long_line_reserves_no_memory(fleet_node, refusing):
     assert counts.greatest <= len(text)
 
 
-@pytest.mark.parametrize("text", [frame(b"front") + LIMIT.to_bytes(4, "big"), framed([b"take " + bytes(200_000_000), b"front"])], ids=["a length that lies", "a frame that is too long"])
+LONG_FRAMES = {
+    "a length that lies": frame(b"front") + LIMIT.to_bytes(4, "big"),
+    "a frame that is too long": framed([b"take " + bytes(200_000_000), b"front"]),
+}
+
+
+@pytest.mark.parametrize("text", LONG_FRAMES.values(), ids=LONG_FRAMES)
 def test_a_long_frame_reserves_no_memory(fleet_node, refusing, text):
     counts, _ = refusing.counted([fleet_node, "--frames"], text)
     assert counts.greatest <= 100_000
-
-
-def node_rows():
-    """The request lines of the crate's own run, and their answers."""
-    folder = ROOT / "crates/fleet_node"
-    return list(zip((folder / "stdin").read_bytes().decode().split("\n")[:-1], (folder / "stdout").read_text().splitlines()))
-
-
-def framed_rows():
-    return [(line, told.replace("bad line", "bad request")) for line, told in node_rows() if has_frame(line)]
 
 
 def lacking(node, rows):
@@ -158,9 +148,10 @@ def sweep_node(refusing, command, kind, rows, most=MOST):
     assert None in told and any(told), f"{len(told)} runs: {told.count(None)} ended at once"
 
 
-@pytest.mark.parametrize("kind, rows", [(Node, node_rows), (FramedNode, framed_rows)], ids=["lines", "frames"])
+@pytest.mark.parametrize("kind, rows", [(Node, OWN), (FramedNode, framed_pairs(OWN))], ids=["lines", "frames"])
 def test_each_allocation_of_a_node_refused(fleet_node, refusing, kind, rows):
-    sweep_node(refusing, fleet_node, kind, rows())
+    """The requests are those of the crate's own run."""
+    sweep_node(refusing, fleet_node, kind, rows)
 
 
 def lacking_in_many(program, settings, requests):
@@ -181,25 +172,19 @@ def lacking_in_many(program, settings, requests):
 
 
 def test_each_allocation_refused_in_many(fleet_node, refusing):
-    requests = [*(as_frame(line) for line, _ in framed_rows()), b"front"]
+    requests = [*(as_frame(line) for line, _ in framed_pairs(OWN)), b"front"]
     told = {lacking_in_many(fleet_node, it, requests) for it in refusing.spread([fleet_node, "--frames"], many(requests), MOST)}
     assert {None, "all", 1} <= told <= {None, "all", 0, 1}
 
 
 # Rows of calls
 
-END = b"== end of "
+SECTION = re.compile(rb".*?(^== end of ([^\n]*)\n)", re.S | re.M)
 
 
 def section_alone(text, section):
     """A text of rows in which one section alone has rows: the others have the lines that end them."""
-    kept, held = [], []
-    for line in text.splitlines(keepends=True):
-        held.append(line)
-        if line.startswith(END):
-            kept += held if line == END + section + b"\n" else held[-1:]
-            held = []
-    return b"".join(kept)
+    return b"".join(it[0] if it[2] == section else it[1] for it in SECTION.finditer(text))
 
 
 @pytest.mark.parametrize("section", [b"messages", b"nodes and boards"], ids=lambda it: it.decode())

@@ -26,7 +26,7 @@ def sweep(refusing, command, text, rng, stays_out):
         print(f"of {counts.allocations} requests these are refused: {numbers}")
 
     def told(number):
-        seen = refusing.run(command, text, allocation=number, last=FOR_EVER if stays_out else 0)
+        seen = refusing.run(command, text, FAIL_ALLOC=number, FAIL_ALLOC_LAST=FOR_EVER if stays_out else 0)
         return None if seen.status is None else words_of(seen)
 
     with ThreadPoolExecutor(AT_ONCE) as pool:
@@ -114,7 +114,7 @@ def test_a_round_that_lacks_memory_is_listed(thread_cases, refusing, rng):
     assert rounds_of(ample[1]) == ([], [], True, 8)
     assert None not in answers.values()
     ended = {number: told for number, (status, told, _) in answers.items() if status == 0}
-    assert 4 * len(ended) > len(answers)
+    assert 8 * len(ended) > len(answers)
     listed = set()
     for number, told in ended.items():
         asked, folded, has_asked, pages = rounds_of(told)

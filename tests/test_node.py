@@ -1,35 +1,24 @@
 """The program `fleet-node`: request lines and frames, each answered before the next one is sent, and random scripts of nodes."""
 
 import contextlib
-import subprocess
+import os
+import random
+import shutil
 import sys
+from string import hexdigits
 
 import pytest
 
-from harness import CASES, ROOT, Answer, answer, rounds, scripts, shrunk_script
-from harness.nodes import DIGITS, FramedNode, Node, Play, Repeater, as_frame, as_line, frames_of, has_frame, headed, many
+from harness import CASES, ROOT, Answer, answer, expect_agreement, ran, rounds, scripts, shrunk_script
+from harness.nodes import EXAMPLE, LIMIT, OWN, FramedNode, Node, Play, as_frame, as_line, framed_pairs, frames_of, headed, is_repeated, many
 from model import oracle
 from model.facts import fact_of
 from model.wire import fact_bytes, frame, framed
 
 FRAMES = ["--frames"]
-LIMIT = 67_108_864  # the most bytes of a frame
 NODES = 8  # the most that a script of gossip has
 FACT = fact_bytes(fact_of("rec 0 3 0 7 0 0:6161"))
 FORMS = pytest.mark.parametrize("form", [Node, FramedNode], ids=["lines", "frames"])
-
-
-def pairs_of(lines, answers):
-    return list(zip(lines.read_bytes().decode().split("\n")[:-1], answers.read_text().splitlines()))
-
-
-EXAMPLE = pairs_of(ROOT / "examples/node.requests", ROOT / "examples/node.answers")
-OWN = pairs_of(ROOT / "crates/fleet_node/stdin", ROOT / "crates/fleet_node/stdout")
-
-
-def framed_pairs(pairs):
-    """Those that a frame can ask, with the answers that frames have."""
-    return [(line, told.replace("bad line", "bad request")) for line, told in pairs if has_frame(line)]
 
 
 def answers_to(program, text):
@@ -70,39 +59,38 @@ def test_many_in_a_frame_are_answered_as_lines(fleet_node):
 MESSAGES = {"answer": ("summary",), "add": ("piece",), "absorb": ("summary", "delta")}
 
 
+def in_bytes(words):
+    """A word and a fact, which is replaced by its bytes."""
+    word, _, fact = words.partition(" ")
+    return f"{word} {fact_bytes(fact_of(fact)).hex()}"
+
+
 def request_of(row, came):
     """The request line of a row: its fact as bytes, or the messages that it names by their numbers."""
     head, own = headed(row)
-    if head:
-        return head + request_of(own, came)
-    word, _, rest = row.partition(" ")
+    word, _, rest = own.partition(" ")
     if word == "take":
-        return f"take {fact_bytes(fact_of(rest)).hex()}"
+        return head + in_bytes(own)
     if word in MESSAGES:
         kinds, numbers = MESSAGES[word], rest.split(" ")
         messages = [came[kind][int(number) - 1] for kind, number in zip(kinds, numbers)]
-        return " ".join([word, *messages, *numbers[len(kinds) :]])
+        return head + " ".join([word, *messages, *numbers[len(kinds) :]])
     return row
 
 
 def row_of(told, came):
     """An answer as a row has it: a message is kept, and named by its number, and a record's bytes are its words."""
     head, own = headed(told)
-    if head:
-        return head + row_of(own, came)
-    word, _, rest = told.partition(" ")
-    if word not in came or not set(rest) <= DIGITS:
+    word, _, rest = own.partition(" ")
+    if word not in came or not set(rest) <= set(hexdigits):
         return told.replace("bad request", "bad line")
     came[word].append(rest)
-    return f"{word} {len(came[word])}"
+    return f"{head}{word} {len(came[word])}"
 
 
 def wanted_of(row):
     head, own = headed(row)
-    if head:
-        return head + wanted_of(own)
-    word, _, rest = row.partition(" ")
-    return f"record {fact_bytes(fact_of(rest)).hex()}" if word == "record" else row
+    return head + in_bytes(own) if own.startswith("record ") else row
 
 
 @FORMS
@@ -227,57 +215,52 @@ def test_node_help(fleet_node, word):
     assert word != "--help" or output == (ROOT / "docs/help/fleet_node.txt").read_bytes()
 
 
+def test_node_name_of_any_bytes(fleet_node, tmp_path):
+    """In a folder whose name is not UTF-8 the program does what it does anywhere."""
+    folder = os.fsencode(tmp_path) + b"/caf\xe9"
+    os.mkdir(folder)
+    called = shutil.copy2(os.fsencode(fleet_node), folder + b"/\xff\xfe")
+    assert answer(called, [], b"front\n") == Answer(0, b"front 0 0 0\n")
+    assert answer(called, FRAMES, frame(b"front")) == Answer(0, frame(b"front 0 0 0"))
+    assert answer(called, [b"\xff"]) == Answer(2, b"", b"fleet-node: bad command line\n")
+    for word in ("--help", "--version"):
+        assert answer(called, [word]) == answer(fleet_node, [word])
+
+
 # Random scripts
 
 
-def play(program, text, choices):
-    """What differs from the oracle, or between lines, frames, and many in a frame; the generators are of one seed."""
+def play(program, text, key):
+    """What differs from the oracle, or between lines, frames, and many in a frame; the key fixes the choices. Nothing where the text is no
+    script of a sound log."""
+    if oracle.run(text)[1] != 0:
+        return ""
     told = []
     with contextlib.ExitStack() as stack:
-        for form, choose in zip((Node, FramedNode), choices):
-            nodes, repeaters = [form(program) for _ in range(NODES)], [Repeater(program) for _ in range(NODES * (form is FramedNode))]
-            for node in (*nodes, *repeaters):
+        for form in (Node, FramedNode):
+            nodes = [form(program) for _ in range(NODES)]
+            for node in nodes:
                 stack.callback(node.process.kill)
-            run = Play(nodes, text)
+            run, choose = Play(nodes, text), random.Random(key)
             try:
                 differs = run.difference(choose)
             except OSError as fault:
                 return f"by {form.__name__}: {fault}"
-            if not differs and not all(it.repeats(node, choose) for it, node in zip(repeaters, nodes)):
+            if not differs and form is FramedNode and not all(is_repeated(program, node, choose) for node in nodes):
                 differs = "many in a frame are answered otherwise"
-            if differs or {node.close() for node in (*nodes, *repeaters)} != {(0, b"")}:
+            if differs or {node.close() for node in nodes} != {(0, b"")}:
                 return f"by {form.__name__}: {differs or 'a node does not end well'}"
             told.append((run.answers, run.messages))
     return "" if told[0] == told[1] else "lines and frames are answered otherwise"
 
 
-def is_played(text):
-    try:
-        return oracle.run(text)[1] == 0
-    except AssertionError:
-        return False
-
-
 def test_random_scripts_of_nodes(fleet_node, seed, seconds):
     """Each node a process: now and then one is put together again from its snapshot, and no answer shows it."""
-    count = 0
     for choose in rounds(seed, "nodes", seconds):
-        text, state = scripts.input_of_gossip(choose)[1], choose.getstate()
-
-        def differs(text):
-            choices = [type(choose)(), type(choose)()]
-            for it in choices:
-                it.setstate(state)
-            return play(fleet_node, text, choices)
-
-        if seen := differs(text):
-            least = shrunk_script(text, lambda it: is_played(it) and bool(differs(it)))
-            pytest.fail(f"seed {seed}, round {count}: {differs(least) or seen}; the least script:\n{least}")
-        count += 1
-    print(f"{count} scripts agree")
+        text, key = scripts.input_of_gossip(choose)[1], choose.random()
+        expect_agreement(text, lambda it: play(fleet_node, it, key), shrunk_script)
 
 
 def test_random_cluster(fleet_node, seed):
-    words = [sys.executable, ROOT / "examples/cluster.py", "--program", fleet_node, "--seed", str(seed)]
-    done = subprocess.run(words, capture_output=True, timeout=120)
-    assert (done.returncode, done.stderr) == (0, b""), done.stdout.decode()
+    output, said = ran([sys.executable, ROOT / "examples/cluster.py", "--program", fleet_node, "--seed", str(seed)])
+    assert said == "", output

@@ -74,16 +74,6 @@ MOST_WORDS_OF_ANOTHER_PAGE = 1500
 MOST_WORDS_TOGETHER = 40000  # of README.md and docs, with their blocks of code, but for the pages of volumes
 OF_VOLUMES = ("docs/OPERATING.md", "docs/VOLUMES.md")
 
-# Crates whose docstrings use such words. The list only gets shorter.
-NOT_YET = (
-    "fleet_core",
-    "fleet_drill",
-    "front_board",
-    "hot_log",
-    "node_stream",
-    "snapshot",
-)
-
 
 def name_of(path):
     return str(path.relative_to(ROOT))
@@ -140,7 +130,7 @@ def test_pages_avoid_words(page):
 def test_docstrings_avoid_words(crate):
     files = sorted((ROOT / "crates" / crate / "src").glob("**/*.rt"))
     found = [f"{name_of(path)}, {word}" for path in files for word in avoided(docstrings(path.read_text()))]
-    assert found == [] or crate in NOT_YET
+    assert found == []
 
 
 @pytest.mark.parametrize("page", PAGES, ids=name_of)

@@ -28,20 +28,17 @@ def clauses_of_code(text):
     found, owner, current = {}, None, None
     for line in text.splitlines():
         head = line.strip()
-        typed = OWNER.match(line) or TYPE.match(line)
-        if typed:
+        if typed := OWNER.match(line) or TYPE.match(line):
             owner = current = typed[1]
             found.setdefault(owner, set())
         elif line.startswith("}"):
             owner = current = None
-        named = FUNCTION.match(head)
-        if named:
+        if named := FUNCTION.match(head):
             current = f"{owner}::{named[1]}" if owner else named[1]
             found[current] = set()
-        clause, ghost = CLAUSE.match(head), GHOST.match(head)
-        if clause and current:
+        if (clause := CLAUSE.match(head)) and current:
             found[current].add(" ".join(filter(None, clause.groups())).removeprefix("ensures "))
-        elif ghost and owner:
+        elif (ghost := GHOST.match(head)) and owner:
             found[owner].add(ghost[1])
     return found
 

@@ -4,12 +4,13 @@ The reference model is the plain code that is proved to compute the definitions;
 what the oracle says, and of a sound log what a node of the fleet answers that takes the same facts.
 """
 
+import random
 import re
 from typing import NamedTuple
 
 import pytest
 
-from harness import answer, rounds, scripts, shrunk
+from harness import answer, expect_agreement, rounds, scripts, shrunk, text_of
 from model import rules
 from model.facts import Cut, Record, has_shape, of_kind
 
@@ -17,10 +18,6 @@ from model.facts import Cut, Record, has_shape, of_kind
 class Query(NamedTuple):
     row: str  # of call_cases
     wanted: str
-
-
-def flag(it):
-    return f"Flag({str(it).lower()})"
 
 
 def fault_queries(roster, log):
@@ -45,10 +42,8 @@ def standing_queries(log):
     for record in of_kind(Record, log):
         for view in range(4):
             waits, alive = record.epoch > view, rules.is_alive(cuts, view, record)
-            key = f"{view} {record.epoch} {record.number}"
-            yield Query(f"model is_alive {key}", flag(alive))
-            yield Query(f"model waits {key}", flag(waits))
-            yield Query(f"model is_dead {key}", flag(not waits and not alive))
+            for word, holds in (("is_alive", alive), ("waits", waits), ("is_dead", not waits and not alive)):
+                yield Query(f"model {word} {view} {record.epoch} {record.number}", f"Flag({str(holds).lower()})")
 
 
 def page_queries(roster, log):
@@ -63,11 +58,11 @@ def page_queries(roster, log):
 def compare_queries(choose, roster, log):
     """How two parts of the log compare, both ways, and whether they mean the same."""
     for _ in range(4 if log else 0):
-        parts = [choose.sample(range(len(log)), choose.randrange(1, len(log) + 1)) for _ in range(2)]
-        one, two = (rules.Meaning(roster, [log[place] for place in part]) for part in parts)
-        words = " ".join(",".join(str(place + 1) for place in part) for part in parts)
+        parts = [choose.sample(range(1, len(log) + 1), choose.randrange(1, len(log) + 1)) for _ in range(2)]
+        one, two = (rules.Meaning(roster, [log[place - 1] for place in part]) for part in parts)
         answers = [rules.is_at_most(two, one), rules.is_at_most(one, two), one.parts() == two.parts()]
-        yield Query(f"model compare {roster} {words}", f"Compared({', '.join(f'Ok({str(it).lower()})' for it in answers)})")
+        row = " ".join(["model compare", str(roster), *(",".join(map(str, part)) for part in parts)])
+        yield Query(row, f"Compared({', '.join(f'Ok({str(it).lower()})' for it in answers)})")
 
 
 def queries(choose, roster, log):
@@ -82,15 +77,11 @@ def queries(choose, roster, log):
 def answers_of(call_cases, log, asked):
     """What the program prints for each query, after the facts are stored."""
     rows = ["clear", *(fact.line() for fact in log), *(query.row for query in asked)]
-    done = answer(call_cases, [], "".join(f"{row}\n" for row in rows).encode())
+    done = answer(call_cases, [], text_of(rows).encode())
     assert done.status == 0, done
     lines = done.output.decode().splitlines()
     assert len(lines) == len(rows)
     return [line.removeprefix(f"{row}: ") for line, row in zip(lines, rows)][len(rows) - len(asked) :]
-
-
-def differences(call_cases, log, asked):
-    return [(query, seen) for query, seen in zip(asked, answers_of(call_cases, log, asked)) if seen != query.wanted]
 
 
 def random_log(choose):
@@ -119,26 +110,19 @@ def sound_log(choose):
 
 @pytest.mark.parametrize("kind", ["any", "sound"])
 def test_reference_model(call_cases, seed, seconds, kind):
-    count = 0
     for choose in rounds(seed, f"reference {kind}", seconds):
-        roster, log = (random_log if kind == "any" else sound_log)(choose)
-        state = choose.getstate()
+        roster, made = (random_log if kind == "any" else sound_log)(choose)
+        key = choose.random()
 
-        def differ(log):
-            choose.setstate(state)
-            return differences(call_cases, log, [*queries(choose, roster, log)])
+        def difference(log):
+            asked = [*queries(random.Random(key), roster, log)]
+            return [(query, seen) for query, seen in zip(asked, answers_of(call_cases, log, asked)) if seen != query.wanted]
 
-        if differ(log):
-            least = shrunk(log, differ)
-            text = "".join(f"{fact.line()}\n" for fact in least)
-            pytest.fail(f"seed {seed}, round {count}; roster {roster}; the least log that differs:\n{text}{differ(least)}")
-        count += 1
-    print(f"{count} logs agree")
+        expect_agreement(made, difference, shrunk)
 
 
 def test_reference_model_and_fleet(call_cases, fleet, seed, seconds):
     """A node that takes the facts of a sound log, in any order, has the model's front, and reads its pages."""
-    count = 0
     for choose in rounds(seed, "reference fleet", seconds):
         roster, log = sound_log(choose)
         taken = choose.sample(range(len(log)), len(log))
@@ -148,9 +132,9 @@ def test_reference_model_and_fleet(call_cases, fleet, seed, seconds):
         reads = [(page, point) for page in sorted({r.page for r in it.linked}) for point in points]
         steps = [line for place in taken for line in (f"take 1 {place + 1}", "front 1")]
         steps += [f"read 1 {page} {point} 0 2" for page, point in reads]
-        text = [f"roster {roster}"] * (roster > 1) + [fact.line() for fact in log] + ["go", "nodes 1", *steps]
-        seen = answer(fleet, ["run"], "".join(f"{line}\n" for line in text).encode())
-        assert seen.status == 0, (seed, count, text, seen)
+        text = text_of([*[f"roster {roster}"] * (roster > 1), *(fact.line() for fact in log), "go", "nodes 1", *steps])
+        seen = answer(fleet, ["run"], text.encode())
+        assert seen.status == 0, (text, seen)
         answers = seen.output.decode().splitlines()
         asked = [Query(f"model front {roster} {n + 1}", "") for n in range(len(part))]
         asked += [Query(f"model page {it.epoch} {page} {point}", "") for page, point in reads]
@@ -158,6 +142,4 @@ def test_reference_model_and_fleet(call_cases, fleet, seed, seconds):
         fronts = [re.fullmatch(r"Front\((\d+), (\d+), .*, (\d+), \d+\)", line).groups() for line in model[: len(part)]]
         pages = [bytes(int(byte) for byte in re.findall(r"\d+", line)).hex() for line in model[len(part) :]]
         wanted = ["front " + " ".join(front) for front in fronts] + [f"page {page}" for page in pages]
-        assert [line for line in answers if line.startswith(("front", "page"))] == wanted, (seed, count, text)
-        count += 1
-    print(f"{count} logs agree")
+        assert [line for line in answers if line.startswith(("front", "page"))] == wanted, text

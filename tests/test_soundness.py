@@ -1,10 +1,8 @@
 """`yieldcleat-soundness`: whether the facts in the request logs of stores are a sound log."""
 
-import subprocess
-
 import pytest
 
-from harness import SECONDS, rounds
+from harness import answer, rounds
 from harness.scripts import random_log, spoil
 from harness.store_files import log
 from model.facts import Advance, Cut, Record, has_shape
@@ -16,8 +14,7 @@ pytestmark = pytest.mark.xdist_group("store")
 
 def place(fact):
     """Where a fact is in the log that the program makes."""
-    kind = (Cut, Record, Advance).index(type(fact))
-    return fact.epoch, kind, fact.number if kind == 1 else 0 if kind == 0 else fact.point
+    return fact.epoch, (Cut, Record, Advance).index(type(fact)), getattr(fact, "number", getattr(fact, "point", 0))
 
 
 def written(folder, roster, facts, choose, generation=0):
@@ -32,8 +29,7 @@ def written(folder, roster, facts, choose, generation=0):
 
 
 def ask(program, fleet, *words):
-    tool = program.with_name("yieldcleat-soundness")
-    return subprocess.run([tool, "--fleet", fleet, *words], capture_output=True, text=True, timeout=SECONDS, check=False)
+    return answer(program.with_name("yieldcleat-soundness"), ["--fleet", fleet, *words])
 
 
 def dealt(folder, roster, facts, choose):
@@ -56,16 +52,16 @@ def test_logs_of_three_stores(store_program, fleet, tmp_path, seed, seconds):
         folder.mkdir()
         done = ask(store_program, fleet, *dealt(folder, roster, facts, choose))
         fault = first_fault(roster, facts)
-        expected = (3, f"unsound {fault[0]} law {fault[1]}\n") if fault else (0, f"sound {len(facts)}\n")
-        assert (done.returncode, done.stdout) == expected, f"seed {seed}, round {index}: {done.stderr}"
+        expected = (3, b"unsound %d law %d\n" % fault) if fault else (0, b"sound %d\n" % len(facts))
+        assert done[:2] == expected, f"seed {seed}, round {index}: {done.said}"
 
 
 def test_facts_before_a_snapshot_are_missed(store_program, fleet, tmp_path, rng):
     folder = written(tmp_path / "one", 1, [Advance(0, 1, 5)], rng, generation=3)
     (folder / "snapshot.3").write_bytes(b"")
     done = ask(store_program, fleet, folder)
-    assert (done.returncode, done.stdout) == (0, "sound 1\n") and "begins after a snapshot" in done.stderr
-    assert ask(store_program, fleet, "--print", folder).stdout == "min 0 5\n"
+    assert done[:2] == (0, b"sound 1\n") and b"begins after a snapshot" in done.said
+    assert ask(store_program, fleet, "--print", folder).output == b"min 0 5\n"
 
 
 def test_what_is_no_log(store_program, fleet, tmp_path, rng):
@@ -76,13 +72,13 @@ def test_what_is_no_log(store_program, fleet, tmp_path, rng):
     text[60] ^= 1
     (damaged / "log.0").write_bytes(text)
     for words, status, why in [
-        ((whole, other), 4, "the logs are of 1 and of 2 readers"),
-        ((damaged,), 4, "is damaged at byte"),
-        ((tmp_path / "nowhere",), 4, "is missing"),
-        ((), 2, "a folder is needed"),
-        (("--no",), 2, "there is no option"),
+        ((whole, other), 4, b"the logs are of 1 and of 2 readers"),
+        ((damaged,), 4, b"is damaged at byte"),
+        ((tmp_path / "nowhere",), 4, b"is missing"),
+        ((), 2, b"a folder is needed"),
+        (("--no",), 2, b"there is no option"),
     ]:
         done = ask(store_program, fleet, *words)
-        assert (done.returncode, done.stdout) == (status, "") and why in done.stderr, done
+        assert done[:2] == (status, b"") and why in done.said, done
     assert not (tmp_path / "nowhere").exists()
-    assert ask(store_program, tmp_path / "no program", whole).returncode == 4
+    assert ask(store_program, tmp_path / "no program", whole).status == 4

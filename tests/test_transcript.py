@@ -1,5 +1,6 @@
 """The transcript of a mutant in the documents: the change that they name, made in a copy, is refused in the words that they print."""
 
+import itertools
 import re
 import shutil
 import subprocess
@@ -17,11 +18,9 @@ SECONDS = 1800  # until the check counts as not ended; a minute or two where the
 
 def printed_below(lines):
     """The lines that a command is shown to print: those that are indented as it is, up to the next command."""
-    indent = len(lines[0]) - len(lines[0].lstrip())
-    for line in lines[1:]:
-        if not line[indent:].strip() or line[:indent].strip() or line[indent:].startswith("$ "):
-            return
-        yield line[indent:]
+    indent = lines[0][: -len(lines[0].lstrip())]
+    printed = itertools.takewhile(lambda line: line.strip() and line.startswith(indent) and not line.startswith(f"{indent}$ "), lines[1:])
+    return [line.removeprefix(indent) for line in printed]
 
 
 def transcripts():
@@ -31,7 +30,7 @@ def transcripts():
         for place, line in enumerate(lines):
             if line.strip().startswith(COMMAND):
                 changes = CHANGED.findall("\n".join(lines[:place]))
-                yield path.name, changes[-1] if changes else None, line.strip().removeprefix("$ "), [*printed_below(lines[place:])]
+                yield path.name, changes[-1] if changes else None, line.strip().removeprefix("$ "), printed_below(lines[place:])
 
 
 def test_the_documents_have_one_transcript():

@@ -5,23 +5,22 @@ may return for no reason. Where no thread can go on and one has not ended, a wak
 that the form is right, and not that the code has it. Two simpler forms that lose a wake-up stand beside it, so that the model can fail.
 """
 
-from dataclasses import dataclass, replace
+from typing import NamedTuple
 
 import pytest
 
 TAKE, READ, ASK, LOOK, PARK, ASLEEP, HELD, GIVE, TEST, SWAP, RING, WAKE, ENDED = range(13)
+FIRST = (0, 0, 0)  # whether the state is taken, whether somebody asks to be woken, and how often it was rung
 
 
-@dataclass(frozen=True, order=True)
-class Taker:
+class Taker(NamedTuple):
     at: int
     left: int
     heard: int = 0
     slept: bool = False
 
 
-@dataclass(frozen=True)
-class Form:
+class Form(NamedTuple):
     """Which of two parts a form of the lock has."""
 
     asks_for_others: bool = True
@@ -33,61 +32,60 @@ def next_turn(taker):
 
 
 def after(form, state, taker):
-    """Each outcome of the taker's next step, as (word, asks, rings, taker); a wake is none of these."""
-    word, asks, rings = state
-    if taker.at == TAKE:
-        taken = (1, asks, rings, replace(taker, at=HELD))
-        return [(*state, replace(taker, at=READ))] if word else [taken]
-    if taker.at == READ:
-        return [(*state, replace(taker, at=ASK, heard=rings))]
-    if taker.at == ASK:
-        return [(word, 1, rings, replace(taker, at=LOOK if form.looks_again else PARK))]
-    if taker.at == LOOK:
-        return [(*state, replace(taker, at=PARK if word else TAKE))]
-    if taker.at == PARK:
-        awake, asleep = (*state, replace(taker, at=TAKE, slept=True)), (*state, replace(taker, at=ASLEEP, slept=True))
-        return [awake, asleep] if rings == taker.heard else [awake]
-    if taker.at == HELD:
-        return [(word, 1 if taker.slept and form.asks_for_others else asks, rings, replace(taker, at=GIVE, slept=False))]
-    if taker.at == GIVE:
-        return [(0, asks, rings, replace(taker, at=TEST))]
-    if taker.at == TEST:
-        return [(*state, replace(taker, at=SWAP) if asks else next_turn(taker))]
-    if taker.at == SWAP:
-        return [(word, 0, rings, replace(taker, at=RING) if asks else next_turn(taker))]
-    return [(word, asks, rings + 1, replace(taker, at=WAKE))] if taker.at == RING else []
+    """Each outcome of the taker's next step, a state and a taker; a wake is none of these."""
+    taken, asks, rings = state
+    at = taker.at
+    if at == TAKE:
+        yield (state, taker._replace(at=READ)) if taken else ((1, asks, rings), taker._replace(at=HELD))
+    elif at == READ:
+        yield state, taker._replace(at=ASK, heard=rings)
+    elif at == ASK:
+        yield (taken, 1, rings), taker._replace(at=LOOK if form.looks_again else PARK)
+    elif at == LOOK:
+        yield state, taker._replace(at=PARK if taken else TAKE)
+    elif at == PARK:
+        yield state, taker._replace(at=TAKE, slept=True)
+        if rings == taker.heard:
+            yield state, taker._replace(at=ASLEEP, slept=True)
+    elif at == HELD:
+        yield (taken, 1 if taker.slept and form.asks_for_others else asks, rings), taker._replace(at=GIVE, slept=False)
+    elif at == GIVE:
+        yield (0, asks, rings), taker._replace(at=TEST)
+    elif at == TEST:
+        yield state, taker._replace(at=SWAP) if asks else next_turn(taker)
+    elif at == SWAP:
+        yield (taken, 0, rings), taker._replace(at=RING) if asks else next_turn(taker)
+    elif at == RING:
+        yield (taken, asks, rings + 1), taker._replace(at=WAKE)
 
 
-def woken(takers, at):
-    """Each way in which the waker's step ends: it wakes one of those that sleep, where one sleeps."""
-    rest = [next_turn(it) if place == at else it for place, it in enumerate(takers)]
-    asleep = [place for place, it in enumerate(rest) if it.at == ASLEEP]
-    wakes = [[replace(it, at=TAKE) if place == one else it for place, it in enumerate(rest)] for one in asleep]
-    return wakes or [rest]
+def woken(takers):
+    """Each way in which a wake ends: it wakes one of those that sleep, where one sleeps."""
+    wakes = [(*takers[:at], it._replace(at=TAKE), *takers[at + 1 :]) for at, it in enumerate(takers) if it.at == ASLEEP]
+    return wakes or [takers]
 
 
 def successors(form, state, takers):
     for at, taker in enumerate(takers):
+        before, later = takers[:at], takers[at + 1 :]
         if taker.at == WAKE:
-            yield from ((state, ones) for ones in woken(takers, at))
-        for *next_state, changed in after(form, state, taker):
-            yield tuple(next_state), [changed if place == at else it for place, it in enumerate(takers)]
+            yield from ((state, ones) for ones in woken((*before, next_turn(taker), *later)))
+        yield from ((next_state, (*before, changed, *later)) for next_state, changed in after(form, state, taker))
 
 
 def fault(form, threads, turns):
     """What some schedule ends in that it may not, or None."""
-    first = (0, 0, 0), tuple([Taker(TAKE, turns)] * threads)
+    first = FIRST, (Taker(TAKE, turns),) * threads
     seen, waiting = {first}, [first]
     while waiting:
         state, takers = waiting.pop()
         if sum(it.at in (HELD, GIVE) for it in takers) > 1:
             return "two have the state"
-        found = [(state, tuple(sorted(ones))) for state, ones in successors(form, state, takers)]
+        found = {(state, tuple(sorted(ones))) for state, ones in successors(form, state, takers)}
         if not found and any(it.at != ENDED for it in takers):
             return "one sleeps for good"
-        new = set(found) - seen
-        seen |= new
-        waiting += new
+        waiting += found - seen
+        seen |= found
     return None
 
 

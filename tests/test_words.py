@@ -45,10 +45,10 @@ def texts(lines):
     return found
 
 
-def declarations(root, folder):
+def declarations(folder):
     """The records, data types and signatures in this folder of each crate. What a module has stands two columns further in than it."""
-    for path in sorted(root.glob(f"crates/*/{folder}/**/*.antt")):
-        name = path.relative_to(root)
+    for path in sorted(ROOT.glob(f"crates/*/{folder}/**/*.antt")):
+        name = path.relative_to(ROOT)
         modules = []
         for number, indent, text in texts(path.read_text().splitlines()):
             del modules[indent // 2 :]
@@ -68,11 +68,8 @@ def statement(text):
     text = BETWEEN_BINDERS.sub(" → ", text)
     bound = " ".join(found[1] or found[2] for found in BOUND.finditer(text)).split()
     numbers = {name: f"#{number}" for number, name in enumerate(dict.fromkeys(bound))}
-    tokens = []
-    for found in TOKEN.finditer(text):
-        is_field = text.endswith(".", 0, found.start())
-        tokens.append(found[0] if is_field else numbers.get(found[0], found[0]))
-    return tuple(tokens)
+    is_field = {found.end() for found in re.finditer(r"\.", text)}
+    return tuple(found[0] if found.start() in is_field else numbers.get(found[0], found[0]) for found in TOKEN.finditer(text))
 
 
 def parts(tokens):
@@ -100,9 +97,9 @@ def is_lemma(tokens):
     return arguments >= LEAST_ARGUMENTS and says and "goal" not in tokens
 
 
-def section(root):
+def section():
     """The crates of each word that the page lists in its table, and what its section names outside of that."""
-    text = (root / PAGE).read_text().partition(SECTION)[2].partition("\n## ")[0]
+    text = (ROOT / PAGE).read_text().partition(SECTION)[2].partition("\n## ")[0]
     listed, named = {}, set()
     for line in text.splitlines():
         if line.startswith("|"):
@@ -114,20 +111,19 @@ def section(root):
     return listed, named
 
 
-def faults_of_words(root, listed):
+def faults_of_words(listed):
     crates = {}
-    for it in declarations(root, "specs"):
+    for it in declarations("specs"):
         crates.setdefault(it.name.strip("◌"), []).append(it.crate)
     for word in sorted({*crates, *listed}):
         defined, told = sorted(crates.get(word, [])), sorted(listed.get(word, []))
-        is_told = defined == told if len(defined) > 1 else word not in listed
-        if not is_told:
+        if told != defined if len(defined) > 1 else word in listed:
             yield f"`{word}` is defined in {', '.join(defined) or 'none'}, and {PAGE} lists it for {', '.join(told) or 'none'}"
 
 
-def faults_of_lemmas(root, named):
+def faults_of_lemmas(named):
     lemmas = {}
-    for it in declarations(root, "proofs"):
+    for it in declarations("proofs"):
         tokens = statement(it.type)
         if it.kinds <= {"pub"} and it.name not in named and is_lemma(tokens):
             lemmas.setdefault(tokens, []).append(it)
@@ -137,8 +133,8 @@ def faults_of_lemmas(root, named):
 
 
 def test_words_are_defined_once():
-    assert list(faults_of_words(ROOT, section(ROOT)[0])) == []
+    assert list(faults_of_words(section()[0])) == []
 
 
 def test_lemmas_are_stated_once():
-    assert list(faults_of_lemmas(ROOT, section(ROOT)[1])) == []
+    assert list(faults_of_lemmas(section()[1])) == []

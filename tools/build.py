@@ -10,6 +10,7 @@ Status 1 where a crate is not proved; its messages are printed.
 """
 
 import argparse
+import graphlib
 import os
 import re
 import signal
@@ -24,32 +25,25 @@ JOB_BYTES = 3 << 30  # what one check holds, at most but for a few
 NOISE = re.compile(r": proved$|modules loaded=|^checked |^so far: |^rt: chose ")  # lines of rt that name no fault
 
 
-class Failed(Exception):
-    """A crate that could not be built, with what rt printed."""
+def read_rows():
+    """The crates of crates.txt in their order, each with all that it depends on."""
+    rows = re.findall(r"^(\w+)[^#:\n]*:(.*)", (ROOT / "crates.txt").read_text(), re.M)
+    return {name: deps.split() for name, deps in rows}
 
 
 def read_crates():
-    """The crates of crates.txt, each with those of the repository that it depends on."""
-    rows = {}
-    for line in (ROOT / "crates.txt").read_text().splitlines():
-        if match := re.match(r"(\w+)[^:]*:(.*)", line):
-            rows[match[1]] = match[2].split()
+    """The same with the crates of the repository alone."""
+    rows = read_rows()
     return {name: [dep for dep in deps if dep in rows] for name, deps in rows.items()}
 
 
 def closure(crates, names):
     """The named crates and all below them, lower ones first."""
-    order = []
-
-    def visit(name):
-        if name not in order:
-            for dep in crates[name]:
-                visit(dep)
-            order.append(name)
-
-    for name in names:
-        visit(name)
-    return order
+    needed, new = {}, set(names)
+    while new:
+        needed |= {name: crates[name] for name in new}
+        new = {dep for name in new for dep in crates[name]} - set(needed)
+    return list(graphlib.TopologicalSorter(needed).static_order())
 
 
 def sources(name):
@@ -90,24 +84,21 @@ class Build:
         self.crates, self.names, self.jobs = crates, names, jobs
         self.order = closure(crates, names)
         pending = stale(crates, self.order)
-        self.left = [name for name in self.order if name in pending and not is_program(name)]
-        self.weights = {name: weigh(name) for name in self.left}
+        self.weights = {name: weigh(name) for name in self.order if name in pending and not is_program(name)}
+        self.left = sorted(self.weights, key=self.chains().get, reverse=True)
         self.done = set(self.order) - set(self.left)
         self.running, self.begun = {}, time.monotonic()
 
-    def start(self, name, command):
+    def start(self, name, *command):
         said = tempfile.TemporaryFile()
-        process = subprocess.Popen(
-            command, cwd=ROOT / "crates" / name, stdin=subprocess.DEVNULL, stdout=said, stderr=subprocess.STDOUT, start_new_session=True
-        )
-        self.running[name] = process, said
+        streams = {"stdin": subprocess.DEVNULL, "stdout": said, "stderr": subprocess.STDOUT}
+        self.running[name] = subprocess.Popen(command, cwd=ROOT / "crates" / name, start_new_session=True, **streams), said
 
     def start_ready(self):
-        behind = self.chains()
-        ready = sorted((name for name in self.left if self.done.issuperset(self.crates[name])), key=lambda name: -behind[name])
+        ready = [name for name in self.left if self.done.issuperset(self.crates[name])]
         for name in ready[: self.jobs - len(self.running)]:
             self.left.remove(name)
-            self.start(name, ["rt", "lib", "--jobs", "1" if len(ready) > 1 else str(self.jobs)])
+            self.start(name, "rt", "lib", "--jobs", "1" if len(ready) > 1 else str(self.jobs))
 
     def chains(self):
         """For each crate the weight of the longest chain of pending crates that begins with it."""
@@ -117,20 +108,22 @@ class Build:
             chain[name] = self.weights.get(name, 0) + max(above, default=0)
         return chain
 
-    def collect(self):
-        """Takes the crates that have ended."""
+    def collect(self, seconds):
+        """Takes the crates that have ended after some time. Exits with the messages of one that is not proved."""
+        time.sleep(seconds)
         for name in [name for name, (process, _) in self.running.items() if process.poll() is not None]:
             process, said = self.running.pop(name)
             if process.returncode != 0:
                 said.seek(0)
-                raise Failed(f"{name} was not built\n{''.join(line for line in said.read().decode(errors='replace').splitlines(True) if not NOISE.search(line))}")
+                lines = [line for line in said.read().decode(errors="replace").splitlines() if not NOISE.search(line)]
+                sys.exit("\n".join([f"{name} was not built", *lines]))
             self.done.add(name)
             self.report(f"{name} built")
+        self.report()
 
     def progress(self):
-        weight = sum(self.weights.values())
-        left = sum(self.weights[name] for name in [*self.left, *self.running] if name in self.weights)
-        seconds = time.monotonic() - self.begun
+        seconds, weight = time.monotonic() - self.begun, sum(self.weights.values())
+        left = sum(self.weights.get(name, 0) for name in [*self.left, *self.running])
         text = f"{len(self.done)} of {len(self.order)} crates, at work on {', '.join(self.running) or 'none'}"
         if weight and left < 0.9 * weight:
             text += f", about {seconds * left / (weight - left) / 60:.0f} minutes left"
@@ -144,18 +137,15 @@ class Build:
 
     def run(self):
         if self.left:
-            print(f"building and proving {len(self.left)} crates, up to {self.jobs} at the same time; from nothing this takes half an hour or more", file=sys.stderr)
+            text = f"building and proving {len(self.left)} crates, up to {self.jobs} at the same time"
+            print(f"{text}; from nothing this takes half an hour or more", file=sys.stderr)
         while self.left or self.running:
             self.start_ready()
-            time.sleep(0.5)
-            self.collect()
-            self.report()
+            self.collect(0.5)
         for name in self.names:
-            self.start(name, ["rt", "run", "--", "--help"] if is_program(name) else ["rt", "lib"])
+            self.start(name, *(("rt", "run", "--", "--help") if is_program(name) else ("rt", "lib")))
             while self.running:
-                time.sleep(0.2)
-                self.collect()
-                self.report()
+                self.collect(0.2)
         if sys.stderr.isatty():
             print("\r\033[K", end="", file=sys.stderr, flush=True)
 
@@ -163,10 +153,6 @@ class Build:
         for process, _ in self.running.values():
             os.killpg(process.pid, signal.SIGTERM)
             process.wait()
-
-
-def stop_on(number, _frame):
-    raise KeyboardInterrupt(number)
 
 
 def main():
@@ -178,22 +164,17 @@ def main():
     if unknown := [name for name in args.crate if name not in crates]:
         parser.error(f"crates.txt has no crate {unknown[0]}")
     for number in (signal.SIGTERM, signal.SIGHUP):
-        signal.signal(number, stop_on)
+        signal.signal(number, signal.default_int_handler)
     build = Build(crates, args.crate, args.jobs)
     try:
         build.run()
-    except Failed as failure:
-        print(failure, file=sys.stderr)
-        return 1
     except FileNotFoundError:
-        print("rt is not on the path; README.md says what is needed", file=sys.stderr)
-        return 1
+        sys.exit("rt is not on the path; README.md says what is needed")
     except KeyboardInterrupt:
-        return 130
+        sys.exit(130)
     finally:
         build.stop()
-    return 0
 
 
 if __name__ == "__main__":
-    sys.exit(main())
+    main()

@@ -7,11 +7,9 @@ What is missing or older than its sources is built and proved first. Prints the 
 """
 
 import argparse
-import io
-import re
+import shutil
 import subprocess
-import sys
-import tarfile
+import tempfile
 from pathlib import Path
 
 ROOT = Path(__file__).resolve().parents[1]
@@ -31,14 +29,8 @@ share/examples              scripts, logs and captures with their answers: bin/f
 """
 
 
-def printed(*command, cwd=ROOT):
-    return subprocess.run(command, cwd=cwd, check=True, capture_output=True, text=True).stdout.strip()
-
-
-def add(archive, name, content, mode):
-    entry = tarfile.TarInfo(name)
-    entry.size, entry.mode = len(content), mode
-    archive.addfile(entry, io.BytesIO(content))
+def printed(*command):
+    return subprocess.run(command, cwd=ROOT, check=True, capture_output=True, text=True).stdout.strip()
 
 
 def main():
@@ -48,21 +40,21 @@ def main():
     args = parser.parse_args()
     if not args.as_built:
         subprocess.run([ROOT / "tools/build.py", "fleet", "fleet_node", "node_c"], check=True)
-    version = printed(str(ROOT / FILES["bin/fleet"]), "--version").split()[-1]
-    commit = printed("git", "describe", "--always", "--dirty")
-    kit = printed("rt", "version")
-    name = f"yieldcleat-{version}-{commit}-{re.match(r'[^ ]*', kit)[0]}"
+    version = printed(ROOT / FILES["bin/fleet"], "--version").split()[-1]
+    commit, kit = printed("git", "describe", "--always", "--dirty"), printed("rt", "version")
+    name = f"yieldcleat-{version}-{commit}-{kit.split(' ')[0]}"
     files = {target: ROOT / source for target, source in FILES.items()}
     files |= {f"share/help/{path.name}": path for path in sorted((ROOT / "docs/help").iterdir())}
     files |= {f"share/examples/{path.name}": path for path in sorted((ROOT / "examples").iterdir()) if path.is_file()}
-    args.to.mkdir(parents=True, exist_ok=True)
-    packed = args.to / f"{name}.tar.gz"
-    with tarfile.open(packed, "w:gz") as archive:
-        add(archive, f"{name}/README", README.format(version=version, commit=commit, kit=kit).encode(), 0o644)
+    with tempfile.TemporaryDirectory() as folder:
         for target, source in files.items():
-            add(archive, f"{name}/{target}", source.read_bytes(), 0o755 if target.startswith("bin/") else 0o644)
-    print(packed)
+            place = Path(folder, name, target)
+            place.parent.mkdir(parents=True, exist_ok=True)
+            shutil.copy(source, place)
+        Path(folder, name, "README").write_text(README.format(version=version, commit=commit, kit=kit))
+        args.to.mkdir(parents=True, exist_ok=True)
+        print(shutil.make_archive(args.to / name, "gztar", folder, name, owner="root", group="root"))
 
 
 if __name__ == "__main__":
-    sys.exit(main())
+    main()

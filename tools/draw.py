@@ -10,15 +10,17 @@ From the top: the chain of the segment, with a lane for each epoch and what each
 advances of each reader; and of each node what came to it, its anchor, and where its pages may be read. In place of nodes a log
 has a row that all its facts came to. A log that is not sound is drawn without nodes, with the first place that breaks a law.
 
-What is told of nodes comes from the rules (`oracle.py`), and not from the program. What a node has folded or thrown away does not
-show, for it changes no answer. A text that is no log and no script, one of more than 400 facts and a step that is not there are
-answered with a line on standard error and status 2.
+What is said of nodes comes from the rules (`oracle.py`), and not from the program. What a node has folded or thrown away does not
+show, for it changes no answer. A text that is no log and no script, one of more than 400 facts and a step that is not there end with
+a message on standard error and status 2.
 """
 
 import argparse
+import itertools
 import pathlib
 import re
 import sys
+import textwrap
 
 ROOT = pathlib.Path(__file__).resolve().parents[1]
 sys.path.insert(0, str(ROOT / "tests"))
@@ -26,7 +28,7 @@ sys.path.insert(0, str(ROOT / "tests"))
 import svg_forms as forms
 import volume_pictures
 from model import oracle
-from model.facts import Advance, Cut, Record, of_kind
+from model.facts import Advance, Record, of_kind
 from model.rules import Meaning, counted, first_fault, is_alive
 
 MOST_FACTS = 400
@@ -55,6 +57,7 @@ class Log:
         self.pages = sorted({record.page for record in self.records})
         self.epochs = sorted({0, *(fact.epoch for fact in (*self.records, *self.cuts))})
         self.fault = first_fault(roster, log)
+        self.faulty = log[self.fault[0] - 1] if self.fault else None  # the fact that breaks a law
         self.meaning = Meaning(roster, frozenset(facts))
 
     def numbers(self):
@@ -68,35 +71,17 @@ class Log:
         alive = [r for r in self.records if r.number == number and page in (None, r.page) and is_alive(self.cuts, record.epoch, r)]
         return alive[-1] if alive else None
 
-    def faulty(self):
-        """The fact that breaks a law, or None."""
-        return self.facts[self.fault[0] - 1] if self.fault else None
+
+def standing(meaning, record):
+    """What a record is in a meaning."""
+    if meaning.is_waiting(record):
+        return "waiting"
+    if not meaning.is_alive(record):
+        return "dead"
+    return "linked" if record in meaning.linked else "apart"
 
 
-def standings(meaning, records):
-    """How each record stands in a meaning."""
-    chain = frozenset(meaning.linked)
-
-    def standing(record):
-        if meaning.is_waiting(record):
-            return "waiting"
-        if not meaning.is_alive(record):
-            return "dead"
-        return "linked" if record in chain else "apart"
-
-    return {record: standing(record) for record in records}
-
-
-def words_of(fact):
-    """A fact in words."""
-    if isinstance(fact, Record):
-        return f"record {fact.number} of epoch {fact.epoch}"
-    if isinstance(fact, Cut):
-        return f"truncation of epoch {fact.epoch}"
-    return f"advance of reader {fact.reader} to {fact.point}"
-
-
-def told(meaning):
+def answers_of(meaning):
     """What a node answers, in two lines."""
     front = f"front {meaning.epoch} {meaning.complete} {meaning.min}, anchor {meaning.anchor}"
     if meaning.min > meaning.complete:
@@ -105,7 +90,7 @@ def told(meaning):
     return front, f"may be read: {points}"
 
 
-# Where it stands
+# The canvas
 
 
 class Picture(forms.Canvas):
@@ -118,18 +103,15 @@ class Picture(forms.Canvas):
         self.half = max(18, *(forms.width_of(word, 15) // 2 + 10 for word in words))
         self.left = MARGIN + max(130, *(forms.width_of(label) for label in labels)) + 12
         self.step = max(2 * self.half + 26, min(130, (WIDTH - self.left - 2 * MARGIN) // len(numbers)))
-        self.places = {number: self.left + self.step // 2 + i * self.step for i, number in enumerate(numbers)}
+        self.at = {number: self.left + self.step // 2 + i * self.step for i, number in enumerate(numbers)}
         self.right = self.left + self.step * len(numbers)
         self.width = max(WIDTH, self.right + 2 * MARGIN)
         self.tints = {page: forms.TINTS[i % len(forms.TINTS)] for i, page in enumerate(log.pages)}
         self.y = 0
 
-    def at(self, number):
-        return self.places[number]
-
     def above(self, number):
         """Between a number and the next one."""
-        return self.places[number] + self.step // 2
+        return self.at[number] + self.step // 2
 
     def label(self, y, *lines):
         """Words at the left of a row, the first ones in bold, in the middle of it."""
@@ -147,7 +129,7 @@ def draw_head(picture, title, subtitle):
     picture.text(MARGIN, 50, subtitle, 12, fill=forms.QUIET)
     picture.y = 82
     picture.label(picture.y - 4, "number")
-    for number, x in picture.places.items():
+    for number, x in picture.at.items():
         picture.centred(x, picture.y, str(number), 12, fill=forms.QUIET)
     picture.y += 10
     picture.rule()
@@ -156,7 +138,7 @@ def draw_head(picture, title, subtitle):
 def draw_grid(picture, begin):
     """A faint line down each column, behind all else."""
     front, picture.forms = picture.forms, []
-    for x in picture.places.values():
+    for x in picture.at.values():
         picture.line(x, begin, x, picture.y, forms.GRID)
     picture.forms += front
 
@@ -179,16 +161,16 @@ def way(start, goal, half, high, is_blocked):
 def draw_backlink(picture, log, lanes, high, record, page):
     """Of a record in the chain of its page, or of the segment where the page is None."""
     number = record.back if page is None else record.block_back
-    start = picture.at(record.number) - picture.half, lanes[record.epoch]
+    start = picture.at[record.number] - picture.half, lanes[record.epoch]
     if number == 0:
         goal, half, high = min(lanes), 2, 20
     else:
         named = log.named(record, number, page)
         goal, half = (named.epoch, picture.half) if named else (record.epoch, 8)
         if named is None:
-            picture.centred(picture.at(number), start[1] + 4, "?", 13, font_weight="bold")
+            picture.centred(picture.at[number], start[1] + 4, "?", 13, font_weight="bold")
     between = [r for r in log.records if r.epoch == record.epoch and number < r.number < record.number and page in (None, r.page)]
-    forms.arrow(picture, way(start, (picture.at(number), lanes[goal]), half, high, between))
+    forms.arrow(picture, way(start, (picture.at[number], lanes[goal]), half, high, between))
 
 
 def draw_chain(picture, log, lanes, high, page=None):
@@ -197,18 +179,18 @@ def draw_chain(picture, log, lanes, high, page=None):
     Records of one key, which only logs that are not sound have, lie on each other, each a little further down.
     """
     shown = [r for r in log.records if page in (None, r.page)]
-    picture.line(picture.at(0), lanes[min(lanes)] - 10, picture.at(0), lanes[min(lanes)] + 10, stroke_width=4)
+    picture.line(picture.at[0], lanes[min(lanes)] - 10, picture.at[0], lanes[min(lanes)] + 10, stroke_width=4)
     for record in shown:
         draw_backlink(picture, log, lanes, high, record, page)
     seen = []
-    for record, standing in standings(log.meaning, shown).items():
+    for record in shown:
         down = 7 * seen.count(record.key())
         seen.append(record.key())
-        x, y = picture.at(record.number) + down, lanes[record.epoch] + down
-        forms.box(picture, standing, x, y, picture.half, high, picture.tints[record.page])
+        x, y = picture.at[record.number] + down, lanes[record.epoch] + down
+        forms.box(picture, standing(log.meaning, record), x, y, picture.half, high, picture.tints[record.page])
         if record.init:
             forms.init_edge(picture, x, y, picture.half, high)
-        if record == log.faulty():
+        if record == log.faulty:
             picture.mark("fault", x - picture.half, y - high // 2)
         picture.centred(x, y - 1 if page is None else y + 5, str(record.number), 13, font_weight="bold")
         if page is None:
@@ -235,11 +217,12 @@ def draw_segment(picture, log):
     first = lanes[log.epochs[0]] - LANE // 2 + 4
     cuts = {cut.epoch: cut for cut in log.cuts}
     for epoch, y in lanes.items():
-        cut = cuts.get(epoch)
-        picture.label(y, f"epoch {epoch}", *([words_of_cut(log, cut)] if cut else []))
-        if cut:
-            picture.mark("hi", picture.above(cut.hi), y)
-        if cut and epoch <= log.meaning.epoch:
+        if not (cut := cuts.get(epoch)):
+            picture.label(y, f"epoch {epoch}")
+            continue
+        picture.label(y, f"epoch {epoch}", words_of_cut(log, cut))
+        picture.mark("hi", picture.above(cut.hi), y)
+        if epoch <= log.meaning.epoch:
             begin = picture.above(cut.lo)
             forms.annulled(picture, begin, first, picture.right - begin, y - LANE // 2 - first)
     draw_chain(picture, log, lanes, BOX)
@@ -260,21 +243,13 @@ def draw_pages(picture, log):
 
 def by_point(pairs):
     """For each point what goes with it, both rising, from pairs of the two."""
-    groups = {}
-    for point, other in sorted(set(pairs)):
-        groups.setdefault(point, []).append(other)
-    return groups
+    return {point: [other for _, other in group] for point, group in itertools.groupby(sorted(set(pairs)), lambda pair: pair[0])}
 
 
 def listed(numbers):
     """Rising numbers in few words: two or more that follow each other as `1-3`."""
-    runs = []
-    for number in numbers:
-        if runs and runs[-1][1] == number - 1:
-            runs[-1][1] = number
-        else:
-            runs.append([number, number])
-    return ", ".join(str(low) if low == high else f"{low}-{high}" for low, high in runs)
+    runs = [[number for _, number in run] for _, run in itertools.groupby(enumerate(numbers), lambda it: it[1] - it[0])]
+    return ", ".join(f"{run[0]}-{run[-1]}" if len(run) > 1 else f"{run[0]}" for run in runs)
 
 
 def draw_advances(picture, log):
@@ -283,9 +258,9 @@ def draw_advances(picture, log):
         middle = picture.y + READER_ROW // 2
         picture.label(middle, "advances" if log.roster == 1 == reader else f"advances of reader {reader}")
         for point, epochs in by_point((a.point, a.epoch) for a in log.advances if a.reader == reader).items():
-            picture.mark("point", picture.at(point), middle - 3)
+            picture.mark("point", picture.at[point], middle - 3)
             if len(log.epochs) > 1:
-                picture.centred(picture.at(point), middle + 14, f"epoch {listed(epochs)}", 11, fill=forms.QUIET)
+                picture.centred(picture.at[point], middle + 14, f"epoch {listed(epochs)}", 11, fill=forms.QUIET)
         picture.y += READER_ROW
     if log.advances:
         picture.rule()
@@ -297,7 +272,7 @@ def draw_points(picture, log, meaning, y):
     later = by_point((advance.point, advance.reader) for advance in meaning.waits)
     for kind, groups in (("point", points), ("later point", later)):
         for point, readers in groups.items():
-            x = picture.at(point) + (18 if kind == "later point" and point in points else 0)
+            x = picture.at[point] + (18 if kind == "later point" and point in points else 0)
             picture.mark(kind, x, y)
             words = listed(readers)
             if log.roster > 1:
@@ -307,11 +282,10 @@ def draw_points(picture, log, meaning, y):
 def draw_cuts(picture, meaning, y):
     """The truncations that came, each at its lo; in brackets where that of an epoch before is missing."""
     for lo, epochs in by_point((cut.lo, cut.epoch) for cut in meaning.cuts).items():
-        picture.mark("cut", picture.above(lo), y)
+        forms.cut(picture, picture.above(lo), y)
         begun, early = ([e for e in epochs if (e <= meaning.epoch) == is_begun] for is_begun in (True, False))
-        words = ([f"cut {listed(begun)}"] if begun else []) + ([f"(cut {listed(early)})"] if early else [])
-        if early:
-            picture.kinds.add("early cut")
+        words = [f"cut {listed(begun)}"] * bool(begun) + [f"(cut {listed(early)})"] * bool(early)
+        picture.kinds |= {"early cut"} if early else set()
         picture.centred(picture.above(lo), y - 23, " ".join(words), 11, fill=forms.RED)
 
 
@@ -319,16 +293,15 @@ def draw_node(picture, log, name, facts):
     """What came to a node, how far its chain goes, its anchor, and where its pages may be read."""
     meaning = Meaning(log.roster, facts)
     y = picture.y + NODE_ROW // 2 - 4
-    picture.label(y, name, *told(meaning))
-    forms.settled(picture, picture.at(0), picture.at(meaning.anchor), y)
-    forms.reach(picture, picture.at(0), picture.at(meaning.complete), y)
+    picture.label(y, name, *answers_of(meaning))
+    forms.settled(picture, picture.at[0], picture.at[meaning.anchor], y)
+    picture.line(picture.at[0], y, picture.at[meaning.complete], y, stroke_width=2)
     if meaning.min <= meaning.complete:
-        forms.readable(picture, picture.at(meaning.min) - 14, picture.at(meaning.complete) + 14, y)
+        forms.readable(picture, picture.at[meaning.min] - 14, picture.at[meaning.complete] + 14, y)
     draw_cuts(picture, meaning, y)
-    standing = standings(meaning, of_kind(Record, facts))
     seen = []
     for record in log.records:
-        picture.mark(standing.get(record, "absent"), picture.at(record.number) + 16 * seen.count(record.number), y)
+        picture.mark(standing(meaning, record) if record in facts else "absent", picture.at[record.number] + 16 * seen.count(record.number), y)
         seen.append(record.number)
     draw_points(picture, log, meaning, y + 27)
     picture.y += NODE_ROW
@@ -342,7 +315,7 @@ def in_words(log, rows):
     """What the picture shows, for those who do not see it."""
     kinds = (("record", log.records), ("truncation", log.cuts), ("advance", log.advances))
     counts = ", ".join(f"{len(facts)} {kind}{'s' * (len(facts) != 1)}" for kind, facts in kinds)
-    return ". ".join([f"A log of {counts}", *(f"{name}: {', '.join(told(Meaning(log.roster, facts)))}" for name, facts in rows)]) + "."
+    return ". ".join([f"A log of {counts}", *(f"{name}: {', '.join(answers_of(Meaning(log.roster, facts)))}" for name, facts in rows)]) + "."
 
 
 def drawn(log, nodes, title, subtitle):
@@ -350,7 +323,7 @@ def drawn(log, nodes, title, subtitle):
     rows = [(f"node {i + 1}", facts) for i, facts in enumerate(nodes)]
     if not rows and not log.fault:
         rows = [("all facts", frozenset(log.facts))]
-    labels = [line for _, facts in rows for line in told(Meaning(log.roster, facts))]
+    labels = [line for _, facts in rows for line in answers_of(Meaning(log.roster, facts))]
     picture = Picture(log, [*labels, *(words_of_cut(log, cut) for cut in log.cuts), "advances of reader 15"])
     draw_head(picture, title, subtitle)
     begin = picture.y
@@ -365,92 +338,66 @@ def drawn(log, nodes, title, subtitle):
 
 
 def read_text(text):
-    """What was read of a log, or of a script: a text with the line `go`."""
-    is_script = "go" in text.split("\n")
-    reader = oracle.ScriptReader() if is_script else oracle.Reader()
-    bad = oracle.bad_line(text, reader.line if is_script else reader.fact_line)
-    if bad is None and is_script and reader.nodes is None:
-        bad = text.count("\n") + 1
-    if bad is not None:
-        raise NoPicture(f"bad line {bad}")
-    if len(reader.facts) > MOST_FACTS:
-        raise NoPicture(f"{len(reader.facts)} facts, and at most {MOST_FACTS} can be drawn")
-    return reader, is_script
-
-
-def steps_of(reader, is_script, after):
-    """The steps of a script that go before the picture."""
-    if after is None:
-        return reader.steps if is_script else []
-    if not is_script:
-        raise NoPicture("a log has no steps")
-    if not 0 <= after <= len(reader.steps):
-        raise NoPicture(f"the script has {len(reader.steps)} steps, and no picture after {after}")
-    return reader.steps[:after]
+    """A log, or a script: a text with the line `go`."""
+    read = (oracle.Script if "go" in text.split("\n") else oracle.Log)(text)
+    if read.bad is not None:
+        raise NoPicture(f"bad line {read.bad}")
+    if len(read.facts) > MOST_FACTS:
+        raise NoPicture(f"{len(read.facts)} facts, and at most {MOST_FACTS} can be drawn")
+    return read
 
 
 def picture_of(path, after=None):
     """The picture of a file: of a log, or of a script after so many steps, or all."""
-    reader, is_script = read_text(path.read_bytes().decode("latin-1"))
-    steps, log = steps_of(reader, is_script, after), Log(reader.roster, reader.facts)
+    read = read_text(path.read_bytes().decode("latin-1"))
+    log, steps = Log(read.roster, read.facts), getattr(read, "steps", [])
+    if after is not None and not 0 <= after <= len(steps):
+        raise NoPicture(f"there are {len(steps)} steps, and no picture after {after}")
     title = "".join(c if c.isprintable() else "?" for c in path.name)
     if log.fault:
         place, law = log.fault
-        return drawn(log, [], title, f"not sound: fact {place}, the {words_of(log.faulty())}, breaks law {law}")
-    if not is_script:
+        return drawn(log, [], title, f"not sound: fact {place} breaks law {law}: {textwrap.shorten(log.faulty.line(), 60)}")
+    if not isinstance(read, oracle.Script):
         return drawn(log, [], title, "a sound log")
-    fleet = oracle.Fleet(reader.roster, reader.facts, reader.nodes)
-    for step in steps:
+    fleet, before = oracle.Fleet(read), steps[:after]
+    for step in before:
         fleet.step(step)
-    last = f"; the last was: {' '.join(map(str, steps[-1]))}" if steps else ""
-    return drawn(log, fleet.nodes, title, f"after {len(steps)} of {len(reader.steps)} steps{last}")
+    last = f"; the last was: {' '.join(map(str, before[-1]))}" if before else ""
+    return drawn(log, fleet.nodes, title, f"after {len(before)} of {len(steps)} steps{last}")
 
 
-SUBJECT = r"(?:(examples/[a-z]+\.txt)(?: --after ([0-9]+))?|--volume ([a-z]+))"
-COMMAND = re.compile(rf"^    tools/draw\.py {SUBJECT} > (docs/pictures/[a-z]+\.svg)$", re.M)
+def parser():
+    made = argparse.ArgumentParser(description=__doc__, formatter_class=argparse.RawDescriptionHelpFormatter)
+    subject = made.add_mutually_exclusive_group(required=True)
+    subject.add_argument("file", type=pathlib.Path, nargs="?", help="the text of a log or of a script")
+    subject.add_argument("--documents", action="store_true", help="make the pictures of the documents")
+    subject.add_argument("--volume", choices=sorted(volume_pictures.RUNS), help="a run of a volume")
+    made.add_argument("--after", type=int, metavar="N", help="how many steps of the script go before")
+    return made
 
 
-def picture_by(text, after, run):
-    """The picture of what a command names: a file, perhaps with a number of steps, or a run of a volume."""
-    return volume_pictures.drawn(run) if run else picture_of(ROOT / text, int(after) if after else None)
+def picture_by(given, folder=pathlib.Path()):
+    """The picture of what the words of a command name, with files in the folder."""
+    return volume_pictures.drawn(given.volume) if given.volume else picture_of(folder / given.file, given.after)
 
 
 def pictures():
     """The bytes of each picture, as the command makes it that a document has for it."""
-    commands = [found for page in sorted(ROOT.glob("docs/*.md")) for found in COMMAND.findall(page.read_text())]
-    return {ROOT / name: picture_by(*subject).encode() for *subject, name in commands}
-
-
-class Parser(argparse.ArgumentParser):
-    """One that says in one line what is wrong."""
-
-    def error(self, message):
-        self.exit(2, f"draw: {message}\n")
+    command = re.compile(r"^    tools/draw\.py (.*) > (docs/pictures/[a-z]+\.svg)$", re.M)
+    found = [it for page in sorted(ROOT.glob("docs/*.md")) for it in command.findall(page.read_text())]
+    return {ROOT / name: picture_by(parser().parse_args(words.split()), ROOT).encode() for words, name in found}
 
 
 def main():
-    parser = Parser(description=__doc__, formatter_class=argparse.RawDescriptionHelpFormatter)
-    parser.add_argument("file", type=pathlib.Path, nargs="?", help="the text of a log or of a script")
-    parser.add_argument("--documents", action="store_true", help="make the pictures of the documents")
-    parser.add_argument("--after", type=int, metavar="N", help="how many steps of the script go before")
-    parser.add_argument("--volume", choices=sorted(volume_pictures.RUNS), help="a run of a volume")
-    given = parser.parse_args()
-    if [given.documents, given.file is not None, given.volume is not None].count(True) != 1:
-        parser.error("a file, --volume, or --documents")
+    given = parser().parse_args()
     if given.documents:
         for path, content in pictures().items():
             path.write_bytes(content)
         return
-    if given.volume:
-        sys.stdout.write(volume_pictures.drawn(given.volume))
-        return
     try:
-        picture = picture_of(given.file, given.after)
-    except OSError as why:
-        parser.error(why.strerror.lower())
-    except NoPicture as why:
-        parser.error(str(why))
-    sys.stdout.buffer.write(picture.encode())
+        sys.stdout.buffer.write(picture_by(given).encode())
+    except (OSError, NoPicture) as why:
+        parser().error(str(why))
 
 
 if __name__ == "__main__":

@@ -38,6 +38,12 @@ class Canvas:
     def line(self, x1, y1, x2, y2, stroke=INK, **more):
         self.add("line", x1=x1, y1=y1, x2=x2, y2=y2, stroke=stroke, **more)
 
+    def rect(self, x, y, width, height, **more):
+        self.add("rect", x=x, y=y, width=width, height=height, **more)
+
+    def circle(self, x, y, r, fill=PAPER, **more):
+        self.add("circle", cx=x, cy=y, r=r, fill=fill, **more)
+
     def path(self, steps, fill="none", stroke=INK, **more):
         self.add("path", d=steps, fill=fill, stroke=stroke, **more)
 
@@ -48,9 +54,9 @@ class Canvas:
         self.text(x, y, words, size, text_anchor="middle", **more)
 
     def mark(self, kind, x, y):
-        """Draws a mark, and has the legend tell of it."""
+        """Draws what the legend has for this kind."""
         self.kinds.add(kind)
-        MARKS[kind](self, x, y)
+        LEGEND[kind][1](self, x, y)
 
     def svg(self, width, height, title, told):
         """The whole picture; `told` says in words what it shows."""
@@ -67,29 +73,28 @@ class Canvas:
 
 
 def cross(canvas, x, y):
-    canvas.add("circle", cx=x, cy=y, r=7, fill=PAPER)
+    canvas.circle(x, y, 7)
     canvas.path(f"M{x - 5},{y - 5} L{x + 5},{y + 5} M{x - 5},{y + 5} L{x + 5},{y - 5}", stroke=RED, stroke_width=2)
 
 
 def box(canvas, kind, x, y, half, high, tint):
     """A record: filled where it is linked; in dashes and with a cross where it is dead."""
     dashes = {"stroke_dasharray": BOX_DASHES[kind]} if kind in BOX_DASHES else {}
-    fill = tint if kind == "linked" else PAPER
-    canvas.add("rect", x=x - half, y=y - high // 2, width=2 * half, height=high, rx=4, fill=fill, stroke=INK, **dashes)
+    canvas.rect(x - half, y - high // 2, 2 * half, high, rx=4, fill=tint if kind == "linked" else PAPER, stroke=INK, **dashes)
     canvas.kinds.add(f"{kind} box")
     if kind == "dead":
         cross(canvas, x + half, y - high // 2)
 
 
 def init_edge(canvas, x, y, half, high):
-    """What shows that the record's page begins anew there: a thick edge, where the walk down the page's chain ends."""
+    """What shows that the record's page begins again there: a thick edge, where the walk down the page's chain ends."""
     canvas.kinds.add("init")
-    canvas.add("rect", x=x - half, y=y - high // 2, width=6, height=high, fill=INK)
+    canvas.rect(x - half, y - high // 2, 6, high, fill=INK)
 
 
 def flag(canvas, x, y):
     """What marks a record that breaks a law, at a corner of its box."""
-    canvas.add("circle", cx=x, cy=y, r=8, fill=RED)
+    canvas.circle(x, y, 8, RED)
     canvas.centred(x, y + 5, "!", 13, fill=PAPER, font_weight="bold")
 
 
@@ -100,36 +105,8 @@ def arrow(canvas, steps):
 
 def annulled(canvas, x, y, width, height):
     canvas.kinds.add("annulled")
-    canvas.add("rect", x=x, y=y, width=width, height=height, fill="url(#annulled)")
+    canvas.rect(x, y, width, height, fill="url(#annulled)")
     canvas.path(f"M{x},{y} V{y + height} H{x + width}", stroke=RED, stroke_width=2)
-
-
-# What a node has
-
-
-def linked(canvas, x, y):
-    canvas.add("circle", cx=x, cy=y, r=6, fill=INK)
-
-
-def apart(canvas, x, y):
-    canvas.add("circle", cx=x, cy=y, r=6, fill=PAPER, stroke=INK, stroke_width=2)
-
-
-def waiting(canvas, x, y):
-    canvas.path(f"M{x - 8},{y} L{x},{y - 8} L{x + 8},{y} L{x},{y + 8} z", PAPER, stroke_width=2, stroke_dasharray="3 2")
-
-
-def absent(canvas, x, y):
-    canvas.add("circle", cx=x, cy=y, r=5, fill=PAPER)
-    canvas.add("circle", cx=x, cy=y, r=2, fill=QUIET)
-
-
-def point(canvas, x, y):
-    canvas.path(f"M{x},{y - 6} L{x + 6},{y + 5} H{x - 6} z", INK)
-
-
-def later_point(canvas, x, y):
-    canvas.path(f"M{x},{y - 6} L{x + 6},{y + 5} H{x - 6} z", PAPER, stroke_dasharray="2 2")
 
 
 def hi(canvas, x, y):
@@ -137,96 +114,81 @@ def hi(canvas, x, y):
     canvas.path(f"M{x + 6},{y - 13} H{x} V{y + 13} H{x + 6}", stroke=RED, stroke_width=2)
 
 
-def cut(canvas, x, y):
-    canvas.line(x, y - 18, x, y + 18, RED, stroke_width=2, stroke_dasharray="4 3")
+# What a node has
 
 
-MARKS = {
-    "fault": flag,
-    "linked": linked,
-    "apart": apart,
-    "waiting": waiting,
-    "dead": cross,
-    "absent": absent,
-    "point": point,
-    "later point": later_point,
-    "hi": hi,
-    "cut": cut,
-}
+def waiting(canvas, x, y):
+    canvas.path(f"M{x - 8},{y} L{x},{y - 8} L{x + 8},{y} L{x},{y + 8} z", PAPER, stroke_width=2, stroke_dasharray="3 2")
 
 
-def reach(canvas, begin, end, y):
-    """The chain as far as a node has it without a gap."""
-    canvas.line(begin, y, end, y, stroke_width=2)
+def absent(canvas, x, y):
+    canvas.circle(x, y, 5)
+    canvas.circle(x, y, 2, QUIET)
+
+
+def point(canvas, x, y, fill=INK, **dashes):
+    canvas.path(f"M{x},{y - 6} L{x + 6},{y + 5} H{x - 6} z", fill, **dashes)
+
+
+def cut(canvas, x, y, half=18):
+    canvas.kinds.add("cut")
+    canvas.line(x, y - half, x, y + half, RED, stroke_width=2, stroke_dasharray="4 3")
 
 
 def settled(canvas, begin, end, y):
     """What is at or below a node's anchor."""
     canvas.kinds.add("anchor")
-    canvas.add("rect", x=begin, y=y - 10, width=end - begin, height=20, fill=BLUE)
+    canvas.rect(begin, y - 10, end - begin, 20, fill=BLUE)
     canvas.line(end, y - 14, end, y + 14, INK, stroke_width=3)
 
 
-def readable(canvas, begin, end, y):
+def readable(canvas, begin, end, y, half=15):
     canvas.kinds.add("readable")
-    canvas.add("rect", x=begin, y=y - 15, width=end - begin, height=30, rx=6, fill="none", stroke=GREEN, stroke_width=2)
+    canvas.rect(begin, y - half, end - begin, 2 * half, rx=6, fill="none", stroke=GREEN, stroke_width=2)
 
 
 # The legend
 
 
-LEGEND = (
-    ("linked box", "record, with number and page"),
-    ("dead box", "dead record"),
-    ("waiting box", "record of an epoch not begun"),
-    ("apart box", "record that is not linked"),
-    ("init", "its page begins anew (init)"),
-    ("fault", "the record breaks a law"),
-    ("backlink", "backlink to the record before"),
-    ("annulled", "annulled by a truncation"),
-    ("hi", "hi: its epoch's numbers begin"),
-    ("point", "advance, or a reader's point"),
-    ("later point", "advance that waits"),
-    ("linked", "linked"),
-    ("apart", "came, but is behind a gap"),
-    ("waiting", "waits for its epoch"),
-    ("dead", "came, and is dead"),
-    ("absent", "has not come"),
-    ("cut", "truncation that came, at its lo"),
-    ("early cut", "truncation: annuls nothing yet"),
-    ("anchor", "up to the anchor"),
-    ("readable", "where pages may be read"),
-)
+def small_box(kind):
+    return lambda canvas, x, y: box(canvas, kind, x, y, 12, 16, TINTS[0])
 
 
-def swatch(canvas, kind, x, y):
-    """A small mark of its kind beside its words."""
-    if kind.endswith(" box"):
-        box(canvas, kind[:-4], x, y, 12, 16, TINTS[0])
-    elif kind == "init":
-        box(canvas, "linked", x, y, 12, 16, TINTS[0])
-        init_edge(canvas, x, y, 12, 16)
-    elif kind == "backlink":
-        arrow(canvas, f"M{x + 14},{y} H{x - 14}")
-    elif kind == "annulled":
-        annulled(canvas, x - 12, y - 9, 24, 16)
-    elif kind == "anchor":
-        settled(canvas, x - 12, x + 10, y)
-    elif kind == "readable":
-        canvas.add("rect", x=x - 14, y=y - 9, width=28, height=18, rx=6, fill="none", stroke=GREEN, stroke_width=2)
-    elif kind == "early cut":
-        canvas.centred(x, y + 4, "( )", 12, fill=RED)
-    elif kind == "cut":
-        canvas.line(x, y - 10, x, y + 10, RED, stroke_width=2, stroke_dasharray="4 3")
-    else:
-        MARKS[kind](canvas, x, y)
+def small_init(canvas, x, y):
+    small_box("linked")(canvas, x, y)
+    init_edge(canvas, x, y, 12, 16)
+
+
+# Of each kind: its words, and how it is drawn beside them
+LEGEND = {
+    "linked box": ("record, with number and page", small_box("linked")),
+    "dead box": ("dead record", small_box("dead")),
+    "waiting box": ("record of an epoch not begun", small_box("waiting")),
+    "apart box": ("record that is not linked", small_box("apart")),
+    "init": ("its page begins anew (init)", small_init),
+    "fault": ("the record breaks a law", flag),
+    "backlink": ("backlink to the record before", lambda canvas, x, y: arrow(canvas, f"M{x + 14},{y} H{x - 14}")),
+    "annulled": ("annulled by a truncation", lambda canvas, x, y: annulled(canvas, x - 12, y - 9, 24, 16)),
+    "hi": ("hi: its epoch's numbers begin", hi),
+    "point": ("advance, or a reader's point", point),
+    "later point": ("advance that waits", lambda canvas, x, y: point(canvas, x, y, PAPER, stroke_dasharray="2 2")),
+    "linked": ("linked", lambda canvas, x, y: canvas.circle(x, y, 6, INK)),
+    "apart": ("came, but is behind a gap", lambda canvas, x, y: canvas.circle(x, y, 6, stroke=INK, stroke_width=2)),
+    "waiting": ("waits for its epoch", waiting),
+    "dead": ("came, and is dead", cross),
+    "absent": ("has not come", absent),
+    "cut": ("truncation that came, at its lo", lambda canvas, x, y: cut(canvas, x, y, 10)),
+    "early cut": ("truncation: annuls nothing yet", lambda canvas, x, y: canvas.centred(x, y + 4, "( )", 12, fill=RED)),
+    "anchor": ("up to the anchor", lambda canvas, x, y: settled(canvas, x - 12, x + 10, y)),
+    "readable": ("where pages may be read", lambda canvas, x, y: readable(canvas, x - 14, x + 14, y, 9)),
+}
 
 
 def legend(canvas, y, width):
-    """Tells the kinds that were drawn, three beside each other; how high it is."""
-    shown = [(kind, words) for kind, words in LEGEND if kind in canvas.kinds]
-    for i, (kind, words) in enumerate(shown):
+    """Explains the kinds that were drawn, three beside each other; how high it is."""
+    shown = [entry for kind, entry in LEGEND.items() if kind in canvas.kinds]
+    for i, (words, draw) in enumerate(shown):
         x, line = 34 + (i % 3) * (width // 3), y + 14 + (i // 3) * 30
-        swatch(canvas, kind, x, line)
+        draw(canvas, x, line)
         canvas.text(x + 24, line + 4, words, 12)
     return (len(shown) + 2) // 3 * 30

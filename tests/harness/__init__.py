@@ -21,14 +21,20 @@ class Answer(NamedTuple):
 
 
 def answer(program, words, text=b"", **streams):
-    """What a run of the program ends with; the text is its standard input, unless `stdin` is given."""
-    given = {} if "stdin" in streams else {"input": text}
-    outputs = {"stdout": subprocess.PIPE, "stderr": subprocess.PIPE}
+    """What a run of the program ends with; the text is its standard input."""
+    streams = {"stdout": subprocess.PIPE, "stderr": subprocess.PIPE, **streams}
     try:
-        done = subprocess.run([program, *words], timeout=SECONDS, **{**given, **outputs, **streams})
+        done = subprocess.run([program, *words], timeout=SECONDS, input=text, check=False, **streams)
     except subprocess.TimeoutExpired:
         return Answer(None, b"", b"no end after %d seconds" % SECONDS)
     return Answer(done.returncode, done.stdout, done.stderr)
+
+
+def ran(words, status=0, **settings):
+    """Standard output and standard error of a command that is to end with this status."""
+    done = subprocess.run(words, capture_output=True, text=True, timeout=5 * SECONDS, check=False, **settings)
+    assert done.returncode == status, f"{words}\n{done.stdout[-2000:]}{done.stderr[-2000:]}"
+    return done.stdout, done.stderr
 
 
 # Cases in files
@@ -65,29 +71,43 @@ def cases():
 
 
 def last_line(text):
-    line = (text.removesuffix(b"\n").split(b"\n") or [b""])[-1]
+    line = text.removesuffix(b"\n").rpartition(b"\n")[2]
     return "".join(c if c.isprintable() else "." for c in line[:40].decode("latin-1")) or "empty"
 
 
 # Random inputs
 
 
-def rounds(seed, name, seconds, most=None):
+def rounds(seed, name, seconds):
     """A generator of random numbers for each round, until the time is up; at least one. The seed and the round fix each."""
     end, place = time.monotonic() + seconds, 0
-    while place == 0 or (time.monotonic() < end and place != most):
+    while place == 0 or time.monotonic() < end:
         yield random.Random(f"{seed} {name} {place}")
         place += 1
+    print(f"{name}: {place} rounds")
 
 
-def shrunk(parts, fails, without=None, seconds=60):
-    """The shortest list that still fails, by leaving out ranges, ever shorter ones, and then again, until the time is up."""
-    without = without or (lambda parts, at, count: parts[:at] + parts[at + count :])
-    end, size = time.monotonic() + seconds, max(1, len(parts) // 2)
+def expect_agreement(made, difference, smaller):
+    """Fails with the least input that was found for which `difference` returns words, where it returns some for this one."""
+
+    def differs(it):
+        try:
+            return bool(difference(it))
+        except AssertionError:  # the oracle says of this input that its rules are wrong, so it is no smaller case
+            return False
+
+    if seen := difference(made):
+        least = smaller(made, differs)
+        raise AssertionError(f"{difference(least) or seen}\nthe least input that differs:\n{least}")
+
+
+def shrunk(parts, fails):
+    """The shortest list that still fails, by leaving out ranges, ever shorter ones, and then again, until a minute is up."""
+    end, size = time.monotonic() + SECONDS, max(1, len(parts) // 2)
     while size and time.monotonic() < end:
         at, before = 0, len(parts)
         while at < len(parts) and time.monotonic() < end:
-            fewer = without(parts, at, size)
+            fewer = parts[:at] + parts[at + size :]
             if fails(fewer):
                 parts = fewer
             else:
@@ -96,29 +116,31 @@ def shrunk(parts, fails, without=None, seconds=60):
     return parts
 
 
-def without_lines(lines, at, count):
-    """The lines of a script without some; the facts that `take` names keep their names, and takes of those that go, go too."""
-    head = 1 if lines and lines[0].startswith("roster ") else 0
-    go = lines.index("go") if "go" in lines else len(lines)
-    gone = range(max(at, head) - head + 1, min(at + count, go) - head + 1)
-    left = []
-    for place, line in enumerate(lines):
-        words = line.split(" ")
-        if at <= place < at + count:
-            continue
-        if gone and place > go and words[0] == "take" and len(words) == 3 and words[2].isdigit():
-            fact = int(words[2])
-            if fact in gone:
-                continue
-            line = f"take {words[1]} {fact - len(gone) * (fact >= gone.stop)}"
-        left.append(line)
-    return left
+def text_of(lines):
+    return "".join(f"{line}\n" for line in lines)
 
 
 def shrunk_script(text, fails):
-    """The least script or log that still fails, by leaving out lines."""
+    """The least script or log that still fails, by leaving out lines; the facts that `take` names keep their names, and takes of those
+    that go, go too."""
     lines = text.removesuffix("\n").split("\n")
-    return "".join(f"{line}\n" for line in shrunk(lines, lambda it: fails("".join(f"{line}\n" for line in it)), without_lines))
+    end = lines.index("go") if "go" in lines else len(lines)
+    facts = range(int(lines[0].startswith("roster ")), end)
+
+    def script(places):
+        """The text of the lines at these places."""
+        kept = [place for place in facts if place in places]
+        names = {str(place - facts.start + 1): str(kept.index(place) + 1) if place in kept else None for place in facts}
+        left = []
+        for place in places:
+            take = re.fullmatch(r"(take \S+) ([0-9]+)", lines[place]) if place > end else None
+            if take and (name := names.get(take[2], take[2])):
+                left.append(f"{take[1]} {name}")
+            elif not take:
+                left.append(lines[place])
+        return text_of(left)
+
+    return script(shrunk(list(range(len(lines))), lambda places: fails(script(places))))
 
 
 def environment(**settings):

@@ -1,6 +1,5 @@
 """Random captures: values of each form, with numbers that are out of their order or range, spoilt in a byte, cut off or joined."""
 
-from harness.scripts import random_bytes
 from model import wire
 from model.facts import Advance, Cut, Fill, Record, Write
 
@@ -43,7 +42,7 @@ def patch(choose, has_kinds):
     offset = last + 1 if is_odd and choose.random() < 0.3 else choose.choice((0, 1, 4000, last))
     if has_kinds and choose.random() < 0.5:
         return Fill(offset, length, choose.randrange(256))
-    return Write(offset, random_bytes(choose, length))
+    return Write(offset, choose.randbytes(length))
 
 
 def record(choose, epoch=None, number=None):

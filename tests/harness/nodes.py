@@ -1,81 +1,94 @@
 """Nodes behind lines or frames, and scripts of nodes that gossip, played with a process or a segment for each node."""
 
 import contextlib
+import io
+import re
 import select
 import subprocess
 
-from harness import SECONDS
+from harness import ROOT, SECONDS, Answer, answer
 from model import guards, oracle
 from model.wire import fact_bytes, frame, framed
 
+LIMIT = 67_108_864  # the most bytes of a frame, and of the answers to one of many requests
 LEFT_OUT = ("same", "covers")  # steps that no request asks for
 FREEZE_EACH = 50  # one of so many steps comes after a freeze and a restart
 GAP_EACH = 3  # after one of so many steps the gap is asked for
 ENGINE_EACH = 8  # before one of so many steps an engine asks for something
 UNDER_EACH = 4  # one of so many steps is asked under a generation
-WITH_BYTES = (b"page", b"record", b"summary", b"delta", b"piece")  # the answers that end in bytes
-DIGITS = set("0123456789abcdefABCDEF")
+WITH_BYTES = ("page", "record", "summary", "delta", "piece")  # the answers that end in bytes
+BYTES = "(?:[0-9a-fA-F]{2})*"
+ASKS_WITH_BYTES = re.compile(f"(?:take|add|answer) {BYTES}|answer {BYTES} [0-9]+|absorb {BYTES} {BYTES}")
+HEADS = re.compile("(?:as [^ ]* [^ ]* )*")
+
+
+# Lines and frames
 
 
 def headed(text):
     """What an engine's line or answer has in front of the request or the answer of a segment, and the latter; nothing in front of others."""
-    words = text.split(" ", 3)
-    return (" ".join(words[:3]) + " ", words[3]) if words[0] == "as" and len(words) == 4 else ("", text)
+    end = HEADS.match(text).end()
+    return text[:end], text[end:]
 
 
 def as_frame(line):
     """The bytes of the frame that asks what a request line asks."""
     head, own = headed(line)
-    if head:
-        return head.encode() + as_frame(own)
-    word, _, rest = line.partition(" ")
-    if word in ("take", "add"):
-        return f"{word} ".encode() + bytes.fromhex(rest)
-    if word == "answer":
-        digits, _, most = rest.partition(" ")
-        return (f"within {most} " if most else "answer ").encode() + bytes.fromhex(digits)
+    word, *fields = own.split(" ")
+    if word not in ("take", "add", "answer", "absorb"):
+        return line.encode()
+    if word == "answer" and len(fields) == 2:
+        word = f"within {fields.pop()}"
+    values = [bytes.fromhex(it) for it in fields]
     if word == "absorb":
-        shown, answered = (bytes.fromhex(it) for it in rest.split(" "))
-        return f"absorb {len(shown)} ".encode() + shown + answered
-    return line.encode()
+        word = f"absorb {len(values[0])}"
+    return f"{head}{word} ".encode() + b"".join(values)
 
 
 def as_line(text):
     """The answer line that says what the bytes of an answer frame say."""
-    if text.startswith(b"as ") and text.count(b" ") >= 3:
-        *head, own = text.split(b" ", 3)
-        return b" ".join(head).decode() + " " + as_line(own)
-    word, _, rest = text.partition(b" ")
-    is_long = rest == b"too long" and word != b"page"
-    return f"{word.decode()} {rest.hex()}" if word in WITH_BYTES and not is_long else text.decode()
+    line = text.decode("latin-1")
+    head, own = headed(line)
+    word, _, rest = own.partition(" ")
+    is_long = rest == "too long" and word != "page"
+    return f"{head}{word} {rest.encode('latin-1').hex()}" if word in WITH_BYTES and not is_long else line
 
 
 def has_frame(line):
-    """Whether a frame asks the same: digits stand wherever the line's word takes bytes."""
-    head, own = headed(line)
-    if head:
-        return has_frame(own)
-    word, *fields = line.split(" ")
-    if word == "answer" and len(fields) == 2 and fields[1].isdigit():
-        fields.pop()  # a limit
-    wanted = {"take": 1, "answer": 1, "add": 1, "absorb": 2}.get(word)
-    return wanted is None or len(fields) == wanted and all(len(it) % 2 == 0 and set(it) <= DIGITS for it in fields)
+    """Whether a frame asks the same: digits are wherever the line's word takes bytes."""
+    own = headed(line)[1]
+    return own.split(" ")[0] not in ("take", "add", "answer", "absorb") or bool(ASKS_WITH_BYTES.fullmatch(own))
 
 
 def frames_of(text):
     """The bytes of each frame of a text that is made of whole ones."""
-    told = []
-    while text:
-        size = int.from_bytes(text[:4], "big")
-        assert len(text) >= 4 + size, f"no whole frame: {text[:80]}"
-        told.append(text[4 : 4 + size])
-        text = text[4 + size :]
-    return told
+    stream, frames = io.BytesIO(text), []
+    while size := stream.read(4):
+        frames.append(stream.read(int.from_bytes(size, "big")))
+    assert framed(frames) == text, f"no whole frames: {text[:80]}"
+    return frames
 
 
 def many(requests):
     """The frame of many requests, or of none."""
     return frame(b"many " + framed(requests))
+
+
+def pairs_of(requests, answers):
+    """The request lines of a file, each with its answer line of another one."""
+    return list(zip((ROOT / requests).read_bytes().decode().split("\n")[:-1], (ROOT / answers).read_text().splitlines()))
+
+
+def framed_pairs(pairs):
+    """Those that a frame can ask, with the answers that frames have."""
+    return [(line, answer.replace("bad line", "bad request")) for line, answer in pairs if has_frame(line)]
+
+
+EXAMPLE = pairs_of("examples/node.requests", "examples/node.answers")
+OWN = pairs_of("crates/fleet_node/stdin", "crates/fleet_node/stdout")
+
+
+# Nodes
 
 
 class Node:
@@ -154,71 +167,58 @@ class FramedNode(Node):
         return as_line(answer) if answer and frame(answer) == self.told[-1] else f"{answer!r} and an end"
 
 
-class Repeater(FramedNode):
-    """A node that is asked what another one was asked, many requests in a frame."""
-
-    def repeats(self, node, choose):
-        """Whether it answers as that node did, of which it keeps nothing."""
-        asked, told = node.asked, node.told
-        node.asked, node.told = [], []
-        while asked:
-            count = choose.choice((0, 1, 2, 7, 30))
-            self.process.stdin.write(frame(b"many " + b"".join(asked[:count])))
-            self.process.stdin.flush()
-            wanted = frame(b"".join(told[:count]))
-            if self.process.stdout.read(len(wanted)) != wanted:
-                return False
-            asked, told = asked[count:], told[count:]
-        return True
+def is_repeated(program, node, choose):
+    """Whether a node that is asked what this one was asked, many requests in a frame, answers the same."""
+    text, wanted, at = [], [], 0
+    while at < len(node.asked):
+        end = at + choose.choice((0, 1, 2, 7, 30))
+        text.append(frame(b"many " + b"".join(node.asked[at:end])))
+        wanted.append(frame(b"".join(node.told[at:end])))
+        at = end
+    return answer(program, node.words, b"".join(text)) == Answer(0, b"".join(wanted))
 
 
-class Under:
-    """A node that is asked for one engine alone; an answer that has another head than the request stays as it is."""
-
-    def __init__(self, node, generation, birth):
-        self.node, self.head = node, f"as {generation} {birth} "
-
-    def ask(self, *words):
-        return self.node.ask(self.head + " ".join(map(str, words))).removeprefix(self.head)
+def unlike(asked, answer, wanted):
+    """In words that an answer is not the expected one, or nothing."""
+    return "" if answer == wanted else f"{asked}: {answer!r} in place of {wanted!r}"
 
 
 class Play:
     """A script: what the oracle's fleet replies to each step, and what the nodes answer."""
 
     def __init__(self, nodes, text):
-        reader = oracle.ScriptReader()
-        oracle.bad_line(text, reader.line)
-        self.nodes, self.facts, self.steps, self.roster = nodes, reader.facts, reader.steps, reader.roster
-        self.fleet = oracle.Fleet(reader.roster, self.facts, reader.nodes)
+        script = oracle.Script(text)
+        self.nodes, self.facts, self.steps, self.roster = nodes, script.facts, script.steps, script.roster
+        self.fleet = oracle.Fleet(script)
         self.messages = []  # of each: the words that stand for it in a line
         self.answers = []  # of the steps that were compared
         self.guards = [guards.Guard() for _ in nodes]
-        for node in nodes[: reader.nodes]:
-            node.ask("open", reader.roster)
+        for node in nodes[: script.nodes]:
+            node.ask("open", script.roster)
 
-    def told(self, kind, node, values):
-        """What the node answers to a step, in the oracle's words; a message that it makes is kept."""
+    def told(self, ask, kind, number, *values):
+        """What is answered to a step, in the oracle's words, where `ask` asks its node; a message that this makes is kept."""
         if kind == "take":
-            return node.ask("take", fact_bytes(self.facts[values[0] - 1]).hex())
+            return ask("take", fact_bytes(self.facts[values[0] - 1]).hex())
         if kind == "ask":
-            return self.sent("summary", node.ask("ask"))
+            return self.sent("summary", ask("ask"))
         if kind == "answer":
-            return self.answered(node, *self.messages[values[0] - 1])
+            return self.answered(ask, *self.messages[values[0] - 1])
         if kind == "join":
-            return node.unite(self.nodes[values[0] - 1], len(self.answers))
+            return self.nodes[number - 1].unite(self.nodes[values[0] - 1], len(self.answers))
         if kind == "absorb":
-            return node.ask("absorb", *self.messages[values[0] - 1])
+            return ask("absorb", *self.messages[values[0] - 1])
         if kind == "wipe":
-            return "wiped" if node.ask("open", self.roster) == "opened" else "no wipe"
+            return "wiped" if ask("open", self.roster) == "opened" else "no wipe"
         if kind == "read" and values[3] == 0:
             return None
-        return node.ask(kind, *values)
+        return ask(kind, *values)
 
-    def answered(self, node, summary):
+    def answered(self, ask, summary):
         """A delta. Within its size it is sent again, and within one byte less it is large."""
-        answer = node.ask("answer", summary)
+        answer = ask("answer", summary)
         size = len(answer.partition(" ")[2]) // 2
-        within = [node.ask("answer", summary, most) for most in (size, size - 1)]
+        within = [ask("answer", summary, most) for most in (size, size - 1)]
         return self.sent("delta", answer, summary) if within == [answer, "large"] else f"{within} within {size}"
 
     def sent(self, kind, answer, *before):
@@ -226,54 +226,58 @@ class Play:
         self.messages.append((*before, digits))
         return f"message {len(self.messages)}" if word == kind else answer
 
-    def engine_differs(self, choose, number):
-        """What a node answers otherwise to some engine, or nothing."""
+    def asks_of_engines(self, choose, number):
+        """What a node answers to some engine, and what it is to answer; at times also to one that asks under its generation."""
         front = tuple(map(int, self.fleet.front(number).split(" ")[1:]))
         node, guard = self.nodes[number - 1], self.guards[number - 1]
         word, numbers = guards.a_request(guard, front, choose)
         wanted = getattr(guard, word)(front, *numbers)
-        answer = node.ask(word, *numbers)
-        if answer == wanted and choose.randrange(ENGINE_EACH) == 0:
-            word, numbers = "as", (guard.generation, guard.birth, choose.choice(guards.NOT_UNDER))
-            answer, wanted = node.ask(word, *numbers), "unguarded"
-        return f"{word} {numbers}: {answer!r} in place of {wanted!r}" if answer != wanted else ""
+        yield unlike(f"{word} {numbers}", node.ask(word, *numbers), wanted)
+        if choose.randrange(ENGINE_EACH) == 0:
+            words = ("as", guard.generation, guard.birth, choose.choice(guards.NOT_UNDER))
+            yield unlike(words, node.ask(*words), "unguarded")
 
-    def asked_by(self, choose, node, guard, kind, values):
-        """Whoever asks for a step: anybody, or an engine; what differs where it is not the node's own."""
+    def step_under(self, choose, step):
+        """The answer to a step that an engine asks for, or the node's own answer after it has declined."""
+        kind, number, *_ = step
+        node, guard = self.nodes[number - 1], self.guards[number - 1]
         generation = choose.choice((guard.generation, guard.generation, choose.randrange(9)))
-        asker = Under(node, generation, guard.birth)
-        if guard.is_under(generation, guard.birth):
-            return asker, ""
-        answer = asker.ask("fold", 7) if kind == "fold" else asker.ask("front")
-        return node, f"{answer!r} in place of {guard.declined()!r}" if answer != guard.declined() else ""
+        head = f"as {generation} {guard.birth} "
 
-    def difference(self, choose):
-        """The first difference in words, or nothing."""
+        def ask(*words):
+            """An answer that has another head than the request stays as it is."""
+            return node.ask(head + " ".join(map(str, words))).removeprefix(head)
+
+        if guard.is_under(generation, guard.birth):
+            return self.told(ask, *step)
+        declined = ask("fold", 7) if kind == "fold" else ask("front")
+        return self.told(node.ask, *step) if declined == guard.declined() else f"{declined!r} to an engine"
+
+    def differences(self, choose):
+        """Of each answer, in words, how it differs from the expected one, or nothing."""
         for place, step in enumerate(self.steps):
-            kind, number, *values = step
+            kind, number, *_ = step
             if kind == "wipe" and number <= len(self.fleet.nodes) and self.guards[number - 1].is_member:
-                if (answer := self.nodes[number - 1].ask("open", self.roster)) != "member":
-                    return f"{step}: {answer!r} in place of 'member'"
+                yield unlike(step, self.nodes[number - 1].ask("open", self.roster), "member")
                 continue
             wanted = "no " if kind in LEFT_OUT else self.fleet.step(step)
             if wanted.startswith("no "):
                 continue
             node, guard = self.nodes[number - 1], self.guards[number - 1]
-            if choose.randrange(FREEZE_EACH) == 0 and not guard.is_member and not node.restart(place):
-                return f"node {number} is not restored before {step}"
-            asker = node
-            if choose.randrange(UNDER_EACH) == 0 and kind != "join" and kind != "wipe":
-                asker, differs = self.asked_by(choose, node, guard, kind, values)
-                if differs:
-                    return f"{step} of an engine: {differs}"
-            answer = self.told(kind, asker, values)
+            if choose.randrange(FREEZE_EACH) == 0 and not guard.is_member:
+                yield unlike(f"restart before {step}", node.restart(place), True)
+            if choose.randrange(UNDER_EACH) == 0 and kind not in ("join", "wipe"):
+                answer = self.step_under(choose, step)
+            else:
+                answer = self.told(node.ask, *step)
             self.answers.append(answer)
-            if answer is not None and answer != wanted:
-                return f"{step}: {answer!r} in place of {wanted!r}"
+            if answer is not None:
+                yield unlike(step, answer, wanted)
             if choose.randrange(GAP_EACH) == 0:
-                answer, wanted = node.ask("gap"), self.fleet.gap(number)
-                if answer != wanted:
-                    return f"the gap after {step}: {answer!r} in place of {wanted!r}"
-            if choose.randrange(ENGINE_EACH) == 0 and (differs := self.engine_differs(choose, number)):
-                return f"after {step}: {differs}"
-        return ""
+                yield unlike(f"the gap after {step}", node.ask("gap"), self.fleet.gap(number))
+            if choose.randrange(ENGINE_EACH) == 0:
+                yield from self.asks_of_engines(choose, number)
+
+    def difference(self, choose):
+        """The first difference in words, or nothing."""
+        return next(filter(None, self.differences(choose)), "")

@@ -2,8 +2,9 @@
 scripts of several nodes that join, each after folds and discards of its own, or that gossip, by late and repeated messages. In the
 end nodes are asked for their fronts, their pages and how they compare."""
 
-from dataclasses import replace
+from dataclasses import fields, replace
 
+from harness import text_of
 from model.facts import MAX_NUMBER, Advance, Cut, Fill, Record, Write
 from model.oracle import STEPS
 from model.rules import broken_law, greatest_below
@@ -25,43 +26,28 @@ def random_cuts(choose):
     return cuts
 
 
-def begun_epochs(cuts):
-    """The epochs that a record may have, each with the bound on its numbers."""
-    bounds = {0: 0}
-    for cut in cuts:
-        if cut.epoch == len(bounds):
-            bounds[cut.epoch] = cut.hi
-    return bounds
-
-
-def random_bytes(choose, count):
-    return bytes(choose.randrange(256) for _ in range(count))
-
-
 def random_patches(choose):
-    """Whether the page begins anew, and the patches."""
+    """Whether the page begins again, and the patches."""
     patches = []
     for _ in range(choose.choice((0, 1, 1, 2, 3))):
         offset = choose.randrange(0, 6)
         if choose.random() < 0.3:
             patches.append(Fill(offset, choose.randrange(1, 6), choose.randrange(256)))
         else:
-            patches.append(Write(offset, random_bytes(choose, choose.randrange(1, 4))))
+            patches.append(Write(offset, choose.randbytes(choose.randrange(1, 4))))
     return choose.random() < 0.2, tuple(patches)
 
 
 def random_records(choose, cuts):
-    """Records with the backlinks that the rules ask for, over the whole log."""
-    bounds = begun_epochs(cuts)
+    """Records with the backlinks that the rules ask for, over the whole log: of epochs that have begun, each above its truncation."""
+    bounds = [0, *(cut.hi for epoch, cut in enumerate(cuts, 1) if cut.epoch == epoch)]
     keys, pages = set(), choose.randrange(1, 4)
     for _ in range(choose.randrange(0, 12)):
-        epoch = choose.choice(list(bounds))
+        epoch = choose.randrange(len(bounds))
         keys.add((epoch, bounds[epoch] + choose.randrange(1, 14)))
     bare = [Record(*key, 0, choose.randrange(pages), 0, *random_patches(choose)) for key in sorted(keys)]
-    return [
-        replace(r, back=greatest_below(bare, cuts, *r.key()), block_back=greatest_below(bare, cuts, *r.key(), r.page))
-        for r in bare
-    ]
+    links = [(greatest_below(bare, cuts, *r.key()), greatest_below(bare, cuts, *r.key(), r.page)) for r in bare]
+    return [replace(r, back=back, block_back=block_back) for r, (back, block_back) in zip(bare, links)]
 
 
 def random_advances(choose, roster, cuts):
@@ -71,13 +57,10 @@ def random_advances(choose, roster, cuts):
         Advance(choose.randrange(0, len(cuts) + 1), choose.randrange(1, roster + 1), choose.choice(near))
         for _ in range(choose.randrange(0, 3 + 2 * min(roster, 3)))
     ]
-    bad = True
-    while bad:
-        log = cuts + advances
-        bad = [place for place in range(len(log)) if broken_law(roster, log, place)]
-        if bad:
-            del advances[bad[-1] - len(cuts)]
-    return advances
+    log = cuts + advances
+    while bad := [place for place in range(len(log)) if broken_law(roster, log, place)]:
+        del log[bad[-1]]
+    return log[len(cuts) :]
 
 
 def random_log(choose, roster):
@@ -91,8 +74,7 @@ def random_log(choose, roster):
 
 def moved(choose, fact):
     """A fact with one of its numbers moved a little."""
-    fields = {Record: ("epoch", "number", "back", "page", "block_back"), Cut: ("epoch", "lo", "hi"), Advance: ("epoch", "reader", "point")}
-    field = choose.choice(fields[type(fact)])
+    field = choose.choice([it.name for it in fields(fact) if it.type is int])
     return replace(fact, **{field: max(0, getattr(fact, field) + choose.choice((-3, -2, -1, 1, 2, 3)))})
 
 
@@ -120,9 +102,9 @@ def spoil(choose, log):
 
 # Steps
 
-KINDS = ["take"] * 10 + ["fold"] * 4 + ["discard"] * 3 + ["read"] * 10 + ["front"] * 3
-KINDS += ["join"] * 4 + ["same"] * 3 + ["covers"] * 4 + ["wipe"]
-KINDS += ["ask"] * 5 + ["answer"] * 5 + ["absorb"] * 6
+SHARES = {"take": 10, "fold": 4, "discard": 3, "read": 10, "front": 3, "join": 4, "same": 3, "covers": 4, "wipe": 1}
+SHARES |= {"ask": 5, "answer": 5, "absorb": 6}
+KINDS = [kind for kind, share in SHARES.items() for _ in range(share)]
 PAGES = 4
 
 
@@ -135,7 +117,7 @@ class Steps:
         self.nodes = nodes
         self.points = [0] + [r.number + d for r in log if isinstance(r, Record) for d in (0, 0, 0, -1, 1)]
         self.points += [a.point for a in log if isinstance(a, Advance)]
-        self.uses = []  # of each message: the kind of step that it is for
+        self.messages = {"answer": [], "absorb": []}  # the numbers of those that each kind of step takes
 
     def takes(self, node):
         """Most facts of the log, or few."""
@@ -149,7 +131,7 @@ class Steps:
         return self.choose.randrange(1, self.nodes + 1) if self.choose.random() < 0.98 else self.choose.randrange(0, 70)
 
     def message(self, kind):
-        fits = [i + 1 for i, use in enumerate(self.uses) if use == kind]
+        fits = self.messages[kind]
         return self.choose.choice(fits) if fits and self.choose.random() < 0.9 else self.choose.randrange(0, 10)
 
     def value(self, form, kind):
@@ -170,12 +152,10 @@ class Steps:
 
     def line(self, kind, *values):
         """The line of a step. Follows which messages there are."""
-        is_there = 1 <= values[0] <= self.nodes
-        if is_there and kind == "ask":
-            self.uses.append("answer")
-        if is_there and kind == "answer" and 1 <= values[1] <= len(self.uses) and self.uses[values[1] - 1] == "answer":
-            self.uses.append("absorb")
-        return " ".join([kind, *(str(v) for v in values)])
+        use = {"ask": "answer", "answer": "absorb"}.get(kind)
+        if use and 1 <= values[0] <= self.nodes and (kind == "ask" or values[1] in self.messages["answer"]):
+            self.messages[use].append(1 + sum(map(len, self.messages.values())))
+        return " ".join(map(str, [kind, *values]))
 
     def between(self, node):
         """What may come between two messages: folds and a discard, some facts, a wipe, or nothing."""
@@ -188,7 +168,7 @@ class Steps:
 
     def latest(self, kind):
         """Mostly the last message that is for the step."""
-        fits = [i + 1 for i, use in enumerate(self.uses) if use == kind]
+        fits = self.messages[kind]
         return fits[-1] if fits and self.choose.random() < 0.7 else self.message(kind)
 
     def exchange(self):
@@ -257,13 +237,10 @@ def edge_patches(choose):
 
 def edge_line(choose):
     """One fact line, mostly with every field but one as usual."""
-    kind = choose.randrange(4)
-    if kind == 0:
-        words = ["cut", *(edge_number(choose, usual) for usual in ("1", "5", "20"))]
-    elif kind == 1:
-        words = ["min", *(edge_number(choose, usual) for usual in ("0", "5", "1")[: choose.choice((2, 3))])]
-    else:
-        words = ["rec", *(edge_number(choose, usual) for usual in ("0", "3", "0", "7", "0")), edge_patches(choose)]
+    kind, *usual = choose.choice(("cut 1 5 20", "min 0 5 1", "rec 0 3 0 7 0", "rec 0 3 0 7 0")).split(" ")
+    if kind == "min" and choose.choice((True, False)):
+        usual.pop()  # the reader
+    words = [kind, *(edge_number(choose, it) for it in usual)] + [edge_patches(choose) for _ in range(kind == "rec")]
     if choose.random() < 0.03:
         words.pop()
     return " ".join(words)
@@ -304,7 +281,7 @@ def random_input(choose):
         named = nodes if choose.random() < 0.97 else choose.choice((0, 1, 64, 65))
         steps = Steps(choose, log, nodes)
         lines += ["go", f"nodes {named}", *steps.lines(), *(steps.looks(10) if nodes <= 4 else [])]
-    text = "".join(line + "\n" for line in lines)
+    text = text_of(lines)
     if text and choose.random() < 0.1:
         text = spoilt(choose, text)
     return task, text
@@ -314,7 +291,7 @@ def sound_script(choose, roster, nodes):
     """The steps of a script over a sound log, and the lines before those that all nodes have to make in the end."""
     log = random_log(choose, roster)
     steps = Steps(choose, log, nodes)
-    return steps, [f"roster {roster}"] * (roster > 1) + [fact.line() for fact in log] + ["go", f"nodes {nodes}"] + steps.lines()
+    return steps, [*[f"roster {roster}"] * (roster > 1), *(fact.line() for fact in log), "go", f"nodes {nodes}", *steps.lines()]
 
 
 def input_of_joins(choose):
@@ -325,7 +302,7 @@ def input_of_joins(choose):
     choose.shuffle(order)
     for i, j in zip(order, order[1:] + order[:1]):
         lines += [*steps.shed(i), *steps.shed(j), f"join {i} {j}"]
-    return "run", "".join(line + "\n" for line in lines + steps.looks())
+    return "run", text_of(lines + steps.looks())
 
 
 def input_of_gossip(choose):
@@ -334,4 +311,4 @@ def input_of_gossip(choose):
     steps, lines = sound_script(choose, roster, nodes)
     for _ in range(choose.randrange(2, 3 * nodes)):
         lines += steps.exchange()
-    return "run", "".join(line + "\n" for line in lines + steps.looks(5))
+    return "run", text_of(lines + steps.looks(5))

@@ -1,6 +1,6 @@
-"""Runs of a program with an allocation, a start of a thread, a read or a write refused, by a library that is preloaded into it.
+"""Runs of a program with an allocation, a start of a thread, a read or a write refused, by a library that is preloaded into it: `refusing.c`.
 
-`fail_alloc.c` and `failing_devices.c` tell what they do. The compiler that comes with the toolchain builds them.
+The compiler that comes with the toolchain builds it.
 """
 
 import shutil
@@ -44,26 +44,26 @@ class Counts(NamedTuple):
     allocations: int
     greatest: int  # bytes that one allocation asks for
     starts: int  # of threads
+    reads: int  # of standard input
+    writes: int  # to standard output
 
 
 class Refusing:
-    """Runs of a command with an allocation or a start of a thread refused, counted from 1."""
+    """Runs of a command with some of its calls refused, by the settings that `refusing.c` describes."""
 
     def __init__(self, folder):
-        self.library, self.report = built("fail_alloc", folder), folder / "report"
+        self.library, self.report = built("refusing", folder), folder / "report"
 
-    def environment(self, allocation=0, start=0, last=0):
-        """One allocation is refused, or with `last` each from one to another."""
-        named = {"FAIL_ALLOC": allocation, "FAIL_ALLOC_LAST": last, "FAIL_START": start, "FAIL_ALLOC_REPORT": self.report}
-        return environment(LD_PRELOAD=self.library, **named)
+    def environment(self, **settings):
+        return environment(LD_PRELOAD=self.library, FAIL_REPORT=self.report, **settings)
 
-    def run(self, command, text=b"", **refused):
-        return answer(command[0], command[1:], text, env=self.environment(**refused))
+    def run(self, command, text=b"", **settings):
+        return answer(command[0], command[1:], text, env=self.environment(**settings))
 
-    def counted(self, command, text=b""):
-        """What the command asks for with ample memory, and how it ends then."""
+    def counted(self, command, text=b"", **steps):
+        """What the command asks for where nothing is refused, and how it ends then."""
         self.report.unlink(missing_ok=True)
-        ample = self.run(command, text)
+        ample = self.run(command, text, **steps)
         assert self.report.exists(), f"{command[0]} ended without a report"
         counts = Counts(*map(int, self.report.read_text().split()))
         assert counts.allocations, f"{command[0]} asks the shim for no memory"
@@ -72,19 +72,4 @@ class Refusing:
     def spread(self, command, text, most):
         """The environments that refuse one allocation each, spread evenly over the command's run."""
         total = self.counted(command, text)[0].allocations
-        return [self.environment(allocation=n) for n in range(1, total + 1, max(1, total // most))]
-
-
-class Devices:
-    """Runs of a command whose reads and writes have so many bytes at most, and of which one fails, counted from 1."""
-
-    def __init__(self, folder):
-        self.library, self.report = built("failing_devices", folder), folder / "devices"
-
-    def run(self, command, text, steps, reading=0, writing=0):
-        cut = {"READ_STEP": steps[0], "WRITE_STEP": steps[1], "FAIL_READ": reading, "FAIL_WRITE": writing}
-        return answer(command[0], command[1:], text, env=environment(LD_PRELOAD=self.library, DEVICE_REPORT=self.report, **cut))
-
-    def calls(self):
-        """How many reads and writes the last run made."""
-        return tuple(map(int, self.report.read_text().split()))
+        return [self.environment(FAIL_ALLOC=n) for n in range(1, total + 1, max(1, total // most))]

@@ -502,7 +502,8 @@ def check_third_server(world):
     cluster.kill(2)
     begun = time.monotonic()
     answer = ours.run("insert into t(b) values('three')")
-    assert answer == "SQLITE_IOERR_READ: read: no write quorum: 3 of 6 nodes answer", answer
+    # On a busy machine fewer than the three that run may answer in time.
+    assert answer in [f"SQLITE_IOERR_READ: read: no write quorum: {number} of 6 nodes answer" for number in (1, 2, 3)], answer
     assert time.monotonic() - begun < 15
     cluster.start(2)
     ours.write("four")

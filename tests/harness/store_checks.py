@@ -40,10 +40,14 @@ def replayed(last, page):
     return b"page " + image
 
 
+def reads(last):
+    """The reads of all pages."""
+    return [f"read {page} {last} 0 {PAGE_LEN}".encode() for page in range(PAGES)]
+
+
 def shows(client, last):
     """Whether each page is that of a plain replay."""
-    reads = [f"read {page} {last} 0 {PAGE_LEN}".encode() for page in range(PAGES)]
-    return all(client.ask(it) == replayed(last, page) for page, it in enumerate(reads))
+    return all(client.ask(it) == replayed(last, page) for page, it in enumerate(reads(last)))
 
 
 def advance(point):

@@ -1,5 +1,6 @@
 """Facts: records, truncations and advances, their rules of shape, and the lines that encode them."""
 
+import re
 from dataclasses import dataclass
 
 MAX_NUMBER = 2**48 - 1
@@ -18,9 +19,6 @@ class Write:
     offset: int
     data: bytes
 
-    def length(self):
-        return len(self.data)
-
     def content(self):
         return self.data
 
@@ -33,9 +31,6 @@ class Fill:
     offset: int
     count: int
     byte: int
-
-    def length(self):
-        return self.count
 
     def content(self):
         return bytes([self.byte]) * self.count
@@ -62,8 +57,7 @@ class Record:
 
     def line(self):
         words = ["init"] * self.init + [patch.word() for patch in self.patches]
-        numbers = (self.epoch, self.number, self.back, self.page, self.block_back)
-        return " ".join(["rec", *(str(n) for n in numbers), ",".join(words) or "-"])
+        return f"rec {self.epoch} {self.number} {self.back} {self.page} {self.block_back} {','.join(words) or '-'}"
 
 
 @dataclass(frozen=True)
@@ -95,8 +89,8 @@ def has_shape(fact):
     return (
         0 <= fact.block_back <= fact.back < fact.number
         and len(fact.patches) <= MOST_PATCHES
-        and all(p.length() > 0 and p.offset + p.length() <= PAGE_LEN for p in fact.patches)
-        and sum(p.length() for p in fact.patches if isinstance(p, Write)) <= MOST_BYTES
+        and all(0 < len(patch.content()) <= PAGE_LEN - patch.offset for patch in fact.patches)
+        and sum(len(patch.data) for patch in fact.patches if isinstance(patch, Write)) <= MOST_BYTES
     )
 
 
@@ -110,73 +104,55 @@ class BadLine(Exception):
 
 # Words
 
+NUMBER = re.compile("0|[1-9][0-9]{0,19}")
+WRITE = re.compile("([0-9]+):((?:[0-9a-fA-F]{2})+)")
+FILL = re.compile(r"([0-9]+)\*([0-9]+):([0-9a-fA-F]{2})")
+
 
 def number(word, top, least=0):
-    is_decimal = word != "" and all(c in "0123456789" for c in word)
-    if not is_decimal or (len(word) > 1 and word[0] == "0") or len(word) > 20:
+    if not NUMBER.fullmatch(word) or not least <= int(word) <= top:
         raise BadLine
-    value = int(word)
-    if not least <= value <= top:
-        raise BadLine
-    return value
-
-
-def some_bytes(digits):
-    if digits == "" or len(digits) % 2 != 0 or any(c not in "0123456789abcdefABCDEF" for c in digits):
-        raise BadLine
-    return bytes.fromhex(digits)
+    return int(word)
 
 
 def patch_of(word):
-    place, colon, digits = word.partition(":")
-    if colon == "":
-        raise BadLine
-    data = some_bytes(digits)
-    offset, star, count = place.partition("*")
-    if star == "":
-        return Write(number(offset, PAGE_LEN), data)
-    if len(data) != 1:
-        raise BadLine
-    return Fill(number(offset, PAGE_LEN), number(count, PAGE_LEN), data[0])
+    if found := WRITE.fullmatch(word):
+        return Write(number(found[1], PAGE_LEN), bytes.fromhex(found[2]))
+    if found := FILL.fullmatch(word):
+        return Fill(number(found[1], PAGE_LEN), number(found[2], PAGE_LEN), int(found[3], 16))
+    raise BadLine
 
 
 def patches_of(word):
-    """Whether the page begins anew, and the patches."""
+    """Whether the page begins again, and the patches."""
     if word == "-":
         return False, ()
     parts = word.split(",")
     is_init = parts[0] == "init"
-    return is_init, tuple(patch_of(part) for part in parts[is_init:])
+    return is_init, tuple(map(patch_of, parts[is_init:]))
 
 
 # Lines
 
-
-def record_of(fields):
-    epoch, own, back, page, block_back = (
-        number(word, top) for word, top in zip(fields, (MAX_EPOCH, MAX_NUMBER, MAX_NUMBER, 65535, MAX_NUMBER))
-    )
-    return Record(epoch, own, back, page, block_back, *patches_of(fields[5]))
-
-
-def cut_of(fields):
-    return Cut(number(fields[0], MAX_EPOCH), number(fields[1], MAX_NUMBER), number(fields[2], MAX_NUMBER))
-
-
-def advance_of(fields):
-    reader = number(fields[2], MOST_READERS, 1) if len(fields) == 3 else 1
-    return Advance(number(fields[0], MAX_EPOCH), reader, number(fields[1], MAX_NUMBER))
-
-
-FACTS = {"rec": ((6,), record_of), "cut": ((3,), cut_of), "min": ((2, 3), advance_of)}
+TOPS = {
+    "rec": (MAX_EPOCH, MAX_NUMBER, MAX_NUMBER, 65535, MAX_NUMBER),
+    "cut": (MAX_EPOCH, MAX_NUMBER, MAX_NUMBER),
+    "min": (MAX_EPOCH, MAX_NUMBER, MOST_READERS),
+}
 
 
 def fact_of(line):
-    kind, *fields = line.split(" ")
-    lengths, read = FACTS.get(kind, ((), None))
-    if len(fields) not in lengths:
+    kind, *words = line.split(" ")
+    numbers = [number(word, top) for word, top in zip(words, TOPS.get(kind, ()))]
+    if kind == "rec" and len(words) == 6:
+        fact = Record(*numbers, *patches_of(words[5]))
+    elif kind == "cut" and len(words) == 3:
+        fact = Cut(*numbers)
+    elif kind == "min" and len(words) in (2, 3):
+        epoch, point, reader = numbers if len(words) == 3 else (*numbers, 1)
+        fact = Advance(epoch, reader, point)
+    else:
         raise BadLine
-    fact = read(fields)
     if not has_shape(fact):
         raise BadLine
     return fact

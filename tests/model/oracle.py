@@ -5,7 +5,7 @@ that a node had, or that and the whole set of the node that answered it.
 """
 
 from model.facts import MAX_NUMBER, MOST_READERS, PAGE_LEN, BadLine, fact_of, number
-from model.rules import Meaning, first_fault, is_at_most, refused, uncovered
+from model.rules import Meaning, first_fault, is_at_most, is_refused, uncovered
 
 MOST_LINES = 1000000
 MOST_NODES = 64
@@ -44,103 +44,91 @@ def step_of(line, count):
 
 def named_number(line, word, top):
     """The number of a line of a word and a number."""
-    kind, space, digits = line.partition(" ")
-    if kind != word or space == "":
+    if not line.startswith(f"{word} "):
         raise BadLine
-    return number(digits, top, 1)
+    return number(line[len(word) + 1 :], top, 1)
 
 
-class Reader:
-    """Reads a text line by line; the first line that it refuses is the bad one."""
+def add(things, thing):
+    if len(things) == MOST_LINES:
+        raise BadLine
+    things.append(thing)
 
-    def __init__(self):
-        self.roster = 1
-        self.facts = []
 
-    def fact_line(self, place, line):
+class Log:
+    """What a text says up to its first bad line; `bad` is the number of that line, or None. Each line has an end."""
+
+    def __init__(self, text):
+        self.roster, self.facts = 1, []
+        *lines, rest = text.split("\n")
+        self.bad = len(lines) + 1 if rest else None
+        for place, line in enumerate(lines):
+            try:
+                self.read(place, line)
+            except BadLine:
+                self.bad = place + 1
+                return
+
+    def read(self, place, line):
         if place == 0 and line.startswith("roster "):
             self.roster = named_number(line, "roster", MOST_READERS)
         else:
-            if len(self.facts) == MOST_LINES:
-                raise BadLine
-            self.facts.append(fact_of(line))
+            add(self.facts, fact_of(line))
 
 
-class ScriptReader(Reader):
-    def __init__(self):
-        super().__init__()
-        self.has_gone = False
-        self.nodes = None
-        self.steps = []
+class Script(Log):
+    """And of a script: how many nodes there are, and the steps."""
 
-    def line(self, place, line):
+    def __init__(self, text):
+        self.has_gone, self.nodes, self.steps = False, None, []
+        super().__init__(text)
+        if self.bad is None and self.nodes is None:
+            self.bad = text.count("\n") + 1
+
+    def read(self, place, line):
         if not self.has_gone and line == "go":
             self.has_gone = True
         elif not self.has_gone:
-            self.fact_line(place, line)
+            super().read(place, line)
         elif self.nodes is None:
             self.nodes = named_number(line, "nodes", MOST_NODES)
         else:
-            if len(self.steps) == MOST_LINES:
-                raise BadLine
-            self.steps.append(step_of(line, len(self.facts)))
-
-
-def bad_line(text, read_line):
-    """The number of the least bad line, or None. What stands behind the last line end is a bad line where it is not empty."""
-    *lines, rest = text.split("\n")
-    for place, line in enumerate(lines):
-        try:
-            read_line(place, line)
-        except BadLine:
-            return place + 1
-    return len(lines) + 1 if rest else None
+            add(self.steps, step_of(line, len(self.facts)))
 
 
 # The fleet
 
 
 class Fleet:
-    def __init__(self, roster, log, count):
-        self.roster = roster
-        self.log = log
-        self.nodes = [frozenset() for _ in range(count)]
-        self.messages = []
-
-    def facts(self, node):
-        return self.nodes[node - 1]
+    def __init__(self, script):
+        self.roster, self.log = script.roster, script.facts
+        self.nodes = [frozenset()] * script.nodes
+        self.messages = {"summary": {}, "delta": {}}  # of each kind: the content of each, by its number
 
     def meaning(self, node):
-        return Meaning(self.roster, self.facts(node))
+        return Meaning(self.roster, self.nodes[node - 1])
 
-    def message(self, kind, m):
-        """The content of a message of a kind, or None."""
-        if 1 <= m <= len(self.messages) and self.messages[m - 1][0] == kind:
-            return self.messages[m - 1][1:]
-        return None
-
-    def send(self, *content):
-        self.messages.append(content)
-        return f"message {len(self.messages)}"
+    def send(self, kind, *content):
+        number = 1 + sum(map(len, self.messages.values()))
+        self.messages[kind][number] = content
+        return f"message {number}"
 
     def step(self, step):
         kind, *values = step
-        named = values[:2] if kind in ("join", "same", "covers") else values[:1]
-        for node in named:
-            if not 1 <= node <= len(self.nodes):
-                return f"no node {node}"
+        for form, value in zip(STEPS[kind], values):
+            if form == "n" and not 1 <= value <= len(self.nodes):
+                return f"no node {value}"
         return getattr(self, kind)(*values)
 
     def take(self, i, place):
         """Of a sound log's facts a segment refuses none; a rule that did would be wrong itself."""
         before, fact = self.meaning(i), self.log[place - 1]
-        shown = refused(before, fact)
-        assert shown is None, f"{fact} is refused for {shown}"
+        assert not is_refused(before, fact), f"{fact} is refused"
         self.nodes[i - 1] |= {fact}
         return "changed" if self.meaning(i).parts() != before.parts() else "unchanged"
 
     def join(self, i, j):
-        self.nodes[i - 1] |= self.facts(j)
+        self.nodes[i - 1] |= self.nodes[j - 1]
         return "joined"
 
     def ask(self, i):
@@ -148,16 +136,14 @@ class Fleet:
         return self.send("summary", meaning.anchor, frozenset(record.key() for record in meaning.kept))
 
     def answer(self, j, m):
-        asked = self.message("summary", m)
-        if asked is None:
+        if m not in self.messages["summary"]:
             return f"no message {m}"
-        return self.send("delta", *asked, self.facts(j))
+        return self.send("delta", *self.messages["summary"][m], self.nodes[j - 1])
 
     def absorb(self, i, m):
-        given = self.message("delta", m)
-        if given is None:
+        if m not in self.messages["delta"]:
             return f"no message {m}"
-        anchor, keys, facts = given
+        anchor, keys, facts = self.messages["delta"][m]
         shown = uncovered(self.meaning(i), anchor, keys)
         if shown is not None:
             return f"uncovered {shown}"
@@ -179,8 +165,8 @@ class Fleet:
         return f"front {meaning.epoch} {meaning.complete} {meaning.min}"
 
     def gap(self, i):
-        kind, number = self.meaning(i).gap or ("", "")
-        return f"gap {kind} {number}" if kind else "no gap"
+        found = self.meaning(i).gap()
+        return f"gap {found[0]} {found[1]}" if found else "no gap"
 
     def read(self, i, page, point, offset, length):
         meaning = self.meaning(i)
@@ -202,29 +188,24 @@ class Fleet:
 
 def check(text):
     """The output and the status."""
-    reader = Reader()
-    bad = bad_line(text, reader.fact_line)
-    return refusal(reader, bad) or (f"sound {len(reader.facts)}\n", 0)
+    log = Log(text)
+    return refusal(log) or (f"sound {len(log.facts)}\n", 0)
 
 
 def run(text):
     """The output and the status."""
-    reader = ScriptReader()
-    bad = bad_line(text, reader.line)
-    if bad is None and reader.nodes is None:
-        bad = text.count("\n") + 1
-    said = refusal(reader, bad)
-    if said:
-        return said
-    fleet = Fleet(reader.roster, reader.facts, reader.nodes)
-    return "".join(fleet.step(step) + "\n" for step in reader.steps), 0
+    script = Script(text)
+    if refused_text := refusal(script):
+        return refused_text
+    fleet = Fleet(script)
+    return "".join(f"{fleet.step(step)}\n" for step in script.steps), 0
 
 
-def refusal(reader, bad):
+def refusal(log):
     """The output and the status for a text with a bad line or a log that is not sound, or None."""
-    if bad is not None:
-        return f"bad line {bad}\n", BAD_LINE
-    fault = first_fault(reader.roster, reader.facts)
+    if log.bad is not None:
+        return f"bad line {log.bad}\n", BAD_LINE
+    fault = first_fault(log.roster, log.facts)
     return fault and (f"unsound {fault[0]} law {fault[1]}\n", UNSOUND)
 
 

@@ -20,10 +20,7 @@ def is_alive(cuts, view, record):
 
 def counted(log):
     """The first truncation of each epoch."""
-    first = {}
-    for cut in of_kind(Cut, log):
-        first.setdefault(cut.epoch, cut)
-    return list(first.values())
+    return list({cut.epoch: cut for cut in reversed(of_kind(Cut, log))}.values())
 
 
 def greatest_below(records, cuts, epoch, number, page=None):
@@ -73,22 +70,11 @@ def broken_law(roster, log, place):
 
 def first_fault(roster, log):
     """The least place, from 1, that breaks a law, with the least law that it breaks, or None."""
-    for place in range(len(log)):
-        law = broken_law(roster, log, place)
-        if law is not None:
-            return place + 1, law
-    return None
+    laws = ((place + 1, broken_law(roster, log, place)) for place in range(len(log)))
+    return next((fault for fault in laws if fault[1] is not None), None)
 
 
 # What a set of facts means
-
-
-def written(image, record):
-    """The page after a record's patches, in their order."""
-    after = bytearray(PAGE_LEN) if record.init else bytearray(image)
-    for patch in record.patches:
-        after[patch.offset : patch.offset + patch.length()] = patch.content()
-    return bytes(after)
 
 
 class Meaning:
@@ -98,7 +84,7 @@ class Meaning:
         self.cuts = frozenset(of_kind(Cut, facts))
         self.epoch = max(k for k in range(len(self.cuts) + 1) if is_begun(self.cuts, k))
         records, advances = of_kind(Record, facts), of_kind(Advance, facts)
-        alive = sorted((r for r in records if self.is_alive(r)), key=lambda r: r.number)
+        alive = sorted(filter(self.is_alive, records), key=lambda r: r.number)
         numbers = {0}
         for record in alive:
             if record.back in numbers:
@@ -114,7 +100,6 @@ class Meaning:
         self.waits = frozenset(a for a in advances if a.epoch > self.epoch)
         self.anchor = max(n for n in numbers if n <= self.min)
         self.kept = frozenset(r for r in records if self.is_waiting(r) or (self.is_alive(r) and r.number > self.anchor))
-        self.gap = self.lacks_record() or self.lacks_cut()
 
     def is_waiting(self, record):
         return record.epoch > self.epoch
@@ -122,26 +107,25 @@ class Meaning:
     def is_alive(self, record):
         return is_alive(self.cuts, self.epoch, record)
 
-    def lacks_record(self):
-        """The number on which the least alive record above the complete point hangs, with its kind, or None."""
-        ahead = [number for number in self.backlinks if number > self.complete]
-        if not ahead:
-            return None
-        number = min(ahead)
+    def gap(self):
+        """What is missing first, or None: the record at the end of the backlinks of the least alive one above the complete point, by its
+        number, else the truncation for which records wait, by its epoch."""
+        number = min((n for n in self.backlinks if n > self.complete), default=None)
         while number in self.backlinks:
             number = self.backlinks[number]
-        return "record", number
-
-    def lacks_cut(self):
-        """The epoch of the truncation for which records wait, with its kind, or None."""
-        return ("truncation", self.epoch + 1) if any(self.is_waiting(r) for r in self.kept) else None
+        if number is not None:
+            return "record", number
+        return ("truncation", self.epoch + 1) if any(map(self.is_waiting, self.kept)) else None
 
     def page(self, page, point):
-        image = bytes(PAGE_LEN)
+        image = bytearray(PAGE_LEN)
         for record in self.linked:
             if record.page == page and record.number <= point:
-                image = written(image, record)
-        return image
+                if record.init:
+                    image = bytearray(PAGE_LEN)
+                for patch in record.patches:
+                    image[patch.offset : patch.offset + len(patch.content())] = patch.content()
+        return bytes(image)
 
     def parts(self):
         """All that two sets of one meaning have in common."""
@@ -161,45 +145,30 @@ def are_past(meaning, cut, but=None):
     return all(r in waiting or meaning.points[r - 1] > cut.lo for r in readers if r != but)
 
 
-def refused_cut(meaning, cut):
-    """What a truncation is refused for by a segment that means this: the other one of its epoch, the minimum, a waiting advance."""
-    others = [c for c in meaning.cuts if c.epoch == cut.epoch and c != cut]
-    if others:
-        return others[0]
-    if cut in meaning.cuts:
-        return None
-    if cut.lo < meaning.min:
-        return meaning.min
-    if are_past(meaning, cut):
-        waits = [w for w in meaning.waits if w.epoch < cut.epoch and w.point > cut.lo]
-        return min(waits, key=lambda w: (w.epoch, w.reader, w.point))
-    return None
+def is_refused_cut(meaning, cut):
+    """For the other one of its epoch, for the minimum, or for a waiting advance."""
+    known = [other for other in meaning.cuts if other.epoch == cut.epoch]
+    return known != [cut] if known else cut.lo < meaning.min or are_past(meaning, cut)
 
 
-def refused_advance(meaning, advance):
-    """What an advance is refused for: its reader, or the truncation of the least later epoch that it contradicts."""
-    if not 1 <= advance.reader <= len(meaning.points):
-        return advance.reader
-    contradicted = [
-        cut
+def is_refused_advance(meaning, advance):
+    """For its reader, or for a truncation of a later epoch that it contradicts."""
+    roster = len(meaning.points)
+    return not 1 <= advance.reader <= roster or any(
+        roster == 1 or (cut.epoch > meaning.epoch and are_past(meaning, cut, advance.reader))
         for cut in meaning.cuts
-        if cut.epoch > advance.epoch
-        and cut.lo < advance.point
-        and (len(meaning.points) == 1 or (cut.epoch > meaning.epoch and are_past(meaning, cut, advance.reader)))
-    ]
-    return min(contradicted, key=lambda cut: cut.epoch, default=None)
+        if cut.epoch > advance.epoch and cut.lo < advance.point
+    )
 
 
-def refused_record(meaning, record):
-    """The other record under its key, where it is compared at all."""
-    if meaning.has_settled(record):
-        return None
-    return next((other for other in meaning.kept if is_another(record, other)), None)
+def is_refused_record(meaning, record):
+    """For the other record under its key, where it is compared at all."""
+    return not meaning.has_settled(record) and any(is_another(record, other) for other in meaning.kept)
 
 
-def refused(meaning, fact):
-    """What a segment that means this refuses a fact for, or None. Of the facts of one sound log it refuses none."""
-    rule = {Cut: refused_cut, Advance: refused_advance, Record: refused_record}[type(fact)]
+def is_refused(meaning, fact):
+    """Whether a segment that means this refuses a fact. Of the facts of one sound log it refuses none."""
+    rule = {Cut: is_refused_cut, Advance: is_refused_advance, Record: is_refused_record}[type(fact)]
     return rule(meaning, fact)
 
 

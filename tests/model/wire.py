@@ -1,7 +1,11 @@
 """The bytes of facts and messages: an encoder, which takes any numbers that fit their fields, and a decoder by the layouts and the
 order of faults alone, which says what `fleet inspect` answers."""
 
-from model.facts import PAGE_LEN, Advance, Cut, Fill
+import itertools
+import math
+import re
+
+from model.facts import MOST_BYTES, MOST_PATCHES, MOST_READERS, PAGE_LEN, Advance, Cut, Fill
 
 # Encoding
 
@@ -17,7 +21,7 @@ def listed(parts, size, more=0):
 
 
 def patch_bytes(patch, has_kind):
-    place = fields((patch.offset, 2), (patch.length(), 2))
+    place = fields((patch.offset, 2), (len(patch.content()), 2))
     if isinstance(patch, Fill):
         return b"\1" + place + bytes([patch.byte])
     return b"\0" * has_kind + place + patch.data
@@ -108,126 +112,89 @@ class Front:
         self.at += size
         return self.data[self.at - size : self.at]
 
-    def whole(self, size):
-        return int.from_bytes(self.bytes(size), "big")
+    def whole(self, size, least=0, most=math.inf):
+        """A number of so many bytes, in its range."""
+        value = int.from_bytes(self.bytes(size), "big")
+        need(least <= value <= most)
+        return value
 
 
 # Facts
 
 
-def links(front):
-    """The fields of a record up to its block backlink: its key, and its line so far."""
-    epoch = front.whole(2)
-    number = front.whole(6)
-    need(number >= 1)
-    back = front.whole(6)
-    need(back < number)
-    page = front.whole(2)
-    block_back = front.whole(6)
-    need(block_back <= back)
-    return (epoch, number), f"rec {epoch} {number} {back} {page} {block_back}"
-
-
-def patch(front, kind, total):
-    """The word of a patch, and the bytes of plain writes so far."""
-    offset = front.whole(2)
-    length = front.whole(2)
-    need(length > 0 and offset + length <= PAGE_LEN)
-    if kind == 1:
-        return f"{offset}*{length}:{front.bytes(1).hex()}", total
-    need(total + length <= 2 * PAGE_LEN)
-    return f"{offset}:{front.bytes(length).hex()}", total + length
-
-
-def patches(front, is_plain):
-    count = front.whole(1)
-    need(count <= 64)
-    words, total, has_fill = [], 0, False
-    for _ in range(count):
-        kind = 0 if is_plain else front.whole(1)
+def patches(front, has_kinds):
+    """The words of a record's patches."""
+    words, total = [], 0
+    for _ in range(front.whole(1, 0, MOST_PATCHES)):
+        kind = front.whole(1) if has_kinds else 0
         need(kind <= 1, TAG)
-        has_fill = has_fill or kind == 1
-        word, total = patch(front, kind, total)
-        words.append(word)
-    return words, has_fill
+        offset = front.whole(2)
+        length = front.whole(2, 1, PAGE_LEN - offset)
+        if kind == 1:
+            words.append(f"{offset}*{length}:{front.bytes(1).hex()}")
+        else:
+            total += length
+            need(total <= MOST_BYTES)
+            words.append(f"{offset}:{front.bytes(length).hex()}")
+    return words
 
 
-def plain_record(front):
-    key, text = links(front)
-    words, _ = patches(front, True)
-    return key, f"{text} {','.join(words) or '-'}"
-
-
-def patched_record(front):
-    key, text = links(front)
-    flags = front.whole(1)
-    need(flags <= 1)
-    words, has_fill = patches(front, False)
-    need(flags == 1 or has_fill)
-    return key, f"{text} {','.join(['init'] * flags + words)}"
-
-
-RECORDS = {0x01: plain_record, 0x06: patched_record}
+def record(front, has_kinds):
+    """The key of a record, and its line."""
+    epoch, number = front.whole(2), front.whole(6, 1)
+    back, page = front.whole(6, 0, number - 1), front.whole(2)
+    block_back = front.whole(6, 0, back)
+    is_init = front.whole(1, 0, 1) if has_kinds else 0
+    words = ["init"] * is_init + patches(front, has_kinds)
+    need(not has_kinds or is_init or any("*" in word for word in words))
+    return (epoch, number), f"rec {epoch} {number} {back} {page} {block_back} {','.join(words) or '-'}"
 
 
 def tagged_record(front):
     tag = front.whole(1)
-    need(tag in RECORDS, TAG)
-    return RECORDS[tag](front)
+    need(tag in (1, 6), TAG)
+    return record(front, tag == 6)
 
 
 def cut(front):
-    epoch = front.whole(2)
-    need(epoch >= 1)
-    lo = front.whole(6)
-    hi = front.whole(6)
-    need(lo <= hi)
+    epoch, lo = front.whole(2, 1), front.whole(6)
+    hi = front.whole(6, lo)
     return epoch, f"cut {epoch} {lo} {hi}"
 
 
 def advance(front, readers=None, above=-1):
-    """An advance, with its reader where a range of readers is given."""
-    epoch = front.whole(2)
-    need(epoch > above)
-    reader = front.whole(1) if readers else 1
-    need(not readers or reader in readers)
-    point = front.whole(6)
-    need(point >= 1)
+    """An advance of a later epoch, with its reader where the first and the last reader are given."""
+    epoch = front.whole(2, above + 1)
+    reader = front.whole(1, *readers) if readers else 1
+    point = front.whole(6, 1)
     return (epoch, reader, point), f"min {epoch} {point}" + (f" {reader}" if readers else "")
 
 
 # Messages
 
 
-def rising(count, read):
-    """So many elements, each above the one before it; what `read` gives first is its place."""
+def rising(front, count, read, *more):
+    """So many elements, each above the one before it; what `read` returns first is its place."""
     places = []
     for _ in range(count):
-        place = read()[0]
+        place = read(front, *more)[0]
         need(not places or place > places[-1], ORDER)
         places.append(place)
     return places
 
 
 def book(front, has_roster):
-    """The least point, the complete epoch, and the inspector's words."""
-    cuts = rising(front.whole(2), lambda: cut(front))
-    complete = 0
-    while complete + 1 in cuts:
-        complete += 1
-    readers = front.whole(1) if has_roster else 1
-    need(not has_roster or 2 <= readers <= 15)
+    """The least point, and the inspector's words."""
+    cuts = rising(front, front.whole(2), cut)
+    complete = next(epoch for epoch in itertools.count() if epoch + 1 not in cuts)
+    readers = front.whole(1, 2, MOST_READERS) if has_roster else 1
     least = min([front.whole(6) for _ in range(readers)])
-    named = range(1, readers + 1) if has_roster else None
-    waits = rising(front.whole(4), lambda: advance(front, named, complete))
+    waits = rising(front, front.whole(4), advance, (1, readers) if has_roster else None, complete)
     return least, f"cuts {len(cuts)} min {least} waits {len(waits)}"
 
 
 def key(front):
-    epoch = front.whole(2)
-    number = front.whole(6)
-    need(number >= 1)
-    return ((epoch, number),)
+    return ((front.whole(2), front.whole(6, 1)),)
 
 
 def image(front):
@@ -238,52 +205,45 @@ def image(front):
 
 def summary(front, has_roster):
     least, text = book(front, has_roster)
-    anchor = front.whole(6)
-    need(anchor <= least)
-    keys = rising(front.whole(4), lambda: key(front))
+    anchor = front.whole(6, 0, least)
+    keys = rising(front, front.whole(4), key)
     return f"summary {text} anchor {anchor} keys {len(keys)}"
 
 
 def delta(front, has_roster):
     least, text = book(front, has_roster)
-    base = front.whole(6)
-    need(base <= least)
-    count = front.whole(4)
-    need(base > 0 or count == 0)
-    pages = rising(count, lambda: image(front))
-    records = rising(front.whole(4), lambda: tagged_record(front))
+    base = front.whole(6, 0, least)
+    pages = rising(front, front.whole(4, 0, math.inf if base else 0), image)
+    records = rising(front, front.whole(4), tagged_record)
     return f"delta {text} base {base} pages {len(pages)} records {len(records)}"
 
 
 def piece(front, has_roster):
-    front.whole(8)
+    front.bytes(8)
     index = front.whole(4)
-    total = front.whole(4)
-    need(index < total)
+    total = front.whole(4, index + 1)
     kind = front.whole(1)
     need(kind <= (0 if has_roster else 2), TAG)
     need((kind == 0) == (index == 0))
     if kind == 0:
         least, _ = book(front, has_roster)
-        need(front.whole(6) <= least)
+        front.whole(6, 0, least)
         holds = "head"
     elif kind == 1:
         holds = f"page {image(front)[0]}"
     else:
-        count = front.whole(1)
-        need(1 <= count <= 64)
-        holds = f"records {len(rising(count, lambda: tagged_record(front)))}"
+        holds = f"records {len(rising(front, front.whole(1, 1, 64), tagged_record))}"
     return f"piece {index} of {total} {holds}"
 
 
 # Values
 
 FORMS = {
-    0x01: lambda front: plain_record(front)[1],
+    0x01: lambda front: record(front, False)[1],
     0x02: lambda front: cut(front)[1],
     0x03: lambda front: advance(front)[1],
-    0x05: lambda front: advance(front, range(2, 16))[1],
-    0x06: lambda front: patched_record(front)[1],
+    0x05: lambda front: advance(front, (2, MOST_READERS))[1],
+    0x06: lambda front: record(front, True)[1],
     0x10: lambda front: summary(front, False),
     0x11: lambda front: delta(front, False),
     0x20: lambda front: summary(front, True),
@@ -304,7 +264,7 @@ def value(data):
 
 def line(digits):
     """The answer to a line of a capture, or to the bytes of a value in hexadecimal digits."""
-    if len(digits) % 2 or not all(c in b"0123456789abcdefABCDEF" for c in digits):
+    if not re.fullmatch(b"(?:[0-9a-fA-F]{2})*", digits):
         return "bad hex"
     try:
         return value(bytes.fromhex(digits.decode()))
@@ -314,7 +274,5 @@ def line(digits):
 
 def inspected(text):
     """What is answered to the lines of a capture."""
-    lines = text.split(b"\n")
-    if lines[-1] == b"":
-        lines.pop()
-    return "".join(line(digits) + "\n" for digits in lines).encode()
+    *lines, rest = text.split(b"\n")
+    return "".join(f"{line(digits)}\n" for digits in [*lines, *[rest] * bool(rest)]).encode()
