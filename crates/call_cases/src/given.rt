@@ -5,7 +5,7 @@ use crate::keeping::add;
 use bytes::BytesMut;
 use case_io::Row;
 use page_base::BaseImage;
-use redo_core::{Advance, Cut, Fact, Key, Page, Patch, Record, SharedPage, Write};
+use redo_core::{Advance, Cut, Fact, Key, Page, Patch, Record, RecordHead, SharedPage, Write};
 use script_text::{FactError, read_fact};
 use std::alloc::{AllocError, Global};
 
@@ -27,11 +27,14 @@ pub fn patch(alloc: Global, offset: u16, byte: u8, times: u8) -> Result<Patch, A
 /// A record of one write: epoch, LSN, segment backlink, page, block backlink, offset, byte, and how many times the byte is written.
 fn record(row: &Row, init: bool) -> Result<Option<Fact>, AllocError> {
     let patch = patch(row.alloc, row.short(5), row.byte(6), row.byte(7))?;
-    let (epoch, number, back) = (row.short(0), row.number(1), row.number(2));
-    let (page, block_back) = (row.short(3), row.number(4));
-    let made = Record::with_one(
-        row.alloc, epoch, number, back, page, block_back, init, patch,
-    )?;
+    let head = RecordHead {
+        epoch: row.short(0),
+        number: row.number(1),
+        back: row.number(2),
+        page: row.short(3),
+        block_back: row.number(4),
+    };
+    let made = Record::with_one(row.alloc, head, init, patch)?;
     Ok(made.map(Fact::Record))
 }
 

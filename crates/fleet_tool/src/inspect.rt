@@ -14,7 +14,7 @@ use redo_wire::{
 use script_text::fact_text;
 use std::alloc::{AllocError, Global};
 use std::thread::Threads;
-use text::{decoded, first_part, labelled, split_behind, worded};
+use text::{decoded, first_part, labelled, split_after, worded};
 
 /// How many bytes of a capture are a thread's at least: fewer are described sooner than a thread is started.
 const LEAST_BLOCK: usize = 65536;
@@ -146,7 +146,7 @@ fn blocks_text<R: Threads + Sync>(
     }
     // The last block alone is the second text: the shorter the text that is joined last, the less memory both texts take.
     let others = blocks - 1;
-    let Some((first, second)) = split_behind(input, b'\n', input.len() / blocks * others) else {
+    let Some((first, second)) = split_after(input, b'\n', input.len() / blocks * others) else {
         return lines_text(alloc, input);
     };
     let front = || -> Result<String, AllocError>

@@ -1,10 +1,9 @@
-ghost use Rattle.std.specs.Prelude.{◌≡◌, ◌↔◌, IsTrue, IfOk, IfErr, None};
-ghost use Rattle.redo_core.specs.Sound.{HasShape};
+ghost use Rattle.std.specs.Prelude.{◌≡◌, ◌↔◌, IsTrue, IfOk};
 
 use crate::advances::Advance;
 use crate::cuts::Cut;
 use crate::records::Record;
-use std::alloc::{AllocError, AllocFailed};
+use std::alloc::AllocError;
 
 /// What a database sends to its segments: a redo record, a truncation, or an advance of a reader's point.
 #[derive(Drop)]
@@ -20,14 +19,6 @@ impl Fact {
         ensures { IfOk result (λ f. f ≡ self.now) }
     {
         self.clone()
-    }
-
-    /// The fact, whose copies share its patches as those of every record do.
-    pub fn share(self) -> Result<Self, AllocFailed<Self>>
-        ensures ok { IfOk result (λ f. f ≡ self) }
-        ensures err { IfErr result (λ e. e.value ≡ self) }
-    {
-        Ok(self)
     }
 
     /// Whether the other fact equals this one.

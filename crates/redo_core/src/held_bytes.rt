@@ -1,6 +1,6 @@
 //! The bytes of a write: a few are stored in the write itself, and more have memory of their own.
 
-ghost use Rattle.std.specs.Prelude.{◌≡◌, IfOk, IfSome, take};
+ghost use Rattle.std.specs.Prelude.{◌≡◌, ◌↔◌, IsTrue, IfOk, IfSome, take};
 
 use std::alloc::{AllocError, Global};
 use std::marker::Model;
@@ -73,6 +73,17 @@ impl HeldBytes {
         }
     }
 
+    /// Whether the other has the same bytes. Few equal bytes are mostly found by one comparison of all that is stored in place.
+    pub fn is_same(&self, other: &HeldBytes) -> bool
+        ensures { IsTrue result ↔ (self.now ≡ other.now) }
+    {
+        match (&self.holder, &other.holder) {
+            (Holder::Short(len, own), Holder::Short(other_len, others))
+                if *len == *other_len && are_same_bytes(own, others) => { true }
+            _ => are_same_bytes(self.as_slice(), other.as_slice()),
+        }
+    }
+
     /// Equal bytes. The only error is an allocation failure.
     pub fn copy(&self) -> Result<Self, AllocError>
         ensures { IfOk result (λ b. b ≡ self.now) }
@@ -113,4 +124,18 @@ fn short_of(bytes: &[u8]) -> Option<HeldBytes>
     Some(HeldBytes {
         holder: Holder::Short(len as u8, short),
     })
+}
+
+// Whether two byte strings are equal. It reads all bytes, so that the compiler can compare many at once.
+fn are_same_bytes(left: &[u8], right: &[u8]) -> bool
+    ensures { IsTrue result ↔ (left.now ≡ right.now) }
+{
+    if left.len() != right.len() {
+        return false;
+    }
+    let mut same = true;
+    for (i, byte) in left.iter().enumerate() {
+        same &= *byte == right[i];
+    }
+    same
 }

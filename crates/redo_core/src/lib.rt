@@ -32,7 +32,7 @@ pub use laws::{Law, LawFault};
 pub use pages::{Page, apply};
 pub use patches::{Body, Patch};
 pub use read_points::ReadPoints;
-pub use records::{Record, RecordFault};
+pub use records::{Record, RecordFault, RecordHead};
 pub use refusal::Refused;
 pub use rosters::Roster;
 pub use shapes::{MAX_BYTES, MAX_NUMBER, MAX_PATCHES, MAX_READERS, PAGE_LEN, ShapeFault};

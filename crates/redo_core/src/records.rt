@@ -29,6 +29,16 @@ pub enum RecordFault {
     Memory,
 }
 
+/// The fields of a record up to its block backlink: its epoch and LSN, its segment backlink, its page, its block backlink.
+#[derive(Clone, Copy)]
+pub struct RecordHead {
+    pub epoch: u16,
+    pub number: u64,
+    pub back: u64,
+    pub page: u16,
+    pub block_back: u64,
+}
+
 /// All that a record says beside its patches.
 #[derive(Clone, Copy)]
 struct Head {
@@ -158,29 +168,25 @@ impl Record {
     /// only error is an allocation failure.
     pub fn with_one(
         alloc: Global,
-        epoch: u16,
-        number: u64,
-        back: u64,
-        page: u16,
-        block_back: u64,
+        head: RecordHead,
         init: bool,
         patch: Patch,
     ) -> Result<Option<Self>, AllocError>
-        ensures some { let given = record_with epoch number back page block_back init (patch ∷ []) in
+        ensures some { let given = record_with head.epoch head.number head.back head.page head.block_back init (patch ∷ []) in
             IfOk result (λ o. IfSome o (λ r. (r ≡ given) × (record_fault given ≡ None))) }
-        ensures none { let given = record_with epoch number back page block_back init (patch ∷ []) in
+        ensures none { let given = record_with head.epoch head.number head.back head.page head.block_back init (patch ∷ []) in
             IfOk result (λ o. IfNone o (IsSome (record_fault given))) }
     {
         let contents = patches_fault(slice::from_ref(&patch));
-        match first_fault(number, back, block_back, contents) {
+        match first_fault(head.number, head.back, head.block_back, contents) {
             Some(_) => Ok(None),
             None => {
                 let head = Head {
-                    epoch,
-                    number,
-                    back,
-                    page,
-                    block_back,
+                    epoch: head.epoch,
+                    number: head.number,
+                    back: head.back,
+                    page: head.page,
+                    block_back: head.block_back,
                     init,
                 };
                 let body = KeptBody::of_patch(alloc, patch)?;
@@ -272,14 +278,6 @@ impl Record {
         ensures { IfOk result (λ r. r ≡ self.now) }
     {
         self.clone()
-    }
-
-    /// The record, whose copies share its patches as those of every record do.
-    pub fn share(self) -> Result<Self, AllocFailed<Self>>
-        ensures ok { IfOk result (λ r. r ≡ self) }
-        ensures err { IfErr result (λ e. e.value ≡ self) }
-    {
-        Ok(self)
     }
 
     /// Whether the other record equals this one, patch by patch: a fill is another patch than a write of equal bytes.

@@ -70,7 +70,7 @@ impl Write {
     pub fn is_same(&self, other: &Write) -> bool
         ensures { IsTrue result ↔ (self.now ≡ other.now) }
     {
-        self.offset == other.offset && are_same_bytes(self.bytes(), other.bytes())
+        self.offset == other.offset && self.bytes.is_same(&other.bytes)
     }
 }
 
@@ -83,18 +83,4 @@ impl Clone for Write {
             bytes: self.bytes.copy()?,
         })
     }
-}
-
-// Whether two byte strings are equal. It reads all bytes, so that the compiler can compare many at once.
-fn are_same_bytes(left: &[u8], right: &[u8]) -> bool
-    ensures { IsTrue result ↔ (left.now ≡ right.now) }
-{
-    if left.len() != right.len() {
-        return false;
-    }
-    let mut same = true;
-    for (i, byte) in left.iter().enumerate() {
-        same &= *byte == right[i];
-    }
-    same
 }

@@ -9,7 +9,7 @@ use Rattle.redo_core.specs.Data.{RecordData}
 use Rattle.redo_core.specs.Shape.{record_fault}
 use Rattle.redo_core.specs.declared.shapes.ShapeFault.{ShapeFault}
 use Rattle.redo_core.specs.declared.patches.Patch.{Patch}
-use Rattle.redo_wire.specs.declared.records.RecordHead.{RecordHead}
+use Rattle.redo_core.specs.declared.records.RecordHead.{RecordHead}
 use Rattle.redo_wire.specs.Reading.{shaped}
 use Rattle.redo_wire.specs.Fields.{byte_at, u16_at, u48_at, u16, u48}
 use Rattle.redo_wire.specs.Lists.{each_at}

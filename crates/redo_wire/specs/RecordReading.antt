@@ -5,7 +5,7 @@ use Rattle.redo_core.specs.Data.{RecordData, record_with}
 use Rattle.redo_core.specs.Shape.{bytes_in}
 use Rattle.redo_core.specs.declared.patches.Patch.{Patch}
 use Rattle.redo_core.specs.declared.patches.Patch.TheVariants.{Bytes, Fill}
-use Rattle.redo_wire.specs.declared.records.RecordHead.{RecordHead}
+use Rattle.redo_core.specs.declared.records.RecordHead.{RecordHead}
 use Rattle.redo_wire.specs.declared.faults.WireFault.TheVariants.{UnknownTag}
 use Rattle.redo_wire.specs.Reading.{◌>>=◌, Read, shaped, mapped}
 use Rattle.redo_wire.specs.Fields.{byte_at, bytes_at, u16_at, u48_at}

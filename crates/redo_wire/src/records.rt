@@ -13,21 +13,11 @@ use crate::lists::read_list;
 use crate::patches::{PatchList, body_has_fill, has_fill, patch_count, put_patches};
 use crate::tags;
 use bytes::{BufMut, BytesMut};
-use redo_core::{Body, MAX_BYTES, MAX_PATCHES, Patch, Record, RecordFault};
+use redo_core::{Body, MAX_BYTES, MAX_PATCHES, Patch, Record, RecordFault, RecordHead};
 use std::alloc::{AllocError, Global};
 use std::mem::size_of;
 
 const PATCH_SIZE: usize = size_of::<Patch>();
-
-/// The fields of a record up to its block backlink.
-#[derive(Clone, Copy)]
-pub struct RecordHead {
-    pub epoch: u16,
-    pub number: u64,
-    pub back: u64,
-    pub page: u16,
-    pub block_back: u64,
-}
 
 // ---- reading
 
@@ -90,7 +80,7 @@ fn read_record_part(
         init,
         patches,
     ) {
-        Ok(record) => Ok((record.share()?, rest)),
+        Ok(record) => Ok((record, rest)),
         Err(refused) => match refused.fault {
             RecordFault::Shape(_) => Err(WireError::Fault(WireFault::Shape)),
             RecordFault::Memory => Err(WireError::Memory),

@@ -8,7 +8,7 @@ use Rattle.redo_core.specs.declared.facts.Fact.{Fact}
 use Rattle.redo_core.specs.declared.facts.Fact.TheVariants.{Record, Cut, Advance}
 use Rattle.text.specs.Parts.{◌>>=◌}
 use Rattle.text.specs.Fields.{numbers_of, of_two, of_three, of_five}
-use Rattle.script_text.specs.declared.contents.Head.{Head}
+use Rattle.redo_core.specs.declared.records.RecordHead.{RecordHead}
 use Rattle.script_text.specs.FactLine.{Contents, contents_of, unless, shaped, head_numbers, record_limits, record_line, cut_line, advance_line, fact_line}
 use Rattle.text.proofs.Forms.{numbers_apart}
 use Rattle.script_text.proofs.RecordContents.{no_record}
@@ -52,7 +52,7 @@ record_none : (fields : List (List ℕ)) → (length fields ≡ 6 → record_by 
 record_none fields none = search (rules, six_fields, other_fields)
 
 -- a record of numbers and contents
-pub record_made : (fields : List (List ℕ)) (head : Head) (c : Contents) → length fields ≡ 6
+pub record_made : (fields : List (List ℕ)) (head : RecordHead) (c : Contents) → length fields ≡ 6
     → numbers_of record_limits (take 5 fields) ≡ Some (head_numbers head) → contents_of (get_or fields 5 []) ≡ Some c
     → record_line fields ≡ unless (fault_with head c) (Record (record_with head.epoch head.number head.back head.page head.block_back c.init c.patches))
 unfolding shaped

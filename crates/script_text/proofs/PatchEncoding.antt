@@ -12,7 +12,7 @@ use Rattle.redo_core.specs.Writes.{WriteData}
 use Rattle.redo_core.specs.declared.patches.Patch.{Patch}
 use Rattle.redo_core.specs.declared.patches.Patch.TheVariants.{Bytes, Fill}
 use Rattle.redo_core.specs.declared.facts.Fact.{Fact}
-use Rattle.script_text.specs.declared.contents.Head.{Head}
+use Rattle.redo_core.specs.declared.records.RecordHead.{RecordHead}
 use Rattle.text.specs.Number.{decimal_value}
 use Rattle.text.specs.Parts.{◌>>=◌, parts_at}
 use Rattle.text.specs.HexDigits.{decoded}
@@ -217,7 +217,7 @@ contents_lack_space text init ps (inl dash) = rw dash.0 refl
 contents_lack_space text init ps (inr more) = rw more.1 (joined_lack 32 (behind_init init more.0) refl (pieces_lack 32 init more.0 ps space more.2))
 
 -- what makes a record is one field
-pub record_is_field : (head : Head) (text : List ℕ) (fact : Fact) → record_of_contents head (contents_of text) ≡ Some fact → parts_at 32 text ≡ text ∷ []
+pub record_is_field : (head : RecordHead) (text : List ℕ) (fact : Fact) → record_of_contents head (contents_of text) ≡ Some fact → parts_at 32 text ≡ text ∷ []
 record_is_field head text fact e =
     elim (found (contents_of text)) [
       | inl none ↦ absurd (cc (rw none at e))

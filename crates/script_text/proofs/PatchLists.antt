@@ -6,7 +6,7 @@ use Rattle.redo_core.specs.declared.patches.Patch as patches
 use Rattle.text.specs.Parts.{◌>>=◌, parts_at}
 use Rattle.text.proofs.Options.{bind_some, some_is, true_is, no_test}
 use Rattle.text.proofs.Split.{some_parts}
-use Rattle.script_text.specs.declared.contents.Head.{Head}
+use Rattle.redo_core.specs.declared.records.RecordHead.{RecordHead}
 use Rattle.script_text.specs.declared.reasons.FactError.{FactError}
 use Rattle.script_text.specs.declared.reasons.FactError.TheVariants.{Memory, Bad}
 use Rattle.script_text.specs.declared.reasons.LineReason.{LineReason}
@@ -70,7 +70,7 @@ undashed_is : (text : List ℕ) → bytes_eq text (codes "-") ≡ false → text
 undashed_is text undashed e = true≢false (sym (ap (λ (t : List ℕ). bytes_eq t (codes "-")) e) ∙ undashed)
 
 -- the words for patches, by those between commas
-pub body_is : (head : Head) (text : List ℕ) (init : Bool) (words : List (List ℕ)) (reason : LineReason) → bytes_eq text (codes "-") ≡ false
+pub body_is : (head : RecordHead) (text : List ℕ) (init : Bool) (words : List (List ℕ)) (reason : LineReason) → bytes_eq text (codes "-") ≡ false
     → patch_words (parts_at 44 text) ≡ words → begins_anew (parts_at 44 text) ≡ init → IsPatchesReason head init words reason → IsBodyReason head text reason
 body_is head text init words (Shape fault) undashed is anew h =
     let read = contents_is text undashed (some_parts 44 text) ∙ rw (is, anew, h.1) refl in
@@ -91,48 +91,48 @@ bad_more Why Other Memory more h = tt
 bad_more Why Other (Bad reason) more h = more reason h
 
 -- patches whose record has a fault
-shape_is : (head : Head) (init : Bool) (words : List (List ℕ)) (ps : List patches.Patch) (reason : LineReason) → each_patch words ≡ Some ps
+shape_is : (head : RecordHead) (init : Bool) (words : List (List ℕ)) (ps : List patches.Patch) (reason : LineReason) → each_patch words ≡ Some ps
     → IsShape (fault_with head (contents init ps)) reason → IsPatchesReason head init words reason
 shape_is head init words ps (Shape fault) e h = (ps, e, h)
 shape_is head init words ps _ e h = absurd h
 
-pub shape_error : (head : Head) (init : Bool) (words : List (List ℕ)) (ps : List patches.Patch) (e : FactError) → each_patch words ≡ Some ps
+pub shape_error : (head : RecordHead) (init : Bool) (words : List (List ℕ)) (ps : List patches.Patch) (e : FactError) → each_patch words ≡ Some ps
     → IfBad (IsShape (fault_with head (contents init ps))) e → IfBad (IsPatchesReason head init words) e
 shape_error head init words ps e read h = bad_more (IsShape (fault_with head (contents init ps))) (IsPatchesReason head init words) e
     (λ reason is. shape_is head init words ps reason read is) h
 
-pub body_error : (head : Head) (text : List ℕ) (init : Bool) (words : List (List ℕ)) (e : FactError) → bytes_eq text (codes "-") ≡ false
+pub body_error : (head : RecordHead) (text : List ℕ) (init : Bool) (words : List (List ℕ)) (e : FactError) → bytes_eq text (codes "-") ≡ false
     → patch_words (parts_at 44 text) ≡ words → begins_anew (parts_at 44 text) ≡ init → IfBad (IsPatchesReason head init words) e → IfBad (IsBodyReason head text) e
 body_error head text init words e undashed is anew h = bad_more (IsPatchesReason head init words) (IsBodyReason head text) e
     (λ reason why. body_is head text init words reason undashed is anew why) h
 
 -- one word that is neither a dash nor `init`
-pub word_error : (head : Head) (text : List ℕ) (e : FactError) → parts_at 44 text ≡ text ∷ [] → bytes_eq text (codes "-") ≡ false → bytes_eq text (codes "init") ≡ false
+pub word_error : (head : RecordHead) (text : List ℕ) (e : FactError) → parts_at 44 text ≡ text ∷ [] → bytes_eq text (codes "-") ≡ false → bytes_eq text (codes "init") ≡ false
     → IfBad (IsPatchesReason head false (text ∷ [])) e → IfBad (IsBodyReason head text) e
 word_error head text e one undashed other h = body_error head text false (text ∷ []) e undashed (rw (one, other) refl) (rw (one, other) refl) h
 
 -- the word `init` alone
-pub init_error : (head : Head) (text : List ℕ) (e : FactError) → parts_at 44 text ≡ text ∷ [] → bytes_eq text (codes "-") ≡ false → bytes_eq text (codes "init") ≡ true
+pub init_error : (head : RecordHead) (text : List ℕ) (e : FactError) → parts_at 44 text ≡ text ∷ [] → bytes_eq text (codes "-") ≡ false → bytes_eq text (codes "init") ≡ true
     → IfBad (IsShape (fault_with head (contents true []))) e → IfBad (IsBodyReason head text) e
 init_error head text e one undashed is h = body_error head text true [] e undashed (rw (one, is) refl) (rw (one, is) refl) (shape_error head true [] [] e refl h)
 
-dash_is : (head : Head) (text : List ℕ) (reason : LineReason) → bytes_eq text (codes "-") ≡ true → IsShape (fault_with head (contents false [])) reason
+dash_is : (head : RecordHead) (text : List ℕ) (reason : LineReason) → bytes_eq text (codes "-") ≡ true → IsShape (fault_with head (contents false [])) reason
     → IsBodyReason head text reason
 unfolding contents_of
 dash_is head text (Shape fault) dashed h = (contents false [], rw dashed refl, h)
 dash_is head text _ dashed h = absurd h
 
-pub dash_error : (head : Head) (text : List ℕ) (e : FactError) → bytes_eq text (codes "-") ≡ true → IfBad (IsShape (fault_with head (contents false []))) e
+pub dash_error : (head : RecordHead) (text : List ℕ) (e : FactError) → bytes_eq text (codes "-") ≡ true → IfBad (IsShape (fault_with head (contents false []))) e
     → IfBad (IsBodyReason head text) e
 dash_error head text e dashed h = bad_more (IsShape (fault_with head (contents false []))) (IsBodyReason head text) e (λ reason is. dash_is head text reason dashed is) h
 
 -- patches behind the word `init` and a comma, and without it
-pub anew_error : (head : Head) (text front behind : List ℕ) (e : FactError) → parts_at 44 text ≡ front ∷ parts_at 44 behind → bytes_eq front (codes "init") ≡ true
+pub anew_error : (head : RecordHead) (text front behind : List ℕ) (e : FactError) → parts_at 44 text ≡ front ∷ parts_at 44 behind → bytes_eq front (codes "init") ≡ true
     → IfBad (IsPatchesReason head true (parts_at 44 behind)) e → IfBad (IsBodyReason head text) e
 anew_error head text front behind e parts is h = body_error head text true (parts_at 44 behind) e (no_dash text front (parts_at 44 behind) parts (some_parts 44 behind))
     (rw (parts, is) refl) (rw (parts, is) refl) h
 
-pub kept_error : (head : Head) (text front behind : List ℕ) (e : FactError) → parts_at 44 text ≡ front ∷ parts_at 44 behind → bytes_eq front (codes "init") ≡ false
+pub kept_error : (head : RecordHead) (text front behind : List ℕ) (e : FactError) → parts_at 44 text ≡ front ∷ parts_at 44 behind → bytes_eq front (codes "init") ≡ false
     → IfBad (IsPatchesReason head false (parts_at 44 text)) e → IfBad (IsBodyReason head text) e
 kept_error head text front behind e parts other h = body_error head text false (parts_at 44 text) e (no_dash text front (parts_at 44 behind) parts (some_parts 44 behind))
     (rw (parts, other) refl) (rw (parts, other) refl) h
@@ -143,29 +143,29 @@ on_error : {X : Type 0} (P Q : FactError → Type 0) (r : Result X FactError) �
 on_error P Q (Ok x) more h = tt
 on_error P Q (Err e) more h = more e h
 
-pub dash_result : {X : Type 0} (head : Head) (text : List ℕ) (items : List patches.Patch) (r : Result X FactError) → bytes_eq text (codes "-") ≡ true → items ≡ []
+pub dash_result : {X : Type 0} (head : RecordHead) (text : List ℕ) (items : List patches.Patch) (r : Result X FactError) → bytes_eq text (codes "-") ≡ true → items ≡ []
     → IfErr r (IfBad (IsShape (fault_with head (contents false items)))) → IfErr r (IfBad (IsBodyReason head text))
 dash_result head text items r dashed none h = on_error (IfBad (IsShape (fault_with head (contents false [])))) (IfBad (IsBodyReason head text)) r
     (λ e why. dash_error head text e dashed why) (rw none at h)
 
-pub init_result : {X : Type 0} (head : Head) (text : List ℕ) (items : List patches.Patch) (r : Result X FactError) → parts_at 44 text ≡ text ∷ []
+pub init_result : {X : Type 0} (head : RecordHead) (text : List ℕ) (items : List patches.Patch) (r : Result X FactError) → parts_at 44 text ≡ text ∷ []
     → bytes_eq text (codes "-") ≡ false → bytes_eq text (codes "init") ≡ true → items ≡ []
     → IfErr r (IfBad (IsShape (fault_with head (contents true items)))) → IfErr r (IfBad (IsBodyReason head text))
 init_result head text items r one undashed is none h = on_error (IfBad (IsShape (fault_with head (contents true [])))) (IfBad (IsBodyReason head text)) r
     (λ e why. init_error head text e one undashed is why) (rw none at h)
 
-pub word_result : {X : Type 0} (head : Head) (text : List ℕ) (r : Result X FactError) → parts_at 44 text ≡ text ∷ []
+pub word_result : {X : Type 0} (head : RecordHead) (text : List ℕ) (r : Result X FactError) → parts_at 44 text ≡ text ∷ []
     → bytes_eq text (codes "-") ≡ false → bytes_eq text (codes "init") ≡ false
     → IfErr r (IfBad (IsPatchesReason head false (text ∷ []))) → IfErr r (IfBad (IsBodyReason head text))
 word_result head text r one undashed other h = on_error (IfBad (IsPatchesReason head false (text ∷ []))) (IfBad (IsBodyReason head text)) r
     (λ e why. word_error head text e one undashed other why) h
 
-pub anew_result : {X : Type 0} (head : Head) (text front behind : List ℕ) (r : Result X FactError) → parts_at 44 text ≡ front ∷ parts_at 44 behind
+pub anew_result : {X : Type 0} (head : RecordHead) (text front behind : List ℕ) (r : Result X FactError) → parts_at 44 text ≡ front ∷ parts_at 44 behind
     → bytes_eq front (codes "init") ≡ true → IfErr r (IfBad (IsPatchesReason head true (parts_at 44 behind))) → IfErr r (IfBad (IsBodyReason head text))
 anew_result head text front behind r parts is h = on_error (IfBad (IsPatchesReason head true (parts_at 44 behind))) (IfBad (IsBodyReason head text)) r
     (λ e why. anew_error head text front behind e parts is why) h
 
-pub kept_result : {X : Type 0} (head : Head) (text front behind : List ℕ) (r : Result X FactError) → parts_at 44 text ≡ front ∷ parts_at 44 behind
+pub kept_result : {X : Type 0} (head : RecordHead) (text front behind : List ℕ) (r : Result X FactError) → parts_at 44 text ≡ front ∷ parts_at 44 behind
     → bytes_eq front (codes "init") ≡ false → IfErr r (IfBad (IsPatchesReason head false (parts_at 44 text))) → IfErr r (IfBad (IsBodyReason head text))
 kept_result head text front behind r parts other h = on_error (IfBad (IsPatchesReason head false (parts_at 44 text))) (IfBad (IsBodyReason head text)) r
     (λ e why. kept_error head text front behind e parts other why) h

@@ -11,7 +11,7 @@ use Rattle.redo_core.specs.declared.shapes.ShapeFault.{ShapeFault}
 use Rattle.redo_core.specs.declared.patches.Patch.{Patch}
 use Rattle.redo_core.specs.declared.facts.Fact.{Fact}
 use Rattle.redo_core.specs.declared.facts.Fact.TheVariants.{Record}
-use Rattle.script_text.specs.declared.contents.Head.{Head}
+use Rattle.redo_core.specs.declared.records.RecordHead.{RecordHead}
 use Rattle.text.specs.Number.{decimal_value}
 use Rattle.text.specs.Parts.{◌>>=◌, parts_at}
 use Rattle.text.specs.Fields.{field_of}
@@ -117,7 +117,7 @@ many_patches : (r : RecordData) → max_patches < length r.patches → shaped (R
 unfolding shaped
 many_patches r lt = search rules
 
-pub no_record : (head : Head) (init : Bool) (o : Option (List Patch)) → FitNoRecord o → record_of_patches head init o ≡ None
+pub no_record : (head : RecordHead) (init : Bool) (o : Option (List Patch)) → FitNoRecord o → record_of_patches head init o ≡ None
 no_record head init o fit = search (rules, many_patches)
 
 -- ---- contents with a comma
@@ -125,15 +125,15 @@ no_record head init o fit = search (rules, many_patches)
 pub no_dash : (text front : List ℕ) (rest : List (List ℕ)) → parts_at 44 text ≡ front ∷ rest → 0 < length rest → bytes_eq text (codes "-") ≡ false
 no_dash text front rest e some = search rules
 
-of_patches : (head : Head) (init : Bool) (o : Option (List Patch)) → record_of_contents head (o >>= (λ ps. here (contents init ps))) ≡ record_of_patches head init o
+of_patches : (head : RecordHead) (init : Bool) (o : Option (List Patch)) → record_of_contents head (o >>= (λ ps. here (contents init ps))) ≡ record_of_patches head init o
 of_patches head init o = search rules
 
-pub anew_with : (head : Head) (text front behind : List ℕ) → parts_at 44 text ≡ front ∷ parts_at 44 behind → bytes_eq front (codes "init") ≡ true
+pub anew_with : (head : RecordHead) (text front behind : List ℕ) → parts_at 44 text ≡ front ∷ parts_at 44 behind → bytes_eq front (codes "init") ≡ true
     → record_of_contents head (contents_of text) ≡ record_of_patches head true (each_patch (parts_at 44 behind))
 unfolding contents_of contents_from
 anew_with head text front behind e is = search rules
 
-pub kept_with : (head : Head) (text front behind : List ℕ) → parts_at 44 text ≡ front ∷ parts_at 44 behind → bytes_eq front (codes "init") ≡ false
+pub kept_with : (head : RecordHead) (text front behind : List ℕ) → parts_at 44 text ≡ front ∷ parts_at 44 behind → bytes_eq front (codes "init") ≡ false
     → record_of_contents head (contents_of text) ≡ record_of_patches head false (each_patch (parts_at 44 text))
 unfolding contents_of contents_from
 kept_with head text front behind e is = search (rules, no_dash, some_parts)

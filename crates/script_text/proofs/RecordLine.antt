@@ -8,7 +8,7 @@ use Rattle.text.specs.Parts.{◌>>=◌, parts_at}
 use Rattle.text.specs.Fields.{numbers_of, numbers_then, of_five}
 use Rattle.text.proofs.Options.{some_is}
 use Rattle.text.proofs.Split.{some_parts}
-use Rattle.script_text.specs.declared.contents.Head.{Head}
+use Rattle.redo_core.specs.declared.records.RecordHead.{RecordHead}
 use Rattle.script_text.specs.declared.reasons.LineReason.{LineReason}
 use Rattle.script_text.specs.declared.reasons.LineReason.TheVariants.{CarriageReturn, UnknownWord, FieldCount, AdvanceFieldCount, Field, Zero, PastPage, ManyPatches, Patch, Shape}
 use Rattle.script_text.specs.FactLine.{Contents, contents_of, shaped, record_of_contents, head_numbers, record_limits, record_line}
@@ -34,10 +34,10 @@ record_line_is : (fields : List (List ℕ)) → record_line fields ≡ read_behi
 unfolding record_line
 record_line_is fields = search rules
 
-made_is : (head : Head) (o : Option Contents) → made_with (head_numbers head) o ≡ record_of_contents head o
+made_is : (head : RecordHead) (o : Option Contents) → made_with (head_numbers head) o ≡ record_of_contents head o
 made_is head o = search rules
 
-pub record_is : (head : Head) (fields : List (List ℕ)) (text : List ℕ) → numbers_then record_limits fields ≡ Some (head_numbers head, parts_at 32 text)
+pub record_is : (head : RecordHead) (fields : List (List ℕ)) (text : List ℕ) → numbers_then record_limits fields ≡ Some (head_numbers head, parts_at 32 text)
     → parts_at 32 text ≡ text ∷ [] → record_line fields ≡ record_of_contents head (contents_of text)
 record_is head fields text is one = record_line_is fields ∙ ap read_behind is ∙ ap (made_of (head_numbers head)) one ∙ made_is head (contents_of text)
 
@@ -110,7 +110,7 @@ more_than_six ns fields text word more is parts six =
 last_of : (fields : List (List ℕ)) (text : List ℕ) → drop 5 fields ≡ text ∷ [] → get_or fields 5 [] ≡ text
 last_of fields text e = search rules
 
-body_at : (head : Head) (fields : List (List ℕ)) (text : List ℕ) (reason : LineReason) → length fields ≡ 6
+body_at : (head : RecordHead) (fields : List (List ℕ)) (text : List ℕ) (reason : LineReason) → length fields ≡ 6
     → numbers_of record_limits (take 5 fields) ≡ Some (head_numbers head) → get_or fields 5 [] ≡ text → IsBodyReason head text reason → IsRecordReason fields reason
 body_at head fields text (Shape fault) six numbers last h =
     record { head = head; contents = h.0; many = six; numbers = numbers; encoded = rw last h.1; faulty = h.2 }
@@ -124,7 +124,7 @@ body_at head fields text AdvanceFieldCount six numbers last h = absurd h.1
 body_at head fields text (Zero at) six numbers last h = absurd h.1
 body_at head fields text PastPage six numbers last h = absurd h.1
 
-pub body_reason : (head : Head) (fields : List (List ℕ)) (text : List ℕ) (reason : LineReason) → numbers_then record_limits fields ≡ Some (head_numbers head, parts_at 32 text)
+pub body_reason : (head : RecordHead) (fields : List (List ℕ)) (text : List ℕ) (reason : LineReason) → numbers_then record_limits fields ≡ Some (head_numbers head, parts_at 32 text)
     → parts_at 32 text ≡ text ∷ [] → IsBodyReason head text reason → IsRecordReason fields reason
 body_reason head fields text reason is one h =
     let b = behind record_limits fields (head_numbers head, parts_at 32 text) is in

@@ -8,7 +8,7 @@ use Rattle.redo_core.specs.declared.patches.Patch.{Patch}
 use Rattle.redo_core.specs.declared.patches.Patch.TheVariants.{Bytes, Fill}
 use Rattle.redo_core.specs.declared.facts.Fact.{Fact}
 use Rattle.redo_core.specs.declared.facts.Fact.TheVariants.{Record, Cut, Advance}
-use Rattle.script_text.specs.declared.contents.Head.{Head}
+use Rattle.redo_core.specs.declared.records.RecordHead.{RecordHead}
 use Rattle.text.specs.Number.{decimal_value}
 use Rattle.text.specs.Parts.{◌>>=◌, parts_at}
 use Rattle.text.specs.Fields.{numbers_of, of_two, of_three, of_five}
@@ -96,17 +96,17 @@ shaped (Cut c) = unless (cut_fault c) (Cut c)
 shaped (Advance a) = unless (advance_fault a) (Advance a)
 
 -- the record of these numbers and patches, where its shape has no fault
-abbrev pub record_of_patches : Head → Bool → Option (List Patch) → Option Fact
+abbrev pub record_of_patches : RecordHead → Bool → Option (List Patch) → Option Fact
 record_of_patches head init None = None
 record_of_patches head init (Some patches) = shaped (Record (record_with head.epoch head.number head.back head.page head.block_back init patches))
 
 -- the record of these numbers and contents
-abbrev pub record_of_contents : Head → Option Contents → Option Fact
+abbrev pub record_of_contents : RecordHead → Option Contents → Option Fact
 record_of_contents head None = None
 record_of_contents head (Some c) = record_of_patches head c.init (Some c.patches)
 
 -- the numbers of a record's line, and their limits
-abbrev pub head_numbers : Head → List ℕ
+abbrev pub head_numbers : RecordHead → List ℕ
 head_numbers h = h.epoch ∷ h.number ∷ h.back ∷ h.page ∷ h.block_back ∷ []
 
 abbrev pub record_limits : List ℕ

@@ -5,7 +5,7 @@ use Rattle.redo_core.specs.Shape.{max_number, max_readers, record_fault, cut_fau
 use Rattle.redo_core.specs.declared.shapes.ShapeFault.{ShapeFault}
 use Rattle.redo_core.specs.declared.patches.Patch.{Patch}
 use Rattle.text.specs.Fields.{numbers_of}
-use Rattle.script_text.specs.declared.contents.Head.{Head}
+use Rattle.redo_core.specs.declared.records.RecordHead.{RecordHead}
 use Rattle.script_text.specs.FactLine.{each_patch, Contents, contents, contents_of, head_numbers, record_limits}
 use Rattle.script_text.specs.declared.reasons.LineReason.{LineReason}
 use Rattle.script_text.specs.declared.reasons.LineReason.TheVariants.{UnknownWord, FieldCount, AdvanceFieldCount, Field, Shape}
@@ -20,22 +20,22 @@ IsShape found _ = ⊥
 -- ---- records
 
 -- the fault of a record of these numbers and contents
-abbrev pub fault_with : Head → Contents → Option ShapeFault
+abbrev pub fault_with : RecordHead → Contents → Option ShapeFault
 fault_with h c = record_fault (record_with h.epoch h.number h.back h.page h.block_back c.init c.patches)
 
 -- a record's list of patches is wrong, or the shape of the record
-abbrev pub IsPatchesReason : Head → Bool → List (List ℕ) → LineReason → Type 0
+abbrev pub IsPatchesReason : RecordHead → Bool → List (List ℕ) → LineReason → Type 0
 IsPatchesReason head init words (Shape fault) = (ps : List Patch) × (each_patch words ≡ Some ps) × (fault_with head (contents init ps) ≡ Some fault)
 IsPatchesReason head init words reason = IsListReason words reason
 
 -- the text behind a record's numbers is wrong, or the shape of the record
-abbrev pub IsBodyReason : Head → List ℕ → LineReason → Type 0
+abbrev pub IsBodyReason : RecordHead → List ℕ → LineReason → Type 0
 IsBodyReason head text (Shape fault) = (c : Contents) × (contents_of text ≡ Some c) × (fault_with head c ≡ Some fault)
 IsBodyReason head text reason = IsContentsReason text reason
 
 -- six fields are a record's numbers and contents, and its shape has that fault
 pub record IsFaultyRecord (fields : List (List ℕ)) (fault : ShapeFault) : Type 0 where
-  pub head : Head
+  pub head : RecordHead
   pub contents : Contents
   pub many : length fields ≡ 6
   pub numbers : numbers_of record_limits (take 5 fields) ≡ Some (head_numbers head)

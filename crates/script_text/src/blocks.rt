@@ -19,7 +19,7 @@ use rayon::{current_num_threads, join};
 use redo_core::Fact;
 use std::alloc::Global;
 use std::thread::Threads;
-use text::{first_part, split_behind};
+use text::{first_part, split_after};
 
 /// How many bytes of a text are a thread's at least: fewer are read sooner than a thread is started.
 const LEAST_BLOCK: usize = 2097152;
@@ -29,7 +29,7 @@ fn threads_for<R: Threads>(rt: &R, text: &[u8]) -> usize {
     current_num_threads(rt).min(text.len() / LEAST_BLOCK)
 }
 
-/// The error of lines behind so many others, from their error as the first lines: the bad line has a greater number, unless the first
+/// The error of lines after so many others, from their error as the first lines: the bad line has a greater number, unless the first
 /// line past the limit is before it.
 fn moved_error(at: usize, before: usize, error: ScriptError) -> ScriptError
     requires before { before ≤ most }
@@ -56,7 +56,7 @@ fn moved_error(at: usize, before: usize, error: ScriptError) -> ScriptError
     }
 }
 
-/// The facts of lines behind so many others, or their error, from what was read of them as the first lines.
+/// The facts of lines after so many others, or their error, from what was read of them as the first lines.
 fn moved(
     at: usize,
     before: usize,
@@ -92,32 +92,31 @@ fn facts_in_blocks<R: Threads + Sync>(
     text: &[u8],
     threads: usize,
     at: usize,
-    shares: bool,
 ) -> Result<Vec<Fact>, ScriptError>
     requires { at ≤ 2 }
     ensures facts { Gives (λ v. v.items) result (lines_from fact_of 0 at (parts_at 10 text.now)) }
     ensures reason { IfErr result (IsExplained (IsReasonFrom ExplainsFact ManyFacts 0 at (parts_at 10 text.now))) }
 {
     if threads < 2 {
-        return facts(alloc, text, at, shares);
+        return facts(alloc, text, at);
     }
     let low = threads / 2;
     let high = threads - low;
-    let Some((first, second)) = split_behind(text, b'\n', text.len() / threads * low) else {
-        return facts(alloc, text, at, shares);
+    let Some((first, second)) = split_after(text, b'\n', text.len() / threads * low) else {
+        return facts(alloc, text, at);
     };
     let front = || -> Result<Vec<Fact>, ScriptError>
         requires sync { IsSync R.row }
         requires at { at ≤ 2 }
         ensures facts { Gives (λ v. v.items) result (lines_from fact_of 0 at (parts_at 10 first.entry.now)) }
         ensures reason { IfErr result (IsExplained (IsReasonFrom ExplainsFact ManyFacts 0 at (parts_at 10 first.entry.now))) }
-    { facts_in_blocks(rt, alloc, first, low, at, shares) };
+    { facts_in_blocks(rt, alloc, first, low, at) };
     let back = || -> Result<Vec<Fact>, ScriptError>
         requires sync { IsSync R.row }
         requires at { at ≤ 2 }
         ensures facts { Gives (λ v. v.items) result (lines_from fact_of 0 at (parts_at 10 second.entry.now)) }
         ensures reason { IfErr result (IsExplained (IsReasonFrom ExplainsFact ManyFacts 0 at (parts_at 10 second.entry.now))) }
-    { facts_in_blocks(rt, alloc, second, high, at, shares) };
+    { facts_in_blocks(rt, alloc, second, high, at) };
     let (read, more) = join(rt, front, back);
     let mut read = read?;
     let mut more = moved(at, read.len(), more)?;
@@ -138,7 +137,7 @@ pub fn read_facts_by<R: Threads + Sync>(
 {
     let opening = read_opening(text);
     let threads = threads_for(rt, opening.rest);
-    let facts = facts_in_blocks(rt, alloc, opening.rest, threads, opening.lines + 1, false)?;
+    let facts = facts_in_blocks(rt, alloc, opening.rest, threads, opening.lines + 1)?;
     Ok(Log {
         roster: opening.roster,
         facts,
@@ -156,8 +155,8 @@ fn is_ended(text: &[u8]) -> bool
     }
 }
 
-/// The text behind the rest of a line whose `g` is before the text: an `o` and the LF.
-fn behind_o(text: &[u8]) -> Option<&[u8]>
+/// The text after the rest of a line whose `g` is before the text: an `o` and the LF.
+fn after_o(text: &[u8]) -> Option<&[u8]>
     ensures { IfSome result (λ after. text.now ≡ codes "o\n" ++ after.now) }
 {
     match text {
@@ -174,7 +173,7 @@ fn round_go(text: &[u8]) -> Option<(&[u8], &[u8])>
     if !is_ended(before) {
         return None;
     }
-    let after = behind_o(behind)?;
+    let after = after_o(behind)?;
     Some((before, after))
 }
 
@@ -197,7 +196,7 @@ fn script_in_blocks<R: Threads + Sync>(
         return script_lines(alloc, text, at);
     };
     let threads = threads_for(rt, before);
-    let facts = facts_in_blocks(rt, alloc, before, threads, at, true)?;
+    let facts = facts_in_blocks(rt, alloc, before, threads, at)?;
     let here = at + facts.len() + 1;
     after_go(alloc, behind, facts, here)
 }

@@ -14,19 +14,9 @@ use crate::field_reasons::count_parts;
 use crate::limits::{PAGE, SHORT};
 use crate::patch_reasons::patch_fault;
 use crate::reasons::{FactError, LineReason};
-use redo_core::{Fact, MAX_PATCHES, Patch, Record, RecordFault, Write};
+use redo_core::{Fact, MAX_PATCHES, Patch, Record, RecordFault, RecordHead, Write};
 use std::alloc::{AllocError, Global};
 use text::{decoded, first_part, is_word, number_before, put_bytes, read_number};
-
-/// The numbers of a record's line.
-#[derive(Clone, Copy)]
-pub struct Head {
-    pub epoch: u16,
-    pub number: u64,
-    pub back: u64,
-    pub page: u16,
-    pub block_back: u64,
-}
 
 /// So many bytes stand in a write itself, with no memory of their own.
 const SHORT_WRITE: usize = 16;
@@ -178,11 +168,11 @@ fn each_patch(alloc: Global, list: &[u8]) -> Result<Vec<Patch>, FactError>
 
 /// The record of a list of patches, or the fault of its shape.
 #[tactic(auto, unfolding(crate::specs::FactLine::shaped))]
-fn of_list(head: Head, init: bool, patches: Vec<Patch>) -> Result<Fact, FactError>
+fn of_list(head: RecordHead, init: bool, patches: Vec<Patch>) -> Result<Fact, FactError>
     ensures fact { IfOk result (λ f. record_of_patches head init (Some patches.items) ≡ Some f) }
     ensures reason { IfErr result (IfBad (IsShape (fault_with head (contents init patches.items)))) }
 {
-    let Head {
+    let RecordHead {
         epoch,
         number,
         back,
@@ -199,7 +189,7 @@ fn of_list(head: Head, init: bool, patches: Vec<Patch>) -> Result<Fact, FactErro
 }
 
 /// The same of one patch.
-fn of_listed(alloc: Global, head: Head, init: bool, text: &[u8]) -> Result<Fact, FactError>
+fn of_listed(alloc: Global, head: RecordHead, init: bool, text: &[u8]) -> Result<Fact, FactError>
     ensures fact { IfOk result (λ f. record_of_patches head init (each_patch (text.now ∷ [])) ≡ Some f) }
     ensures reason { IfErr result (IfBad (IsPatchesReason head init (text.now ∷ []))) }
 {
@@ -212,28 +202,21 @@ fn of_listed(alloc: Global, head: Head, init: bool, text: &[u8]) -> Result<Fact,
 
 /// The record of one patch, with no list unless it has a fault.
 #[tactic(auto, unfolding(crate::specs::FactLine::shaped))]
-fn of_one(alloc: Global, head: Head, init: bool, text: &[u8]) -> Result<Fact, FactError>
+fn of_one(alloc: Global, head: RecordHead, init: bool, text: &[u8]) -> Result<Fact, FactError>
     ensures fact { IfOk result (λ f. record_of_patches head init (each_patch (text.now ∷ [])) ≡ Some f) }
     ensures reason { IfErr result (IfBad (IsPatchesReason head init (text.now ∷ []))) }
 {
     let Some(patch) = patch(alloc, text)? else {
         return of_listed(alloc, head, init, text);
     };
-    let Head {
-        epoch,
-        number,
-        back,
-        page,
-        block_back,
-    } = head;
-    match Record::with_one(alloc, epoch, number, back, page, block_back, init, patch)? {
+    match Record::with_one(alloc, head, init, patch)? {
         Some(redo) => Ok(Fact::Record(redo)),
         None => of_listed(alloc, head, init, text),
     }
 }
 
 /// The record of patches between commas.
-fn of_many(alloc: Global, head: Head, init: bool, text: &[u8]) -> Result<Fact, FactError>
+fn of_many(alloc: Global, head: RecordHead, init: bool, text: &[u8]) -> Result<Fact, FactError>
     ensures fact { IfOk result (λ f. record_of_patches head init (each_patch (parts_at 44 text.now)) ≡ Some f) }
     ensures reason { IfErr result (IfBad (IsPatchesReason head init (parts_at 44 text.now))) }
 {
@@ -242,7 +225,7 @@ fn of_many(alloc: Global, head: Head, init: bool, text: &[u8]) -> Result<Fact, F
 }
 
 /// The record whose page begins anew, with one patch or more.
-fn anew(alloc: Global, head: Head, text: &[u8]) -> Result<Fact, FactError>
+fn anew(alloc: Global, head: RecordHead, text: &[u8]) -> Result<Fact, FactError>
     ensures fact { IfOk result (λ f. record_of_patches head true (each_patch (parts_at 44 text.now)) ≡ Some f) }
     ensures reason { IfErr result (IfBad (IsPatchesReason head true (parts_at 44 text.now))) }
 {
@@ -254,7 +237,7 @@ fn anew(alloc: Global, head: Head, text: &[u8]) -> Result<Fact, FactError>
 
 /// The record of contents with no comma.
 #[tactic(auto, unfolding(crate::specs::FactLine::contents_of, crate::specs::FactLine::contents_from))]
-fn of_word(alloc: Global, head: Head, text: &[u8]) -> Result<Fact, FactError>
+fn of_word(alloc: Global, head: RecordHead, text: &[u8]) -> Result<Fact, FactError>
     requires { parts_at 44 text.now ≡ text.now ∷ [] }
     ensures fact { IfOk result (λ f. record_of_contents head (contents_of text.now) ≡ Some f) }
     ensures reason { IfErr result (IfBad (IsBodyReason head text.now)) }
@@ -270,7 +253,7 @@ fn of_word(alloc: Global, head: Head, text: &[u8]) -> Result<Fact, FactError>
 
 /// The record of these numbers and contents: a dash for no patches, and else patches between commas, after the word `init` or without
 /// it. Or why the contents, or the record's shape, are wrong.
-pub fn record_of(alloc: Global, head: Head, text: &[u8]) -> Result<Fact, FactError>
+pub fn record_of(alloc: Global, head: RecordHead, text: &[u8]) -> Result<Fact, FactError>
     ensures fact { IfOk result (λ f. record_of_contents head (contents_of text.now) ≡ Some f) }
     ensures reason { IfErr result (IfBad (IsBodyReason head text.now)) }
 {

@@ -9,17 +9,17 @@ ghost use Rattle.script_text.specs.FactLine.{shaped, head_numbers, record_limits
 ghost use Rattle.script_text.specs.FactReasons.{IsShape, IsBodyReason, IsRecordReason, IsCutReason, IsAdvanceReason, IsFactReason};
 ghost use Rattle.script_text.specs.LineReasons.{IfBad};
 
-use crate::contents::{Head, record_of};
+use crate::contents::record_of;
 use crate::field_reasons::{count_parts, wrong_field};
 use crate::forms::three;
 use crate::limits::SHORT;
 use crate::reasons::{FactError, LineReason};
-use redo_core::{Advance, Cut, Fact, MAX_NUMBER, MAX_READERS};
+use redo_core::{Advance, Cut, Fact, MAX_NUMBER, MAX_READERS, RecordHead};
 use std::alloc::{AllocError, Global};
 use text::{field, first_part, is_word, three_fields, two_fields};
 
 /// The numbers of the fields behind `rec`, and the text behind them, which has the contents where it is one field.
-fn record_fields(fields: Option<&[u8]>) -> Option<(Head, &[u8])>
+fn record_fields(fields: Option<&[u8]>) -> Option<(RecordHead, &[u8])>
     ensures { option_map (λ p. (head_numbers p.0, parts_at 32 p.1.now)) result ≡ numbers_then record_limits (fields_in fields.entry) }
 {
     let (epoch, rest) = field(fields?, SHORT)?;
@@ -27,7 +27,7 @@ fn record_fields(fields: Option<&[u8]>) -> Option<(Head, &[u8])>
     let (back, rest) = field(rest, MAX_NUMBER)?;
     let (page, rest) = field(rest, SHORT)?;
     let (block_back, text) = field(rest, MAX_NUMBER)?;
-    let head = Head {
+    let head = RecordHead {
         epoch: epoch as u16,
         number,
         back,
@@ -56,7 +56,7 @@ fn record_reason(fields: Option<&[u8]>) -> LineReason
 
 /// Why the text behind a record's numbers gives no record: it is more than one field, or the reason that it has as one.
 #[tactic(auto, using(crate::proofs::RecordLine::body_reason))]
-fn text_error(head: Head, fields: Option<&[u8]>, text: &[u8], error: FactError) -> FactError
+fn text_error(head: RecordHead, fields: Option<&[u8]>, text: &[u8], error: FactError) -> FactError
     requires numbers { numbers_then record_limits (fields_in fields) ≡ Some (head_numbers head, parts_at 32 text.now) }
     requires body { IfBad (IsBodyReason head text.now) error }
     ensures { IfBad (IsRecordReason (fields_in fields.entry)) result }
@@ -197,26 +197,5 @@ pub fn fact(alloc: Global, line: &[u8]) -> Result<Fact, FactError>
     match first_part(line, b' ') {
         Some((word, fields)) => fact_line(alloc, word, Some(fields)),
         None => fact_line(alloc, line, None),
-    }
-}
-
-/// The same fact, shared by its copies.
-pub fn shared_fact(alloc: Global, line: &[u8]) -> Result<Fact, FactError>
-    ensures fact { IfOk result (λ f. fact_of line.now ≡ Some f) }
-    ensures reason { IfErr result (IfBad (IsFactReason (parts_at 32 line.now))) }
-{
-    let fact = fact(alloc, line)?;
-    Ok(fact.share()?)
-}
-
-/// The same fact, shared where `shares` says so.
-pub fn fact_or_shared(alloc: Global, line: &[u8], shares: bool) -> Result<Fact, FactError>
-    ensures fact { IfOk result (λ f. fact_of line.now ≡ Some f) }
-    ensures reason { IfErr result (IfBad (IsFactReason (parts_at 32 line.now))) }
-{
-    if shares {
-        shared_fact(alloc, line)
-    } else {
-        fact(alloc, line)
     }
 }

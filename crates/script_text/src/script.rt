@@ -15,7 +15,7 @@ ghost use Rattle.script_text.specs.declared.reasons.LineReason.TheVariants.{Carr
 ghost use Rattle.script_text.specs.declared.reasons.TextReason.TheVariants.{ManyFacts, ManySteps};
 ghost use Rattle.script_text.specs.declared.script.ScriptError.TheVariants.{Memory};
 
-use crate::fact_line::{fact_or_shared, shared_fact};
+use crate::fact_line::fact;
 use crate::forms::one;
 use crate::opening::read_opening;
 use crate::reasons::{FactError, LineReason, TextReason};
@@ -266,7 +266,7 @@ pub fn script_lines(alloc: Global, text: &[u8], at: usize) -> Result<Asked, Scri
                 reason: TextReason::ManyFacts,
             });
         }
-        match shared_fact(alloc, line) {
+        match fact(alloc, line) {
             Ok(next) => facts.push(next)?,
             Err(error) => return Err(bad_fact(here, line, error)),
         }
@@ -275,8 +275,8 @@ pub fn script_lines(alloc: Global, text: &[u8], at: usize) -> Result<Asked, Scri
     Err(end_at(at + facts.len(), rest, TextReason::NoGo))
 }
 
-/// Fact lines to the end of the text, whose facts are shared by their copies where `shares` says so. The first has the number `at`.
-pub fn facts(alloc: Global, text: &[u8], at: usize, shares: bool) -> Result<Vec<Fact>, ScriptError>
+/// The facts of lines to the end of the text. The first line has the number `at`.
+pub fn facts(alloc: Global, text: &[u8], at: usize) -> Result<Vec<Fact>, ScriptError>
     requires { at ≤ 2 }
     ensures facts { Gives (λ v. v.items) result (lines_from fact_of 0 at (parts_at 10 text.now)) }
     ensures reason { IfErr result (IsExplained (IsReasonFrom ExplainsFact ManyFacts 0 at (parts_at 10 text.now))) }
@@ -291,7 +291,7 @@ pub fn facts(alloc: Global, text: &[u8], at: usize, shares: bool) -> Result<Vec<
                 reason: TextReason::ManyFacts,
             });
         }
-        match fact_or_shared(alloc, line, shares) {
+        match fact(alloc, line) {
             Ok(next) => facts.push(next)?,
             Err(error) => return Err(bad_fact(here, line, error)),
         }
@@ -336,7 +336,7 @@ pub fn read_facts(alloc: Global, text: &[u8]) -> Result<Log, ScriptError>
     ensures reason { IfErr result (IsExplained (ExplainsLog text.now)) }
 {
     let opening = read_opening(text);
-    let facts = facts(alloc, opening.rest, opening.lines + 1, false)?;
+    let facts = facts(alloc, opening.rest, opening.lines + 1)?;
     Ok(Log {
         roster: opening.roster,
         facts,

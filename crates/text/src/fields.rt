@@ -43,7 +43,7 @@ pub fn first_part(text: &[u8], separator: u8) -> Option<(&[u8], &[u8])>
 
 /// The text up to the first separator after its first `from` bytes, with that separator, and the text after it; None if it has no
 /// separator there.
-pub fn split_behind(text: &[u8], separator: u8, from: usize) -> Option<(&[u8], &[u8])>
+pub fn split_after(text: &[u8], separator: u8, from: usize) -> Option<(&[u8], &[u8])>
     requires { from ≤ length text.now }
     ensures cut { IfSome result (λ p. IsCutBehind separator text.now p.0.now p.1.now) }
     ensures longer { IfSome result (λ p. from < length p.0.now) }

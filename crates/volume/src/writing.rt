@@ -71,7 +71,7 @@ fn write_record(
         .writer
         .preview(last + 1, page, init, patches.clone()?)
     {
-        Ok(redo) => send_record(alloc, writing, redo.share()?, init, patches),
+        Ok(redo) => send_record(alloc, writing, redo, init, patches),
         Err(refused) => refused_as(alloc, refused.fault),
     }
 }

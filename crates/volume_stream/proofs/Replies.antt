@@ -2,7 +2,6 @@
 use Rattle.std.proofs.Common.{◌≡◌, ℕ, ◌+◌, ◌-◌, ◌≤◌, Bool, true, false, eqb, List, [], ◌∷◌, ◌++◌, length, take, Option, Some, None, refl, sym, ap, ◌∙◌, append_assoc, length-append, arith}
 use Rattle.std.proofs.lemmas.Bool.{false≢true}
 use Rattle.std.proofs.lemmas.Fmt.{length-decimal-le}
-use Rattle.std.proofs.lemmas.Grind.{common_steps}
 use Rattle.std.proofs.Math.Seq.{take-append_seam}
 use Rattle.std.specs.Prelude.{codes}
 use Rattle.std.specs.Fmt.{decimal}
@@ -19,11 +18,12 @@ use Rattle.guard.specs.declared.replies.Reply.TheVariants as reply
 use Rattle.text.specs.Parts.{◌>>=◌}
 use Rattle.text.proofs.Forms.{AreWithin}
 use Rattle.text.proofs.Split.{lacks}
-use Rattle.node_stream.specs.FrameTelling.{unended, fitted, frame_of}
+use Rattle.node_stream.specs.FrameTelling.{unended, frame_of}
 use Rattle.node_stream.specs.Telling.{three_numbers}
 use Rattle.node_stream.specs.GuardReading.{max_wide, either_of}
 use Rattle.node_stream.specs.GuardTelling.{numbers_behind, pair_numbers, guard_numbers, member_number, status_numbers, heading, guard_frame}
 use Rattle.node_stream.specs.declared.asked.Window.{Window}
+use Rattle.node_stream.proofs.Headed.{fits_whole}
 use Rattle.node_stream.proofs.Long.{frame_of_bytes}
 use Rattle.volume_stream.specs.Words.{made_of}
 use Rattle.volume_stream.specs.ReplyFrames.{status_form, status_with_form, fenced_form, fenced_with_form, stale_form, fresh_form, stranger_form, admitted_form, behind_form, accepted_form, front_form, status_reply, fenced_reply, short_reply, numbered_reply, lone_segment_reply, segment_words, segment_reply, under_birth, under_generation, headed_reply, lone_reply, reply_words, reply_in}
@@ -31,16 +31,12 @@ use Rattle.volume_stream.specs.Carried.{AreWide, IsWireFront, IsWirePair, IsHear
 use Rattle.volume_stream.proofs.Numbers.{AreLimits, halves_at, no_halves, made, not_made, wide_front_at, in_a_row}
 use Rattle.volume_stream.proofs.Encoded.{summary_decoded, delta_decoded, summary_fits, delta_fits, cut_limits}
 
--- ---- lines without their ends, and what has room in a frame
+-- ---- lines without their ends
 
 unended_at : (xs : List ℕ) → unended (xs ++ 10 ∷ []) ≡ xs
 unended_at xs =
     let all : length (xs ++ 10 ∷ []) - 1 ≡ length xs = omega (arith, length-append xs (10 ∷ [])) in
     ap (λ (n : ℕ). take n (xs ++ 10 ∷ [])) all ∙ take-append_seam xs (10 ∷ [])
-
-fits : (long bytes : List ℕ) → length bytes ≤ 4294967295 → fitted long bytes ≡ bytes
-unfolding fitted
-fits long bytes few = grind (arith, common_steps)
 
 -- ---- replies of a segment
 
@@ -65,12 +61,12 @@ not_long b f t = false≢true (sym f ∙ t)
 summary_text : (w : Window) (s : SummaryData) → IsHeardSegment (segment.Summary s) → frame_of w (segment.Summary s) ≡ codes "summary" ++ 32 ∷ summary_bytes s
 summary_text w s heard =
     frame_of_bytes (codes "summary") (summary_bytes s) (is_long_summary s) (not_long (is_long_summary s) (summary_fits s heard.0))
-    ∙ fits (codes "summary too long") (codes "summary" ++ 32 ∷ summary_bytes s) (omega (arith, heard.1))
+    ∙ fits_whole (codes "summary too long") (codes "summary" ++ 32 ∷ summary_bytes s) (omega (arith, heard.1))
 
 delta_text : (w : Window) (d : DeltaData) → IsHeardSegment (segment.Delta d) → frame_of w (segment.Delta d) ≡ codes "delta" ++ 32 ∷ delta_bytes d
 delta_text w d heard =
     frame_of_bytes (codes "delta") (delta_bytes d) (is_long_delta d) (not_long (is_long_delta d) (delta_fits d heard.0))
-    ∙ fits (codes "delta too long") (codes "delta" ++ 32 ∷ delta_bytes d) (omega (arith, heard.1))
+    ∙ fits_whole (codes "delta too long") (codes "delta" ++ 32 ∷ delta_bytes d) (omega (arith, heard.1))
 
 segment_read : (w : Window) (r : SegmentReply) → IsHeardSegment r → segment_reply (frame_of w r) ≡ Some r
 unfolding segment_words lone_segment_reply
@@ -145,7 +141,7 @@ headed_read w generation birth own g b heard =
     let rest : List ℕ = decimal generation ++ 32 ∷ behind in
     let room : length (heading generation birth ++ text) ≤ 4294967295 =
     omega (arith, length-append (heading generation birth) text, heading_len generation birth g b, segment_len w own heard) in
-    ap reply_in (fits (codes "too long") (heading generation birth ++ text) room ∙ headed_text generation birth text)
+    ap reply_in (fits_whole (codes "too long") (heading generation birth ++ text) room ∙ headed_text generation birth text)
     ∙ ap (reply_words (codes "as" ++ 32 ∷ rest)) (halves_at (codes "as") rest refl) ∙ ap under_generation (wide_front_at generation behind g)
     ∙ ap (under_birth generation) (wide_front_at birth text b)
     ∙ ap (λ (o : Option SegmentReply). o >>= (λ told. Some (reply.Headed generation birth told))) (segment_read w own heard)

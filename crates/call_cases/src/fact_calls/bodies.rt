@@ -82,15 +82,15 @@ fn made_of_patches(redo: &Record, patches: Vec<Patch>) -> Result<Option<Fact>, A
     Ok(or_shape_fault(made)?.ok().map(Fact::Record))
 }
 
-// A copy of a copy that was shared and then dropped.
-fn shared_copy(fact: &Fact) -> Result<Fact, AllocError> {
-    let shared = fact.copy()?.share()?;
-    shared.copy()
+// A copy of a copy that was then dropped.
+fn copy_of_copy(fact: &Fact) -> Result<Fact, AllocError> {
+    let copied = fact.copy()?;
+    copied.copy()
 }
 
-// Whether each of two facts is the other, and a copy that was shared is both.
+// Whether each of two facts is the other, and a copy of a copy is both.
 fn are_one(one: &Fact, two: &Fact) -> Result<bool, AllocError> {
-    let copied = shared_copy(one)?;
+    let copied = copy_of_copy(one)?;
     Ok(one.is_same(two) && two.is_same(one) && copied.is_same(two) && two.is_same(&copied))
 }
 

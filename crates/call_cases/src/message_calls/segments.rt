@@ -3,15 +3,20 @@ use crate::given::patch;
 use crate::keeping::{add, boxed};
 use crate::outcomes::{discard, fold, is_same, taken};
 use case_io::{Row, nth, nth_mut};
-use redo_core::{Fact, Record, Roster};
+use redo_core::{Fact, Record, RecordHead, Roster};
 use segment_core::Segment;
 use std::alloc::{AllocError, Global};
 
 /// A record of one byte at the beginning of its page, which no other record writes.
 fn link(alloc: Global, number: u16) -> Result<Option<Record>, AllocError> {
-    let back = u64::from(number).saturating_sub(1);
-    let patch = patch(alloc, 0, b'a', 1)?;
-    Record::with_one(alloc, 0, u64::from(number), back, number, 0, false, patch)
+    let head = RecordHead {
+        epoch: 0,
+        number: u64::from(number),
+        back: u64::from(number).saturating_sub(1),
+        page: number,
+        block_back: 0,
+    };
+    Record::with_one(alloc, head, false, patch(alloc, 0, b'a', 1)?)
 }
 
 /// Whether a segment took a record.

@@ -24,11 +24,11 @@ made c =
     ap (λ n. next_record w (n + 1) c.args.page c.args.init c.in_ok-clone.field-0.items) c.last-last.ensures
     ∙ ap (λ (ps : List Patch). next_record w (w.last + 1) c.args.page c.args.init ps) body
 
-pub returns-in_ok-share-in-Ok-clause-writes : goal.returns-in_ok-share-in-Ok-clause-writes
-returns-in_ok-share-in-Ok-clause-writes c =
+pub returns-in-Ok-clause-writes : goal.returns-in-Ok-clause-writes
+returns-in-Ok-clause-writes c =
     let w = c.args.writing.now in
-    let same : c.in_ok-share-in-Ok.field-0 ≡ record_of_page w.writer c.args.page c.args.init c.args.patches.items =
-    c.in_ok-share-in-Ok.ensures.ok ∙ c.in-Ok.ensures.record ∙ made (goal.at.returns-in_ok-share-in-Ok-clause-writes c).In_ok-clone in
+    let same : c.in-Ok.redo ≡ record_of_page w.writer c.args.page c.args.init c.args.patches.items =
+    c.in-Ok.ensures.record ∙ made (goal.at.returns-in-Ok-clause-writes c).In_ok-clone in
     subst (λ (r : RecordData). IfOk c.send_record.result (λ v. AddsRecord w r v.items c.send_record.new.writing)) same c.send_record.ensures.sends
 
 pub returns-in-Err-clause-writes : goal.returns-in-Err-clause-writes

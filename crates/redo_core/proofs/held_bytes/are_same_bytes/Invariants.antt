@@ -1,5 +1,5 @@
 use Rattle.std.proofs.Common.{◌≡◌, ◌↔◌, IsTrue, take}
-use Rattle.redo_core.proofs.writes.are_same_bytes.Given as goal
+use Rattle.redo_core.proofs.held_bytes.are_same_bytes.Given as goal
 
 -- whether the bytes so far are the same
 abbrev pub invariant-loop-i : goal.invariant-loop-i

@@ -2,7 +2,7 @@ use Rattle.std.proofs.Common.{◌≡◌, ◌==◌, drop, None, Some, ap, sym, �
 use Rattle.std.specs.Prelude.{position}
 use Rattle.text.proofs.FirstPart.{not_parted}
 use Rattle.text.proofs.Cuts.{cut_behind}
-use Rattle.text.proofs.fields.split_behind.Goals as goal
+use Rattle.text.proofs.fields.split_after.Goals as goal
 
 pub returns-in-None-clause-none : goal.returns-in-None-clause-none
 returns-in-None-clause-none c =
