@@ -26,6 +26,10 @@ shape_first None other = other
 abbrev pub append_refusal : WriterState → RecordData → Option WriterFault
 append_refusal w r = if nat_lt w.last r.number then shape_first (record_fault r) None else Some (NumberNotAbove w.last)
 
+-- the fault of a record that is not kept; `Memory` only where it has none
+abbrev pub RefusesPreview : WriterState → RecordData → WriterFault → Type 0
+RefusesPreview w r fault = (append_refusal w r ≡ Some fault) ⊎ ((fault ≡ Memory) × (append_refusal w r ≡ None))
+
 -- lack of memory hides a fault of the shape, and no other
 abbrev pub RefusesRecord : WriterState → RecordData → WriterFault → Type 0
 RefusesRecord w r fault = (append_refusal w r ≡ Some fault) ⊎ ((fault ≡ Memory) × (w.last < r.number))

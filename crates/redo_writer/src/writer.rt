@@ -9,7 +9,7 @@ ghost use Rattle.redo_writer.specs.declared.parts.AliveRecord.{AliveRecord as En
 ghost use Rattle.redo_writer.specs.State.{writer_of_parts, empty_writer, next_record};
 ghost use Rattle.redo_writer.specs.Continues.{Continues};
 ghost use Rattle.redo_writer.specs.Changes.{KeepsRecord, OpensEpoch, RaisesReader, DropsSettled};
-ghost use Rattle.redo_writer.specs.Refusals.{append_refusal, RefusesRecord, RefusesOnLog, writer_fault, recover_refusal, advance_refusal};
+ghost use Rattle.redo_writer.specs.Refusals.{append_refusal, RefusesPreview, RefusesRecord, RefusesOnLog, writer_fault, recover_refusal, advance_refusal};
 
 use crate::parts::{AliveRecord, WriterParts};
 use crate::tail::{annul_above, keep_newest, number_on_top, put_top, reserve_top, settle, top_of};
@@ -108,7 +108,7 @@ impl RedoWriter {
         patches: Vec<Patch>,
     ) -> Result<Record, Refused<Vec<Patch>, WriterFault>>
         ensures record { IfOk result (λ r. r ≡ next_record self.now number page init patches.items) }
-        ensures fault { IfErr result (λ e. RefusesRecord self.now (next_record self.now number page init patches.items) e.fault) }
+        ensures fault { IfErr result (λ e. RefusesPreview self.now (next_record self.now number page init patches.items) e.fault) }
         ensures returned { IfErr result (λ e. e.value ≡ patches) }
     {
         if number <= self.last {

@@ -3,8 +3,8 @@ use Rattle.std.specs.Prelude.{slice_index}
 use Rattle.redo_core.specs.Data.{RecordData, record_with}
 use Rattle.redo_writer.specs.Tracks.{newest_number}
 use Rattle.redo_writer.specs.State.{WriterState, state_with, next_record}
-use Rattle.redo_writer.specs.Refusals.{RefusesRecord}
-use Rattle.redo_writer.proofs.Refusing.{refused_as}
+use Rattle.redo_writer.specs.Refusals.{RefusesPreview}
+use Rattle.redo_writer.proofs.Refusing.{preview_refused}
 use Rattle.redo_writer.proofs.writer.RedoWriter.preview.Goals as goal
 
 pub returns-in-Err-clause-fault : goal.returns-in-Err-clause-fault
@@ -19,6 +19,6 @@ returns-in-Err-clause-fault c =
     let same : redo ≡ next_record w n g init ps =
     ap (λ b. record_with i.epoch n b g c.top_of-block_back.result init ps) back
     ∙ ap (λ b. record_with i.epoch n (newest_number i.settled i.alive.items) g b init ps) block_back in
-    subst (λ (v : WriterState). RefusesRecord v (next_record v n g init ps) why) c.self.view_is
-    (subst (λ (r : RecordData). RefusesRecord w r why) same (subst (RefusesRecord w redo) (sym c.writer_fault.ensures)
-    (refused_as w redo c.in-Err.refused.fault c.in-Err.ensures.fault.1 c.if-number-self.false)))
+    subst (λ (v : WriterState). RefusesPreview v (next_record v n g init ps) why) c.self.view_is
+    (subst (λ (r : RecordData). RefusesPreview w r why) same (subst (RefusesPreview w redo) (sym c.writer_fault.ensures)
+    (preview_refused w redo c.in-Err.refused.fault c.in-Err.ensures.fault.1 c.if-number-self.false)))
