@@ -46,7 +46,7 @@ abbrev Rises : Entry → Entry → Type 0
 Rises x y = key_cmp x.0 y.0 ≡ Less
 
 abbrev own : RecordData → Entry
-own r = (key_of r, r.page)
+own r = (key_of r, r)
 
 rising_behind : (front rest : List Entry) → IsRising Rises (front ++ rest) → IsRising Rises rest
 rising_behind [] rest r = r
@@ -64,8 +64,8 @@ module _ (b : BookData) (held : List RecordData) (book : IsBook b) where
     listed = λ r h lt. above.listed r h.0 ((parts.0 r.epoch r.number h.1).0 lt);
     backed = λ e h a.
         let t = above.backed e h in
-        let alive : IsAlive b.cuts b.complete t.0.epoch t.0.number = alive_key b t.0 e.0 t.2 a in
-        (t.0, (t.1, alive), t.2, (parts.0 t.0.epoch t.0.number alive).1 t.4);
+        let alive : IsAlive b.cuts b.complete e.1.epoch e.1.number = alive_key b e.1 e.0 t.1 a in
+        (e.1, (t.0, alive), t.1, (parts.0 e.1.epoch e.1.number alive).1 t.2);
     rising = above.rising;
   }
 

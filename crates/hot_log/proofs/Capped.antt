@@ -10,7 +10,7 @@ use Rattle.redo_core.specs.declared.keys.Key.{Key}
 use Rattle.epoch_book.specs.Book.{BookData}
 use Rattle.hot_log.specs.Alive.{IsAliveBetween}
 use Rattle.hot_log.specs.Held.{IsHeld, IsRecordAt, IsKeyAfter, IsKeyTo}
-use Rattle.hot_log.specs.Indexing.{IsNextHeld, IsLastHeld, IsNextRecord, IsLastRecord, IsKeyPages, AreHeldAbove}
+use Rattle.hot_log.specs.Indexing.{IsNextHeld, IsLastHeld, IsNextRecord, IsLastRecord, IsKeyRecords, AreHeldAbove}
 use Rattle.hot_log.specs.Kept.{IsKeyKept}
 use Rattle.hot_log.specs.Packed.{capped}
 use Rattle.hot_log.specs.Removing.{RemovesRow}
@@ -71,10 +71,10 @@ key_to_given held k p (Some key) form is (found, most) = (
   λ r h up. most r h (λ a. up (given held k p form is r h a)),
 )
 
-pub above_given_held : (held : List RecordData) (k p : Key) (above_p : List (Key × ℕ)) → IsHeld held → p ≡ capped k → AreHeldAbove held p above_p → AreHeldAbove held k above_p
+pub above_given_held : (held : List RecordData) (k p : Key) (above_p : List (Key × RecordData)) → IsHeld held → p ≡ capped k → AreHeldAbove held p above_p → AreHeldAbove held k above_p
 above_given_held held k p above_p form is a = record {
   listed = λ r h b. a.listed r h (above held k p form is r h b);
-  backed = λ e h. let t = a.backed e h in (t.0, t.1, t.2, t.3, given held k p form is t.0 t.1 t.4);
+  backed = λ e h. let t = a.backed e h in (t.0, t.1, given held k p form is e.1 t.0 t.2);
   rising = a.rising;
 }
 
@@ -97,19 +97,19 @@ row_given b held left page k l p q last form is to (removes, row) = (
 pub between_same : (b : BookData) (held : List RecordData) (page : ℕ) (k l p q : Key) → IsHeld held → p ≡ capped k → q ≡ capped l → (r : RecordData) → IsAliveBetween b held page p q r ↔ IsAliveBetween b held page k l r
 between_same b held page k l p q form is to r = (between_given b held page k l p q form is to r, between_capped b held page k l p q form is to r)
 
--- a key that has a page is that of a record
-paged_fits : (held : List RecordData) (keys : List (Key × ℕ)) (x : Key) (page : ℕ) → IsHeld held → IsKeyPages held keys → Contains keys (x, page) → x.number ≤ max_number
-paged_fits held keys x page form pages h =
-    let t = pages.backed x.epoch x.number page h in
-    let low = small t.0 (form.shaped t.0 t.1) in
-    omega (arith, low, t.2.1)
+-- a key that is there is that of a record
+listed_fits : (held : List RecordData) (keys : List (Key × RecordData)) (x : Key) (redo : RecordData) → IsHeld held → IsKeyRecords held keys → Contains keys (x, redo) → x.number ≤ max_number
+listed_fits held keys x redo form listed h =
+    let t = listed.backed x.epoch x.number redo h in
+    let low = small redo (form.shaped redo t.0) in
+    omega (arith, low, t.1.1)
 
-pub kept_given : (b : BookData) (held : List RecordData) (keys : List (Key × ℕ)) (point : ℕ) (k p : Key) (xs : List Key) → IsHeld held → IsKeyPages held keys → p ≡ capped k
+pub kept_given : (b : BookData) (held : List RecordData) (keys : List (Key × RecordData)) (point : ℕ) (k p : Key) (xs : List Key) → IsHeld held → IsKeyRecords held keys → p ≡ capped k
     → Lists KeyBefore (IsKeyKept b keys p point) xs → Lists KeyBefore (IsKeyKept b keys k point) xs
-kept_given b held keys point k p xs form pages is lists =
+kept_given b held keys point k p xs form listed is lists =
     lists_as KeyBefore (IsKeyKept b keys p point) (IsKeyKept b keys k point) xs
     (λ x. (
-      λ h. (h.0, above_given k x.epoch x.number (paged_fits held keys x h.0.0 form pages h.0.1) (subst (λ (q : Key). KeyBefore q x) is h.1), h.2),
-      λ h. (h.0, subst (λ (q : Key). KeyBefore q x) (sym is) (above_capped k x.epoch x.number (paged_fits held keys x h.0.0 form pages h.0.1) h.1), h.2),
+      λ h. (h.0, above_given k x.epoch x.number (listed_fits held keys x h.0.0 form listed h.0.1) (subst (λ (q : Key). KeyBefore q x) is h.1), h.2),
+      λ h. (h.0, subst (λ (q : Key). KeyBefore q x) (sym is) (above_capped k x.epoch x.number (listed_fits held keys x h.0.0 form listed h.0.1) h.1), h.2),
     ))
     lists

@@ -1,7 +1,5 @@
 -- What keeps an index the index of the stored records.
 use Rattle.std.proofs.Common.{◌≡◌, ℕ, ◌≤◌, ◌⊎◌, ◌↔◌, inl, inr, ⊎_elim, List, refl, sym, ◌∙◌, ap, subst, Option, Some, None, Bool, true, false, Result, rules}
-use Rattle.std.proofs.lemmas.Bool.{false≢true}
-use Rattle.std.specs.Option.{is_some}
 use Rattle.std.specs.Result.{is_err, OnOk, OnErr}
 use Rattle.std.specs.List.{Contains}
 use Rattle.redo_core.specs.Data.{RecordData}
@@ -11,7 +9,7 @@ use Rattle.redo_core.specs.Order.{IsRising, RecordBefore}
 use Rattle.redo_core.proofs.Rising.{rising_members}
 use Rattle.hot_log.specs.Held.{IsHeld, HasKey, IsRecordAt, IsAbove, IsKeyAfter, IsKeyTo, IsGreatestHeld}
 use Rattle.hot_log.specs.Removing.{Removes}
-use Rattle.hot_log.specs.Indexing.{IndexData, GainsKey, LosesKey, IsIndexBy, IsIndexOf, IsNextKey, IsLastKey, IsNextHeld, IsLastHeld, AddsPage, GainsPage, LosesPage, IsPageOf, IsAboveKey, IsLeastKey, IsKeyPages, IsRecordOf, IsGreatestKey, IsGreatestOf}
+use Rattle.hot_log.specs.Indexing.{IndexData, GainsKey, LosesKey, IsIndexBy, IsIndexOf, IsNextKey, IsLastKey, IsNextHeld, IsLastHeld, GainsEntry, LosesEntry, IsUnderKey, IsAboveKey, IsLeastKey, IsKeyRecords, IsGreatestKey, IsGreatestOf}
 use Rattle.hot_log.proofs.Keys.{pair_not_same}
 use Rattle.hot_log.proofs.Places.{Place}
 use Rattle.hot_log.proofs.Paged.{place_as}
@@ -124,84 +122,67 @@ last_held f held keys g to (Some key) is last =
       λ r h e p. last.2 r.epoch r.number (subst (λ (x : ℕ). Contains keys (x, key_of r)) e (is.listed r h)) p,
     )
 
--- the pages of keys: one more record, one that was added and taken out again, one record less, no record
-entry_as : (e n p a b q : ℕ) → e ≡ a → n ≡ b → p ≡ q → ◌≡◌ {A = Key × ℕ} (key_in e n, p) (key_in a b, q)
-entry_as e n p a b q x y z = cc
+-- the records of keys: one more, one that was added and taken out again, one less
+entry_as : (e n a b : ℕ) (r s : RecordData) → e ≡ a → n ≡ b → r ≡ s → ◌≡◌ {A = Key × RecordData} (key_in e n, r) (key_in a b, s)
+entry_as e n a b r s x y z = cc
 
-pub pages_grow : (old new : List RecordData) (keys more : List (Key × ℕ)) (redo : RecordData) (e n p : ℕ) → IsKeyPages old keys → ((r : RecordData) → Contains new r ↔ (Contains old r ⊎ (r ≡ redo))) → e ≡ redo.epoch → n ≡ redo.number → p ≡ redo.page → GainsPage keys (key_in e n) p more → IsKeyPages new more
-pages_grow old new keys more redo e n p is grows x y z gains = record {
+pub entries_grow : (old new : List RecordData) (keys more : List (Key × RecordData)) (redo : RecordData) (e n : ℕ) → IsKeyRecords old keys → ((r : RecordData) → Contains new r ↔ (Contains old r ⊎ (r ≡ redo))) → e ≡ redo.epoch → n ≡ redo.number → GainsEntry keys (key_in e n) redo more → IsKeyRecords new more
+entries_grow old new keys more redo e n is grows x y gains = record {
   listed = λ s h. ⊎_elim
-      (λ (u : Contains old s). (gains (key_of s, s.page)).1 (inl (is.listed s u)))
-      (λ (u : s ≡ redo). (gains (key_of s, s.page)).1 (inr (entry_as s.epoch s.number s.page e n p
-      (ap (λ (r : RecordData). r.epoch) u ∙ sym x) (ap (λ (r : RecordData). r.number) u ∙ sym y) (ap (λ (r : RecordData). r.page) u ∙ sym z))))
+      (λ (u : Contains old s). (gains (key_of s, s)).1 (inl (is.listed s u)))
+      (λ (u : s ≡ redo). (gains (key_of s, s)).1 (inr (entry_as s.epoch s.number e n s redo
+      (ap (λ (r : RecordData). r.epoch) u ∙ sym x) (ap (λ (r : RecordData). r.number) u ∙ sym y) u)))
       ((grows s).0 h);
-  backed = λ a b q h. ⊎_elim
-      (λ (u : Contains keys (key_in a b, q)). let t = is.backed a b q u in (t.0, (grows t.0).1 (inl t.1), t.2, t.3))
-      (λ (u : (key_in a b, q) ≡ (key_in e n, p)). (
-        redo,
-        (grows redo).1 (inr refl),
-        (sym (ap (λ (w : Key × ℕ). w.0.epoch) u ∙ x), sym (ap (λ (w : Key × ℕ). w.0.number) u ∙ y)),
-        sym (ap (λ (w : Key × ℕ). w.1) u ∙ z),
+  backed = λ a b s h. ⊎_elim
+      (λ (u : Contains keys (key_in a b, s)). let t = is.backed a b s u in ((grows s).1 (inl t.0), t.1))
+      (λ (u : (key_in a b, s) ≡ (key_in e n, redo)).
+      let same : s ≡ redo = ap (λ (w : Key × RecordData). w.1) u in (
+        (grows s).1 (inr same),
+        (
+          ap (λ (r : RecordData). r.epoch) same ∙ sym (ap (λ (w : Key × RecordData). w.0.epoch) u ∙ x),
+          ap (λ (r : RecordData). r.number) same ∙ sym (ap (λ (w : Key × RecordData). w.0.number) u ∙ y),
+        ),
       ))
-      ((gains (key_in a b, q)).0 h);
+      ((gains (key_in a b, s)).0 h);
 }
 
-pub pages_undone : (held : List RecordData) (keys more back : List (Key × ℕ)) (redo : RecordData) (e n p : ℕ) → IsKeyPages held keys → IsRecordAt held (key_of redo) None → e ≡ redo.epoch → n ≡ redo.number → GainsPage keys (key_in e n) p more → LosesPage more (key_in e n) back → IsKeyPages held back
-pages_undone held keys more back redo e n p is free x y gains loses = record {
-  listed = λ s h. (loses (key_of s, s.page)).1 (
-    (gains (key_of s, s.page)).1 (inl (is.listed s h)),
+pub entries_undone : (held : List RecordData) (keys more back : List (Key × RecordData)) (redo : RecordData) (e n : ℕ) → IsKeyRecords held keys → IsRecordAt held (key_of redo) None → e ≡ redo.epoch → n ≡ redo.number → GainsEntry keys (key_in e n) redo more → LosesEntry more (key_in e n) back → IsKeyRecords held back
+entries_undone held keys more back redo e n is free x y gains loses = record {
+  listed = λ s h. (loses (key_of s, s)).1 (
+    (gains (key_of s, s)).1 (inl (is.listed s h)),
     λ u. free s h (ap (λ (k : Key). k.epoch) u ∙ x, ap (λ (k : Key). k.number) u ∙ y),
   );
-  backed = λ a b q h.
-      let l = (loses (key_in a b, q)).0 h in
+  backed = λ a b s h.
+      let l = (loses (key_in a b, s)).0 h in
       ⊎_elim
-      (λ (u : Contains keys (key_in a b, q)). is.backed a b q u)
-      (λ (u : (key_in a b, q) ≡ (key_in e n, p)). absurd (l.1 (ap (λ (w : Key × ℕ). w.0) u)))
-      ((gains (key_in a b, q)).0 l.0);
+      (λ (u : Contains keys (key_in a b, s)). is.backed a b s u)
+      (λ (u : (key_in a b, s) ≡ (key_in e n, redo)). absurd (l.1 (ap (λ (w : Key × RecordData). w.0) u)))
+      ((gains (key_in a b, s)).0 l.0);
 }
 
-pub pages_shrink : (old new : List RecordData) (keys less : List (Key × ℕ)) (e n : ℕ) → IsKeyPages old keys → Removes (HasKey (key_in e n)) old new → LosesPage keys (key_in e n) less → IsKeyPages new less
-pages_shrink old new keys less e n is removes loses = record {
+pub entries_shrink : (old new : List RecordData) (keys less : List (Key × RecordData)) (e n : ℕ) → IsKeyRecords old keys → Removes (HasKey (key_in e n)) old new → LosesEntry keys (key_in e n) less → IsKeyRecords new less
+entries_shrink old new keys less e n is removes loses = record {
   listed = λ s h.
       let t = (removes s).0 h in
-      (loses (key_of s, s.page)).1 (is.listed s t.0, λ u. t.1 (ap (λ (k : Key). k.epoch) u, ap (λ (k : Key). k.number) u));
-  backed = λ a b q h.
-      let l = (loses (key_in a b, q)).0 h in
-      let t = is.backed a b q l.0 in
-      let key : key_of t.0 ≡ key_in a b = ap (λ (x : ℕ). key_in x t.0.number) t.2.0 ∙ ap (λ (x : ℕ). key_in a x) t.2.1 in
-      (t.0, (removes t.0).1 (t.1, λ k. l.1 (sym key ∙ ap (λ (x : ℕ). key_in x t.0.number) k.0 ∙ ap (λ (x : ℕ). key_in e x) k.1)), t.2, t.3);
+      (loses (key_of s, s)).1 (is.listed s t.0, λ u. t.1 (ap (λ (k : Key). k.epoch) u, ap (λ (k : Key). k.number) u));
+  backed = λ a b s h.
+      let l = (loses (key_in a b, s)).0 h in
+      let t = is.backed a b s l.0 in
+      let key : key_of s ≡ key_in a b = ap (λ (x : ℕ). key_in x s.number) t.1.0 ∙ ap (λ (x : ℕ). key_in a x) t.1.1 in
+      ((removes s).1 (t.0, λ k. l.1 (sym key ∙ ap (λ (x : ℕ). key_in x s.number) k.0 ∙ ap (λ (x : ℕ). key_in e x) k.1)), t.1);
 }
 
--- whether the key that was given a page had one
-pub had_page : (o : Option ℕ) (b : Bool) (old new : List (Key × ℕ)) (key : Key) (page : ℕ) → b ≡ is_some o → b ≡ true → AddsPage old key page new o → (p : ℕ) × Contains old (key, p)
-had_page o b old new key page e f h = search rules
+-- what is under a key is the record of the key
+pub stored_at : (held : List RecordData) (keys : List (Key × RecordData)) (e n : ℕ) (o : Option RecordData) → IsKeyRecords held keys → IsUnderKey keys (key_in e n) o → IsRecordAt held (key_in e n) o
+stored_at held keys e n None is none = λ r h k. none r (subst (λ (x : ℕ). Contains keys (key_in x n, r)) k.0 (subst (λ (x : ℕ). Contains keys (key_in r.epoch x, r)) k.1 (is.listed r h)))
+stored_at held keys e n (Some r) is at = is.backed e n r at
 
-pub had_same : (o : Option ℕ) (b : Bool) (old new : List (Key × ℕ)) (key : Key) (page : ℕ) → b ≡ is_some o → b ≡ true → AddsPage old key page new o → new ≡ old
-had_same None b old new key page e f h = absurd (false≢true (sym e ∙ f))
-had_same (Some p) b old new key page e f h = h.1
-
-pub had_none : (o : Option ℕ) (b : Bool) (old new : List (Key × ℕ)) (key : Key) (page : ℕ) → b ≡ is_some o → b ≡ false → AddsPage old key page new o → IsPageOf old key None × GainsPage old key page new
-had_none None b old new key page e f h = h
-had_none (Some p) b old new key page e f h = absurd (cc)
-
--- a key without a page is free, and each other key leads to its record
-pub unpaged : (held : List RecordData) (keys : List (Key × ℕ)) (e n : ℕ) → IsKeyPages held keys → IsPageOf keys (key_in e n) None → IsRecordAt held (key_in e n) None
-unpaged held keys e n is none r h k = none r.page (subst (λ (x : ℕ). Contains keys (key_in x n, r.page)) k.0 (subst (λ (x : ℕ). Contains keys (key_in r.epoch x, r.page)) k.1 (is.listed r h)))
-
-pub paged_at : (held : List RecordData) (keys : List (Key × ℕ)) (e n page : ℕ) (o : Option RecordData) → IsHeld held → IsKeyPages held keys → IsPageOf keys (key_in e n) (Some page) → IsRecordOf held page (key_in e n) o → IsRecordAt held (key_in e n) o
-paged_at held keys e n page None form is at none = let t = is.backed e n page at in absurd (none t.0 t.1 t.3 t.2)
-paged_at held keys e n page (Some r) form is at found = (found.0, found.2)
-
--- a key's record is of the key's page
-pub key_page : (held : List RecordData) (keys : List (Key × ℕ)) (e n page : ℕ) → IsHeld held → IsKeyPages held keys → IsPageOf keys (key_in e n) (Some page) → (r : RecordData) → Contains held r → HasKey (key_in e n) r → r.page ≡ page
-key_page held keys e n page form is at r h k =
-    let t = is.backed e n page at in
-    let same : r ≡ t.0 = one_key held form.rising r t.0 h t.1 (k.0 ∙ sym t.2.0) (k.1 ∙ sym t.2.1) in
-    ap (λ (x : RecordData). x.page) same ∙ t.3
-
-pub removes_key : (old new : List RecordData) (keys : List (Key × ℕ)) (e n page : ℕ) → IsHeld old → IsKeyPages old keys → IsPageOf keys (key_in e n) (Some page) → Removes (λ r. (r.page ≡ page) × HasKey (key_in e n) r) old new → Removes (HasKey (key_in e n)) old new
-removes_key old new keys e n page form is at removes r = (
-  λ h. let t = (removes r).0 h in (t.0, λ k. t.1 (key_page old keys e n page form is at r t.0 k, k)),
+pub removes_key : (old new : List RecordData) (keys : List (Key × RecordData)) (e n page : ℕ) (redo : RecordData) → IsHeld old → IsKeyRecords old keys → IsUnderKey keys (key_in e n) (Some redo) → page ≡ redo.page → Removes (λ r. (r.page ≡ page) × HasKey (key_in e n) r) old new → Removes (HasKey (key_in e n)) old new
+removes_key old new keys e n page redo form is at same removes r = (
+  λ h.
+      let t = (removes r).0 h in
+      let own = is.backed e n redo at in
+      (t.0, λ k. t.1 (ap (λ (x : RecordData). x.page) (one_key old form.rising r redo t.0 own.0 (k.0 ∙ sym own.1.0) (k.1 ∙ sym own.1.1)) ∙ sym same, k)),
   λ h. (removes r).1 (h.0, λ k. h.1 k.1),
 )
 
@@ -212,24 +193,24 @@ key_above after r h = search rules
 above_key : (after : Option Key) (r : RecordData) (e n : ℕ) → HasKey (key_in e n) r → IsAboveKey after e n → IsAbove after r
 above_key after r e n k h = search rules
 
-pub key_held : (held : List RecordData) (keys : List (Key × ℕ)) (after o : Option Key) → IsKeyPages held keys → IsLeastKey keys after o → IsKeyAfter held after o
-key_held held keys after None is least = λ r h up. least r.epoch r.number r.page (is.listed r h) (key_above after r up)
+pub key_held : (held : List RecordData) (keys : List (Key × RecordData)) (after o : Option Key) → IsKeyRecords held keys → IsLeastKey keys after o → IsKeyAfter held after o
+key_held held keys after None is least = λ r h up. least r.epoch r.number r (is.listed r h) (key_above after r up)
 key_held held keys after (Some key) is least =
     let t = is.backed key.epoch key.number least.0.0 least.0.1 in (
-      (t.0, t.1, t.2, above_key after t.0 key.epoch key.number t.2 least.0.2),
-      λ r h up. least.1 r.epoch r.number r.page (is.listed r h) (key_above after r up),
+      (least.0.0, t.0, t.1, above_key after least.0.0 key.epoch key.number t.1 least.0.2),
+      λ r h up. least.1 r.epoch r.number r (is.listed r h) (key_above after r up),
     )
 
-pub key_held_to : (held : List RecordData) (keys : List (Key × ℕ)) (to : Key) (o : Option Key) → IsKeyPages held keys → IsGreatestKey keys to o → IsKeyTo held to o
-key_held_to held keys to None is greatest = λ r h. greatest r.epoch r.number r.page (is.listed r h)
+pub key_held_to : (held : List RecordData) (keys : List (Key × RecordData)) (to : Key) (o : Option Key) → IsKeyRecords held keys → IsGreatestKey keys to o → IsKeyTo held to o
+key_held_to held keys to None is greatest = λ r h. greatest r.epoch r.number r (is.listed r h)
 key_held_to held keys to (Some key) is greatest =
     let t = is.backed key.epoch key.number greatest.0.0 greatest.0.1 in (
-      (t.0, t.1, t.2, λ p. greatest.0.2 (subst (λ (x : ℕ). KeyBefore to (key_in x key.number)) t.2.0 (subst (λ (x : ℕ). KeyBefore to (key_in t.0.epoch x)) t.2.1 p))),
-      λ r h not. greatest.1 r.epoch r.number r.page (is.listed r h) not,
+      (greatest.0.0, t.0, t.1, λ p. greatest.0.2 (subst (λ (x : ℕ). KeyBefore to (key_in x key.number)) t.1.0 (subst (λ (x : ℕ). KeyBefore to (key_in greatest.0.0.epoch x)) t.1.1 p))),
+      λ r h not. greatest.1 r.epoch r.number r (is.listed r h) not,
     )
 
-pub greatest_held : (held : List RecordData) (keys : List (Key × ℕ)) (o : Option Key) → IsKeyPages held keys → IsGreatestOf keys o → IsGreatestHeld held o
-greatest_held held keys None is none = λ r h. none r.epoch r.number r.page (is.listed r h)
+pub greatest_held : (held : List RecordData) (keys : List (Key × RecordData)) (o : Option Key) → IsKeyRecords held keys → IsGreatestOf keys o → IsGreatestHeld held o
+greatest_held held keys None is none = λ r h. none r.epoch r.number r (is.listed r h)
 greatest_held held keys (Some key) is greatest =
     let t = is.backed key.epoch key.number greatest.0.0 greatest.0.1 in
-    ((t.0, t.1, t.2), λ r h. greatest.1 r.epoch r.number r.page (is.listed r h))
+    ((greatest.0.0, t.0, t.1), λ r h. greatest.1 r.epoch r.number r (is.listed r h))

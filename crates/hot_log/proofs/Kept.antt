@@ -1,5 +1,5 @@
 -- A scan of the keys above one, and what is kept of them.
-use Rattle.std.proofs.Common.{◌≡◌, ℕ, ◌<◌, ◌≤◌, inl, inr, ⊎_elim, List, [], ◌∷◌, ◌++◌, map, refl, sym, ap, ◌∙◌, subst, arith, rules}
+use Rattle.std.proofs.Common.{◌↔◌, ◌≡◌, ℕ, ◌<◌, ◌≤◌, inl, inr, ⊎_elim, List, [], ◌∷◌, ◌++◌, map, refl, sym, ap, ◌∙◌, subst, arith, rules}
 use Rattle.std.proofs.lemmas.Grind.{common_steps}
 use Rattle.std.specs.List.{Contains, filter}
 use Rattle.std.specs.declared.cmp.Ordering.TheVariants.{Less}
@@ -17,8 +17,8 @@ use Rattle.redo_core.proofs.Listing.{lists_push, lists_as}
 use Rattle.redo_core.proofs.Rising.{rising_filter}
 use Rattle.epoch_book.specs.Book.{BookData}
 use Rattle.hot_log.specs.Alive.{PartsAt}
-use Rattle.hot_log.specs.Indexing.{IsKeyPages}
-use Rattle.hot_log.specs.Kept.{KeepsKey, IsKeptAbove, ListsKeysOf, IsKeyKept}
+use Rattle.hot_log.specs.Indexing.{IsKeyRecords}
+use Rattle.hot_log.specs.Kept.{KeepsKey, IsKeptAbove, IsKeptUnlisted, ListsKeysOf, IsKeyKept}
 use Rattle.hot_log.proofs.Indexed.{one_key}
 use Rattle.hot_log.proofs.Keyed.{Entry, Map}
 use Rattle.hot_log.proofs.Maps.{rising_entries, before_join, lt_true, lt_of}
@@ -28,7 +28,7 @@ use Rattle.hot_log.proofs.Orders.{key_less, key_less_of, joins_last}
 
 -- of some entries the keys that wait, or are alive above a point
 abbrev pub KeptIn : BookData → ℕ → List Entry → Key → Type 0
-KeptIn b point xs k = ((page : ℕ) × Contains xs (k, page)) × KeepsKey b point k
+KeptIn b point xs k = ((r : RecordData) × Contains xs (k, r)) × KeepsKey b point k
 
 abbrev pub ListsKept : BookData → ℕ → List Entry → List Key → Type 0
 ListsKept b point xs keys = Lists KeyBefore (KeptIn b point xs) keys
@@ -39,12 +39,12 @@ kept_none b point keys none = search rules
 -- the entries in front of one in a range have lower keys
 in_front : (m : Map) (above : Key) (es xs rest : List Entry) (x : Entry) → IsStrictlySortedBy key_cmp (keys_of m)
     → es ≡ filter (λ (e : Entry). range_contains key_cmp (Excluded above) Unbounded e.0) m → es ≡ xs ++ x ∷ rest
-    → (k : Key) (page : ℕ) → Contains xs (k, page) → KeyBefore k x.0
-in_front m above es xs rest x ordered is split k page h =
+    → (k : Key) (r : RecordData) → Contains xs (k, r) → KeyBefore k x.0
+in_front m above es xs rest x ordered is split k r h =
     let Before : Entry → Entry → Type 0 = λ x y. key_cmp x.0 y.0 ≡ Less in
     let test = λ (e : Entry). range_contains key_cmp (Excluded above) Unbounded e.0 in
     let rising : IsRising Before (xs ++ x ∷ rest) = subst (IsRising Before) (sym is ∙ split) (rising_filter Before test m (rising_entries key_cmp m ordered)) in
-    key_less k x.0 (before_join Before xs rest x (k, page) rising h)
+    key_less k x.0 (before_join Before xs rest x (k, r) rising h)
 
 pub kept_more : (b : BookData) (point : ℕ) (m : Map) (above : Key) (es xs rest : List Entry) (x : Entry) (keys : List Key) → IsStrictlySortedBy key_cmp (keys_of m)
     → es ≡ filter (λ (e : Entry). range_contains key_cmp (Excluded above) Unbounded e.0) m → es ≡ xs ++ x ∷ rest
@@ -98,6 +98,14 @@ kept_all b point m above es keys is lists =
     ))
     lists
 
+-- a stored record is kept and unlisted where its key is
+pub unlisted_of : (b : BookData) (held : List RecordData) (point : ℕ) (keys : List Key) (key : Key) (r : RecordData) → Contains held r → key ≡ key_of r
+    → (KeepsKey b point key × (Contains keys key → ⊥)) ↔ IsKeptUnlisted b held point keys r
+unlisted_of b held point keys key r stored is = (
+  λ h. ((stored, subst (KeepsKey b point) is h.0), subst (λ (k : Key). Contains keys k → ⊥) is h.1),
+  λ h. (subst (KeepsKey b point) (sym is) h.0.1, subst (λ (k : Key). Contains keys k → ⊥) (sym is) h.1),
+)
+
 -- ---- the records of keys
 
 -- the records with P that have these keys
@@ -143,7 +151,7 @@ past_parts b point epoch k parts known keeps = ⊎_elim
     keeps
 
 pub kept_records : (b : BookData) (held : List RecordData) (entries : List Entry) (point epoch : ℕ) (keys : List Key) → IsRising RecordBefore held
-    → IsKeyPages held entries → PartsAt b point epoch → epoch ≤ b.complete → Lists KeyBefore (IsKeyKept b entries (key_in epoch point) point) keys
+    → IsKeyRecords held entries → PartsAt b point epoch → epoch ≤ b.complete → Lists KeyBefore (IsKeyKept b entries (key_in epoch point) point) keys
     → ListsKeysOf (IsKeptAbove b held point) keys
 kept_records b held entries point epoch keys rising pages parts known lists =
     let of = of_keys (IsKeptAbove b held point) keys (λ k h. record_of k ((lists.members k).0 h)) in
@@ -154,7 +162,7 @@ kept_records b held entries point epoch keys rising pages parts known lists =
         members = λ r. (
           λ h. of.each_has r h,
           λ h.
-              let among = (lists.members (key_of r)).1 ((r.page, pages.listed r h.0), past_parts b point epoch (key_of r) parts known h.1, h.1) in
+              let among = (lists.members (key_of r)).1 ((r, pages.listed r h.0), past_parts b point epoch (key_of r) parts known h.1, h.1) in
               let t = record_among of.records (key_of r) (subst (λ (l : List Key). Contains l (key_of r)) of.keys_are among) in
               let same : t.0 ≡ r = one_key held rising t.0 r (of.each_has t.0 t.1).0 h.0 (ap (λ (k : Key). k.epoch) t.2) (ap (λ (k : Key). k.number) t.2) in
               subst (Contains of.records) same t.1,
@@ -167,6 +175,6 @@ kept_records b held entries point epoch keys rising pages parts known lists =
     record_of k h =
         let t = pages.backed k.epoch k.number h.0.0 h.0.1 in
         let one : ℕ → Key = λ e. key_in e k.number in
-        let two : ℕ → Key = λ n. key_in t.0.epoch n in
-        let own : k ≡ key_of t.0 = ap one (sym t.2.0) ∙ ap two (sym t.2.1) in
-        (t.0, (t.1, subst (KeepsKey b point) own h.2), own)
+        let two : ℕ → Key = λ n. key_in h.0.0.epoch n in
+        let own : k ≡ key_of h.0.0 = ap one (sym t.1.0) ∙ ap two (sym t.1.1) in
+        (h.0.0, (t.0, subst (KeepsKey b point) own h.2), own)

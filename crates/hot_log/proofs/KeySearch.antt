@@ -7,6 +7,7 @@ use Rattle.std.specs.Ordering.{ordering_index, MatchOrdering}
 use Rattle.std.specs.Result.{is_ok}
 use Rattle.redo_core.specs.Order.{IsRising}
 use Rattle.redo_core.specs.Keys.{key_in, key_cmp, KeyBefore}
+use Rattle.std.proofs.lemmas.Bool.Decides.{nat_tests}
 use Rattle.redo_core.specs.declared.keys.Key.{Key}
 use Rattle.redo_core.proofs.Pairs.{pair_apart, pair_trans}
 use Rattle.std.proofs.lemmas.List.{get_or-take, get_or_default}
@@ -23,6 +24,9 @@ both p q h = search rules
 
 pub are_one : (k l : Key) → (eqb k.epoch l.epoch && eqb k.number l.number) ≡ true → k ≡ l
 are_one k l same = search rules
+
+pub equal_keys : (k l : Key) → k ≡ l → (eqb k.epoch l.epoch && eqb k.number l.number) ≡ true
+equal_keys k l same = let e : k.epoch ≡ l.epoch = ap (λ (x : Key). x.epoch) same in let n : k.number ≡ l.number = ap (λ (x : Key). x.number) same in grind (arith, nat_tests)
 
 key_ranked : (k l : Key) → MatchOrdering (key_cmp k l) (KeyBefore k l) (k ≡ l) (KeyBefore l k)
 key_ranked k l = search rules

@@ -1,10 +1,10 @@
 -- Records by page and key, and the same in the order of their keys.
-use Rattle.std.proofs.Common.{◌≡◌, ℕ, ◌+◌, ◌<◌, ◌⊎◌, ◌↔◌, inl, inr, ⊎_elim, List, [], ◌∷◌, length, refl, sym, ◌∙◌, ap, subst, arith, Bool, true, false, cond, Option, Some, None, rules}
+use Rattle.std.proofs.Common.{◌≡◌, ℕ, ◌+◌, ◌<◌, ◌⊎◌, ◌↔◌, inl, inr, ⊎_elim, List, [], ◌∷◌, length, refl, sym, ◌∙◌, ap, subst, arith, Bool, true, false, cond, None, rules}
 use Rattle.std.proofs.lemmas.Grind.{common_steps}
 use Rattle.std.specs.List.{Contains}
 use Rattle.std.specs.declared.cmp.Ordering.TheVariants.{Less, Equal}
 use Rattle.std.specs.BTreeMap.{is_at, insert_entry}
-use Rattle.std.specs.Map.{keys_of, lookup, remove_entry}
+use Rattle.std.specs.Map.{keys_of, remove_entry}
 use Rattle.std.specs.List.Sorted.{IsStrictlySortedBy}
 use Rattle.redo_core.specs.Data.{RecordData}
 use Rattle.redo_core.specs.Keys.{key_in, key_of}
@@ -14,10 +14,10 @@ use Rattle.redo_core.specs.Order.{IsRising, RecordBefore}
 use Rattle.redo_core.proofs.Members.{none_in, here, there, which, each, all_of}
 use Rattle.redo_core.proofs.Pairs.{pair_order, record_trans}
 use Rattle.hot_log.specs.Held.{IsHeld, HasKey, IsRecordAt}
-use Rattle.hot_log.specs.Indexing.{IsRecordOf, IsIndexBy}
+use Rattle.hot_log.specs.Indexing.{IsIndexBy}
 use Rattle.hot_log.specs.Removing.{Removes}
 use Rattle.hot_log.specs.Paged.{place_cmp, place_of, records_in, is_below, insert_by_key, by_key, IsPaged}
-use Rattle.hot_log.proofs.Maps.{key_listed, value_of, rising_entries, held_at, at_key, joins, shrunk}
+use Rattle.hot_log.proofs.Maps.{key_listed, value_of, rising_entries, at_key, joins, shrunk}
 use Rattle.hot_log.proofs.Orders.{places_exact}
 use Rattle.hot_log.proofs.Places.{Place}
 
@@ -187,16 +187,6 @@ page_index m is = record {
         (sym (ap (λ (p : Place). p.1.epoch) k), sym (ap (λ (p : Place). p.1.number) k)),
       );
 }
-
-pub got : (m : Map) → IsPaged m → (page : ℕ) (key : Key) (o : Option RecordData) → o ≡ lookup (is_at (place_cmp (page, key))) m → IsRecordOf (seen m) page key o
-got m is page key None e = λ r h p k.
-    let at : place_of r ≡ (page, key) = place_as r.page r.epoch r.number page key.epoch key.number p k.0 k.1 in
-    let found : lookup (is_at (place_cmp (page, key))) m ≡ Some r = (held_at place_cmp places_exact m is.ordered (page, key) r).1 (subst (λ (x : Place). Contains m (x, r)) at (own_entry m is r h)) in
-    cc
-got m is page key (Some r) e =
-    let at : Contains m ((page, key), r) = (held_at place_cmp places_exact m is.ordered (page, key) r).0 (sym e) in
-    let k : (page, key) ≡ place_of r = is.placed ((page, key), r) at in
-    (seen_in m ((page, key), r) at, sym (ap (λ (p : Place). p.0) k), (sym (ap (λ (p : Place). p.1.epoch) k), sym (ap (λ (p : Place). p.1.number) k)))
 
 -- the entries of a map that gains a record under its free key
 pub record Grows (old new : Map) (redo : RecordData) : Type 0 where

@@ -15,10 +15,10 @@ use Rattle.redo_core.proofs.Members.{none_in, here, which, each, filtered, passe
 use Rattle.redo_core.proofs.Pairs.{pair_apart, pair_trans}
 use Rattle.epoch_book.specs.Book.{BookData}
 use Rattle.hot_log.specs.Held.{IsHeld, HasKey}
-use Rattle.hot_log.specs.Indexing.{IsKeyPages, LosesPage}
+use Rattle.hot_log.specs.Indexing.{IsKeyRecords, LosesEntry}
 use Rattle.hot_log.specs.Paged.{place_cmp, place_of, records_in, IsPaged}
 use Rattle.hot_log.specs.Removing.{IsBetween, IsRow, ListsWithout, Removes, RemovesRow, UnlistsRow}
-use Rattle.hot_log.proofs.Indexed.{one_key, pages_shrink}
+use Rattle.hot_log.proofs.Indexed.{one_key, entries_shrink}
 use Rattle.hot_log.proofs.Keys.{pair_not_same, pair_up_to}
 use Rattle.hot_log.proofs.Paged.{Entry, Map, entry_of, held_of, own_entry, record_in, seen, seen_in}
 use Rattle.hot_log.proofs.Places.{Place, pair_or_not}
@@ -44,19 +44,19 @@ without_one e n held r = (
 )
 
 -- the same records are listed in the same way
-pages_same : (old new : List RecordData) (keys : List (Key × ℕ)) → ((r : RecordData) → Contains old r ↔ Contains new r) → IsKeyPages old keys → IsKeyPages new keys
-pages_same old new keys same is = record {
+entries_same : (old new : List RecordData) (keys : List (Key × RecordData)) → ((r : RecordData) → Contains old r ↔ Contains new r) → IsKeyRecords old keys → IsKeyRecords new keys
+entries_same old new keys same is = record {
   listed = λ r h. is.listed r ((same r).1 h);
-  backed = λ e n page h. let t = is.backed e n page h in (t.0, (same t.0).0 t.1, t.2, t.3);
+  backed = λ e n r h. let t = is.backed e n r h in ((same r).0 t.0, t.1);
 }
 
 -- what is listed are the stored records without those with P
-pub record Left (P : RecordData → Type 0) (held : List RecordData) (keys : List (Key × ℕ)) : Type 0 where
+pub record Left (P : RecordData → Type 0) (held : List RecordData) (keys : List (Key × RecordData)) : Type 0 where
   pub left : List RecordData
   pub removes : Removes P held left
-  pub pages : IsKeyPages left keys
+  pub pages : IsKeyRecords left keys
 
-left_as : (P Q : RecordData → Type 0) (held : List RecordData) (keys : List (Key × ℕ)) → ((r : RecordData) → Contains held r → P r ↔ Q r) → Left P held keys → Left Q held keys
+left_as : (P Q : RecordData → Type 0) (held : List RecordData) (keys : List (Key × RecordData)) → ((r : RecordData) → Contains held r → P r ↔ Q r) → Left P held keys → Left Q held keys
 left_as P Q held keys same is = record {
   left = is.left;
   removes = λ r. (
@@ -67,7 +67,7 @@ left_as P Q held keys same is = record {
 }
 
 -- one more of them leaves
-left_more : (P Q : RecordData → Type 0) (held : List RecordData) (keys less : List (Key × ℕ)) (x : RecordData) (e n : ℕ) → IsHeld held → Left P held keys → Contains held x → ((r : RecordData) → Contains held r → Q r ↔ (P r ⊎ (r ≡ x))) → e ≡ x.epoch → n ≡ x.number → LosesPage keys (key_in e n) less → Left Q held less
+left_more : (P Q : RecordData → Type 0) (held : List RecordData) (keys less : List (Key × RecordData)) (x : RecordData) (e n : ℕ) → IsHeld held → Left P held keys → Contains held x → ((r : RecordData) → Contains held r → Q r ↔ (P r ⊎ (r ≡ x))) → e ≡ x.epoch → n ≡ x.number → LosesEntry keys (key_in e n) less → Left Q held less
 left_more P Q held keys less x e n form is among more q s loses =
     let removes = without_one e n is.left in
     record {
@@ -82,12 +82,12 @@ left_more P Q held keys less x e n form is among more q s loses =
           λ k. h.1 ((more r h.0).1 (inr (one_key held form.rising r x h.0 among (k.0 ∙ q) (k.1 ∙ s)))),
         ),
       );
-      pages = pages_shrink is.left (without e n is.left) keys less e n is.pages removes loses;
+      pages = entries_shrink is.left (without e n is.left) keys less e n is.pages removes loses;
     }
 
-left_lists : (P : RecordData → Type 0) (held : List RecordData) (keys : List (Key × ℕ)) → Left P held keys → ListsWithout P held keys
+left_lists : (P : RecordData → Type 0) (held : List RecordData) (keys : List (Key × RecordData)) → Left P held keys → ListsWithout P held keys
 left_lists P held keys is left removes =
-    pages_same is.left left keys (λ r. (λ h. (removes r).1 ((is.removes r).0 h), λ h. (is.removes r).1 ((removes r).0 h))) is.pages
+    entries_same is.left left keys (λ r. (λ h. (removes r).1 ((is.removes r).0 h), λ h. (is.removes r).1 ((removes r).0 h))) is.pages
 
 -- a walk over the records of a page between two keys: those passed, and those left
 pub record Walk (m : Map) (page : ℕ) (above to : Key) (xs ys : List Entry) : Type 0 where
@@ -146,19 +146,19 @@ abbrev pub InRow : List Entry → Key → RecordData → Type 0
 InRow xs start r = Contains (records_in xs) r × KeyBefore start (key_of r)
 
 -- what the walk knows: the alive of those passed are those above a key, and they are no longer listed
-pub record Rowed (b : BookData) (held : List RecordData) (above : Key) (xs : List Entry) (start : Key) (last : Option Key) (keys : List (Key × ℕ)) : Type 0 where
+pub record Rowed (b : BookData) (held : List RecordData) (above : Key) (xs : List Entry) (start : Key) (last : Option Key) (keys : List (Key × RecordData)) : Type 0 where
   pub low : (start ≡ above) ⊎ ((r : RecordData) × Contains (records_in xs) r × HasKey start r)
   pub up : (r : RecordData) → Contains (records_in xs) r → IsAlive b.cuts b.complete r.epoch r.number → KeyBefore start (key_of r)
   pub alive : (r : RecordData) → InRow xs start r → IsAlive b.cuts b.complete r.epoch r.number
   pub ends : EndsRow xs start last
   pub left : Left (InRow xs start) held keys
 
-pub rowed_none : (b : BookData) (held : List RecordData) (above : Key) (keys : List (Key × ℕ)) → IsKeyPages held keys → Rowed b held above [] above None keys
+pub rowed_none : (b : BookData) (held : List RecordData) (above : Key) (keys : List (Key × RecordData)) → IsKeyRecords held keys → Rowed b held above [] above None keys
 rowed_none b held above keys is = search rules
 
 -- an alive record is one more of the run
-pub rowed_alive : (b : BookData) (m : Map) (page : ℕ) (above to : Key) (xs rest : List Entry) (x : Entry) (start : Key) (last : Option Key) (keys less : List (Key × ℕ)) (e n : ℕ) → Walk m page above to xs (x ∷ rest) → Rowed b (seen m) above xs start last keys
-    → IsAlive b.cuts b.complete x.1.epoch x.1.number → e ≡ x.1.epoch → n ≡ x.1.number → LosesPage keys (key_in e n) less → Rowed b (seen m) above (xs ++ x ∷ []) start (Some (key_in e n)) less
+pub rowed_alive : (b : BookData) (m : Map) (page : ℕ) (above to : Key) (xs rest : List Entry) (x : Entry) (start : Key) (last : Option Key) (keys less : List (Key × RecordData)) (e n : ℕ) → Walk m page above to xs (x ∷ rest) → Rowed b (seen m) above xs start last keys
+    → IsAlive b.cuts b.complete x.1.epoch x.1.number → e ≡ x.1.epoch → n ≡ x.1.number → LosesEntry keys (key_in e n) less → Rowed b (seen m) above (xs ++ x ∷ []) start (Some (key_in e n)) less
 rowed_alive b m page above to xs rest x start last keys less e n w is alive q s loses = record {
   low = ⊎_elim (λ (u : start ≡ above). inl u) (λ u. inr (u.0, (joined xs x u.0).1 (inl u.1), u.2)) is.low;
   up = λ r h a. ⊎_elim (λ (u : Contains (records_in xs) r). is.up r u a) (λ (u : r ≡ x.1). subst (λ (y : RecordData). KeyBefore start (key_of y)) (sym u) over) ((joined xs x r).0 h);
@@ -194,7 +194,7 @@ rowed_alive b m page above to xs rest x start last keys less e n w is alive q s 
         is.low
 
 -- one that is not alive, before the run
-pub rowed_dead : (b : BookData) (m : Map) (page : ℕ) (above to : Key) (xs rest : List Entry) (x : Entry) (start : Key) (keys : List (Key × ℕ)) (e n : ℕ) → Walk m page above to xs (x ∷ rest) → Rowed b (seen m) above xs start None keys
+pub rowed_dead : (b : BookData) (m : Map) (page : ℕ) (above to : Key) (xs rest : List Entry) (x : Entry) (start : Key) (keys : List (Key × RecordData)) (e n : ℕ) → Walk m page above to xs (x ∷ rest) → Rowed b (seen m) above xs start None keys
     → (IsAlive b.cuts b.complete x.1.epoch x.1.number → ⊥) → e ≡ x.1.epoch → n ≡ x.1.number → Rowed b (seen m) above (xs ++ x ∷ []) (key_in e n) None keys
 rowed_dead b m page above to xs rest x start keys e n w is dead q s = record {
   low = inr (x.1, (joined xs x x.1).1 (inr refl), (sym q, sym s));
@@ -214,7 +214,7 @@ rowed_dead b m page above to xs rest x start keys e n w is dead q s = record {
         ((joined xs x r).0 h)
 
 -- the walk ends in front of a record that is not alive, or where none is left
-pub rowed_some : (b : BookData) (m : Map) (page : ℕ) (above to : Key) (xs ys : List Entry) (start last : Key) (keys : List (Key × ℕ)) → Walk m page above to xs ys → Rowed b (seen m) above xs start (Some last) keys → UnlistsRow b (seen m) page above to keys (Some (start, last))
+pub rowed_some : (b : BookData) (m : Map) (page : ℕ) (above to : Key) (xs ys : List Entry) (start last : Key) (keys : List (Key × RecordData)) → Walk m page above to xs ys → Rowed b (seen m) above xs start (Some last) keys → UnlistsRow b (seen m) page above to keys (Some (start, last))
 rowed_some b m page above to xs ys start last keys w is = (
   record {
     low = λ u. ⊎_elim
@@ -255,7 +255,7 @@ rowed_some b m page above to xs ys start last keys w is = (
     own : (r : RecordData) → Contains (seen m) r → IsBetween page start last r → Contains (records_in xs) r
     own r h k = inside r h k.0 (over r k.1) (λ p. k.2 (subst (λ (y : ℕ). KeyBefore (key_in y last.number) (key_of r)) end.3.0 (subst (λ (y : ℕ). KeyBefore (key_in end.0.epoch y) (key_of r)) end.3.1 p)))
 
-pub rowed_all : (b : BookData) (m : Map) (page : ℕ) (above to : Key) (xs : List Entry) (start : Key) (keys : List (Key × ℕ)) → Walk m page above to xs [] → Rowed b (seen m) above xs start None keys → UnlistsRow b (seen m) page above to keys None
+pub rowed_all : (b : BookData) (m : Map) (page : ℕ) (above to : Key) (xs : List Entry) (start : Key) (keys : List (Key × RecordData)) → Walk m page above to xs [] → Rowed b (seen m) above xs start None keys → UnlistsRow b (seen m) page above to keys None
 rowed_all b m page above to xs start keys w is = (
   λ r h. ⊎_elim
       (λ (u : Contains (records_in xs) r). is.ends r u (is.up r u h.0.1))

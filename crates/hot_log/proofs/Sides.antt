@@ -1,37 +1,41 @@
--- Two logs scanned side by side: what the one lacks of the other, by page and then by key.
+-- Two logs scanned side by side: what the one lacks of the other, by key.
 use Rattle.std.proofs.Common.{◌≡◌, ℕ, ◌⊎◌, ◌↔◌, inl, inr, ⊎_elim, List, [], ◌∷◌, ◌++◌, Option, Some, None, Bor, refl, sym, ◌∙◌, ap, subst, arith, rules, option_map}
 use Rattle.std.specs.List.{Contains, cons_option}
 use Rattle.std.specs.Map.Iter.{TakesFirst, deref_pair}
+use Rattle.std.specs.declared.cmp.Ordering.TheVariants.{Less}
 use Rattle.std.proofs.lemmas.Bool.Decides.{nat_tests}
 use Rattle.std.proofs.lemmas.List.Elements.{Contains-append_right}
 use Rattle.redo_core.specs.Data.{RecordData}
-use Rattle.redo_core.specs.Order.{IsRising, Lists}
+use Rattle.redo_core.specs.Keys.{key_of, key_cmp}
+use Rattle.redo_core.specs.declared.keys.Key.{Key}
+use Rattle.redo_core.specs.Order.{IsRising, Lists, RecordBefore}
 use Rattle.redo_core.proofs.Members.{none_in, here, there, which, each}
 use Rattle.redo_core.proofs.Listing.{lists_push, lists_as}
 use Rattle.epoch_book.specs.Book.{BookData}
 use Rattle.hot_log.specs.Missing.{IsMissing}
-use Rattle.hot_log.specs.Paged.{PlaceBefore, place_cmp, place_of}
-use Rattle.hot_log.specs.Scanning.{EntryBefore, StandsNext, IsMapOf, IsKeptInBoth, StoresKept}
-use Rattle.hot_log.proofs.Maps.{rising_entries, before_join}
-use Rattle.hot_log.proofs.Orders.{joins_last}
-use Rattle.hot_log.proofs.Paged.{Entry, Map, own_entry, seen_in}
-use Rattle.hot_log.proofs.Places.{Place, Below}
+use Rattle.hot_log.specs.Scanning.{EntryBefore, StandsNext, IsStoredEntry, AreEntries, IsKeptInBoth, StoresKept}
+use Rattle.hot_log.proofs.Keyed.{Entry, Map}
+use Rattle.hot_log.proofs.Maps.{before_join}
+use Rattle.hot_log.proofs.Orders.{joins_last, key_less}
 
 -- what a reference to an entry shows
 abbrev pub Seat : Type 0
-Seat = Bor Place × Bor RecordData
+Seat = Bor Key × Bor RecordData
 
 abbrev pub shown : Option Seat → Option Entry
 shown o = option_map deref_pair o
 
--- ---- the order of places
-pub not_below_itself : (p : Place) → Below p p → ⊥
+-- ---- the order of keys
+abbrev pub Below : Key → Key → Type 0
+Below p q = key_cmp p q ≡ Less
+
+pub not_below_itself : (p : Key) → Below p p → ⊥
 not_below_itself p h = grind (arith, nat_tests)
 
-pub below_trans : (p q r : Place) → Below p q → Below q r → Below p r
+pub below_trans : (p q r : Key) → Below p q → Below q r → Below p r
 below_trans p q r h k = search rules
 
-pub not_both : (p q : Place) → Below p q → Below q p → ⊥
+pub not_both : (p q : Key) → Below p q → Below q p → ⊥
 not_both p q h k = not_below_itself p (below_trans p q p h k)
 
 -- ---- the own entries: some are passed, and one of the others is next
@@ -44,20 +48,20 @@ pub ahead_of : (old : Map) (first : Option Seat) (new : Map) → TakesFirst dere
 ahead_of old None new takes rising = search rules
 ahead_of old (Some x) new takes rising = search rules
 
--- what is left is of all own entries, and what is passed is before a place
-pub record Passes (all : Map) (x : Place) (next : Option Entry) (rest : Map) : Type 0 where
+-- what is left is of all own entries, and what is passed is before a key
+pub record Passes (all : Map) (x : Key) (next : Option Entry) (rest : Map) : Type 0 where
   pub ahead : StandsNext next rest
   pub among : (e : Entry) → Contains (cons_option next rest) e → Contains all e
   pub before : (e : Entry) → Contains all e → Contains (cons_option next rest) e ⊎ Below e.0 x
 
-pub passes_none : (all : Map) (x : Place) (next : Option Entry) (rest : Map) → StandsNext next rest → cons_option next rest ≡ all → Passes all x next rest
+pub passes_none : (all : Map) (x : Key) (next : Option Entry) (rest : Map) → StandsNext next rest → cons_option next rest ≡ all → Passes all x next rest
 passes_none all x next rest ahead is = record {
   ahead = ahead;
   among = λ e h. subst (λ (l : Map). Contains l e) is h;
   before = λ e h. inl (subst (λ (l : Map). Contains l e) (sym is) h);
 }
 
-pub passes_one : (all : Map) (x : Place) (own : Entry) (rest : Map) (first : Option Seat) (left : Map)
+pub passes_one : (all : Map) (x : Key) (own : Entry) (rest : Map) (first : Option Seat) (left : Map)
     → Passes all x (Some own) rest → Below own.0 x → TakesFirst deref_pair rest first left → Passes all x (shown first) left
 passes_one all x own rest first left passes low takes =
     let is = taken rest first left takes in record {
@@ -83,8 +87,8 @@ is_next all x own rest is rising none_before = (
       (which own rest x (subst (λ (l : Map). Contains l x) (sym is) h)),
 )
 
--- where the one that is next is not before a place, none that is left is
-pub passed_all : (all : Map) (x : Place) (own : Entry) (rest : Map) → Passes all x (Some own) rest → (Below own.0 x → ⊥)
+-- where the one that is next is not before a key, none that is left is
+pub passed_all : (all : Map) (x : Key) (own : Entry) (rest : Map) → Passes all x (Some own) rest → (Below own.0 x → ⊥)
     → (e : Entry) → Contains (own ∷ rest) e ↔ (Contains all e × (Below e.0 x → ⊥))
 passed_all all x own rest passes not_before e = (
   λ h. (
@@ -98,41 +102,29 @@ passed_all all x own rest passes not_before e = (
 )
 
 -- where none is left, all were before the place
-pub passed_none : (all : Map) (x : Place) (rest : Map) → Passes all x None rest → (e : Entry) → Contains rest e ↔ (Contains all e × (Below e.0 x → ⊥))
+pub passed_none : (all : Map) (x : Key) (rest : Map) → Passes all x None rest → (e : Entry) → Contains rest e ↔ (Contains all e × (Below e.0 x → ⊥))
 passed_none all x rest passes e = (
   λ h. absurd (none_in e (subst (λ (l : Map). Contains l e) (passes.ahead.ended refl) h)),
   λ h. ⊎_elim (λ (u : Contains rest e). u) (λ (u : Below e.0 x). absurd (h.1 u)) (passes.before e h.0),
 )
 
 -- ---- what a log stores, as entries
-abbrev pub Stores : List RecordData → Entry → Type 0
-Stores held e = (e.0 ≡ place_of e.1) × Contains held e.1
-
-pub stores : (held : List RecordData) (m : Map) → IsMapOf held m → (e : Entry) → Contains m e ↔ Stores held e
-stores held m is e = (
-  λ h. (is.paged.placed e h, subst (λ (l : List RecordData). Contains l e.1) is.sees (seen_in m e h)),
-  λ h. subst (λ (p : Place). Contains m (p, e.1)) (sym h.0) (own_entry m is.paged e.1 (subst (λ (l : List RecordData). Contains l e.1) (sym is.sees) h.1)),
-)
-
-pub rises : (held : List RecordData) (m : Map) → IsMapOf held m → IsRising EntryBefore m
-rises held m is = rising_entries place_cmp m is.paged.ordered
-
 -- those scanned are before the one that the walk has reached
-pub before_next : (held : List RecordData) (m xs ys : Map) (x : Entry) → IsMapOf held m → m ≡ xs ++ x ∷ ys → (f : Entry) → Contains xs f → Below f.0 x.0
-before_next held m xs ys x is split f h = before_join EntryBefore xs ys x f (subst (IsRising EntryBefore) split (rises held m is)) h
+pub before_next : (held : List RecordData) (m xs ys : Map) (x : Entry) → AreEntries held m → m ≡ xs ++ x ∷ ys → (f : Entry) → Contains xs f → Below f.0 x.0
+before_next held m xs ys x is split f h = before_join EntryBefore xs ys x f (subst (IsRising EntryBefore) split is.rising) h
 
 pub joined : (xs ys : Map) (x : Entry) → Contains (xs ++ x ∷ ys) x
 joined xs ys x = Contains-append_right xs (x ∷ ys) x (here x ys)
 
-pub of_split : (held : List RecordData) (m xs ys : Map) (x : Entry) → IsMapOf held m → m ≡ xs ++ x ∷ ys → Stores held x
-of_split held m xs ys x is split = (stores held m is x).0 (subst (λ (l : Map). Contains l x) (sym split) (joined xs ys x))
+pub of_split : (held : List RecordData) (m xs ys : Map) (x : Entry) → AreEntries held m → m ≡ xs ++ x ∷ ys → IsStoredEntry held x
+of_split held m xs ys x is split = (is.each x).0 (subst (λ (l : Map). Contains l x) (sym split) (joined xs ys x))
 
 -- ---- what is left of the own entries: those that none of the others scanned is after
 abbrev pub LeftOf : List RecordData → Map → Map → Type 0
-LeftOf held so_far left = (e : Entry) → Contains left e ↔ (Stores held e × ((f : Entry) → Contains so_far f → Below e.0 f.0 → ⊥))
+LeftOf held so_far left = (e : Entry) → Contains left e ↔ (IsStoredEntry held e × ((f : Entry) → Contains so_far f → Below e.0 f.0 → ⊥))
 
-pub left_first : (held : List RecordData) (m : Map) → IsMapOf held m → LeftOf held [] m
-left_first held m is e = (λ h. ((stores held m is e).0 h, λ f k. absurd (none_in f k)), λ h. (stores held m is e).1 h.0)
+pub left_first : (held : List RecordData) (m : Map) → AreEntries held m → LeftOf held [] m
+left_first held m is e = (λ h. ((is.each e).0 h, λ f k. absurd (none_in f k)), λ h. (is.each e).1 h.0)
 
 pub left_next : (held : List RecordData) (so_far own left : Map) (x : Entry) → LeftOf held so_far own
     → ((e : Entry) → Contains left e ↔ (Contains own e × (Below e.0 x.0 → ⊥))) → LeftOf held (so_far ++ x ∷ []) left
@@ -155,7 +147,7 @@ left_next held so_far own left x was goes e = (
 -- an entry above those scanned is stored exactly if it is left
 pub held_left : (held : List RecordData) (so_far own left : Map) (x : Entry) → LeftOf held so_far own
     → ((e : Entry) → Contains left e ↔ (Contains own e × (Below e.0 x.0 → ⊥))) → ((f : Entry) → Contains so_far f → Below f.0 x.0)
-    → x.0 ≡ place_of x.1 → Contains held x.1 ↔ Contains left x
+    → x.0 ≡ key_of x.1 → Contains held x.1 ↔ Contains left x
 held_left held so_far own left x was goes before placed = (
   λ h. (goes x).1 ((was x).1 ((placed, h), λ f k p. not_both x.0 f.0 p (before f k)), not_below_itself x.0),
   λ h. ((was x).0 ((goes x).0 h).0).0.1,
@@ -163,78 +155,78 @@ held_left held so_far own left x was goes before placed = (
 
 -- ---- the records that are not stored, in the order of the other log
 abbrev pub LacksOf : List RecordData → Map → List RecordData → Type 0
-LacksOf held so_far missing = Lists PlaceBefore (λ r. Contains so_far (place_of r, r) × (Contains held r → ⊥)) missing
+LacksOf held so_far missing = Lists RecordBefore (λ r. Contains so_far (key_of r, r) × (Contains held r → ⊥)) missing
 
 pub lacks_none : (held missing : List RecordData) → missing ≡ [] → LacksOf held [] missing
 lacks_none held missing is = search rules
 
-at_place : (x : Entry) (r : RecordData) → x.0 ≡ place_of x.1 → (◌≡◌ {A = Entry} (place_of r, r) x) ↔ (r ≡ x.1)
-at_place x r placed = (
+at_own : (x : Entry) (r : RecordData) → x.0 ≡ key_of x.1 → (◌≡◌ {A = Entry} (key_of r, r) x) ↔ (r ≡ x.1)
+at_own x r placed = (
   λ h. ap (λ (e : Entry). e.1) h,
-  λ h. subst (λ (p : Place). ◌≡◌ {A = Entry} (place_of r, r) (p, x.1)) (sym placed) (ap {A = RecordData} {B = Entry} (λ (s : RecordData). (place_of s, s)) h),
+  λ h. subst (λ (p : Key). ◌≡◌ {A = Entry} (key_of r, r) (p, x.1)) (sym placed) (ap {A = RecordData} {B = Entry} (λ (s : RecordData). (key_of s, s)) h),
 )
 
 pub lacks_more : (held : List RecordData) (so_far : Map) (missing : List RecordData) (x : Entry) → LacksOf held so_far missing
-    → ((f : Entry) → Contains so_far f → Below f.0 x.0) → x.0 ≡ place_of x.1 → (Contains held x.1 → ⊥) → LacksOf held (so_far ++ x ∷ []) (missing ++ x.1 ∷ [])
+    → ((f : Entry) → Contains so_far f → Below f.0 x.0) → x.0 ≡ key_of x.1 → (Contains held x.1 → ⊥) → LacksOf held (so_far ++ x ∷ []) (missing ++ x.1 ∷ [])
 lacks_more held so_far missing x lists before placed lacks =
-    lists_push PlaceBefore (λ r. Contains so_far (place_of r, r) × (Contains held r → ⊥)) (λ r. Contains (so_far ++ x ∷ []) (place_of r, r) × (Contains held r → ⊥)) missing x.1 lists
-    (λ r h. subst (Below (place_of r)) placed (before (place_of r, r) h.0))
+    lists_push RecordBefore (λ r. Contains so_far (key_of r, r) × (Contains held r → ⊥)) (λ r. Contains (so_far ++ x ∷ []) (key_of r, r) × (Contains held r → ⊥)) missing x.1 lists
+    (λ r h. key_less (key_of r) (key_of x.1) (subst (Below (key_of r)) placed (before (key_of r, r) h.0)))
     (λ r. (
       λ h. ⊎_elim
-          (λ (u : Contains so_far (place_of r, r)). inl (u, h.1))
-          (λ (u : ◌≡◌ {A = Entry} (place_of r, r) x). inr ((at_place x r placed).0 u))
-          ((joins_last so_far x (place_of r, r)).0 h.0),
+          (λ (u : Contains so_far (key_of r, r)). inl (u, h.1))
+          (λ (u : ◌≡◌ {A = Entry} (key_of r, r) x). inr ((at_own x r placed).0 u))
+          ((joins_last so_far x (key_of r, r)).0 h.0),
       λ h. ⊎_elim
-          (λ (u : Contains so_far (place_of r, r) × (Contains held r → ⊥)). ((joins_last so_far x (place_of r, r)).1 (inl u.0), u.1))
-          (λ (u : r ≡ x.1). ((joins_last so_far x (place_of r, r)).1 (inr ((at_place x r placed).1 u)), subst (λ (s : RecordData). Contains held s → ⊥) (sym u) lacks))
+          (λ (u : Contains so_far (key_of r, r) × (Contains held r → ⊥)). ((joins_last so_far x (key_of r, r)).1 (inl u.0), u.1))
+          (λ (u : r ≡ x.1). ((joins_last so_far x (key_of r, r)).1 (inr ((at_own x r placed).1 u)), subst (λ (s : RecordData). Contains held s → ⊥) (sym u) lacks))
           h,
     ))
 
 pub lacks_known : (held : List RecordData) (so_far : Map) (missing : List RecordData) (x : Entry) → LacksOf held so_far missing → Contains held x.1
     → LacksOf held (so_far ++ x ∷ []) missing
 lacks_known held so_far missing x lists known =
-    lists_as PlaceBefore (λ r. Contains so_far (place_of r, r) × (Contains held r → ⊥)) (λ r. Contains (so_far ++ x ∷ []) (place_of r, r) × (Contains held r → ⊥)) missing
+    lists_as RecordBefore (λ r. Contains so_far (key_of r, r) × (Contains held r → ⊥)) (λ r. Contains (so_far ++ x ∷ []) (key_of r, r) × (Contains held r → ⊥)) missing
     (λ r. (
-      λ h. ((joins_last so_far x (place_of r, r)).1 (inl h.0), h.1),
+      λ h. ((joins_last so_far x (key_of r, r)).1 (inl h.0), h.1),
       λ h. ⊎_elim
-          (λ (u : Contains so_far (place_of r, r)). (u, h.1))
-          (λ (u : ◌≡◌ {A = Entry} (place_of r, r) x). absurd (h.1 (subst (Contains held) (ap (λ (e : Entry). e.1) (sym u)) known)))
-          ((joins_last so_far x (place_of r, r)).0 h.0),
+          (λ (u : Contains so_far (key_of r, r)). (u, h.1))
+          (λ (u : ◌≡◌ {A = Entry} (key_of r, r) x). absurd (h.1 (subst (Contains held) (ap (λ (e : Entry). e.1) (sym u)) known)))
+          ((joins_last so_far x (key_of r, r)).0 h.0),
     ))
     lists
 
-pub lacks_all : (held other : List RecordData) (m so_far : Map) (missing : List RecordData) → IsMapOf other m → m ≡ so_far → LacksOf held so_far missing
-    → Lists PlaceBefore (IsMissing held other) missing
+pub lacks_all : (held other : List RecordData) (m so_far : Map) (missing : List RecordData) → AreEntries other m → m ≡ so_far → LacksOf held so_far missing
+    → Lists RecordBefore (IsMissing held other) missing
 lacks_all held other m so_far missing is all lists =
-    lists_as PlaceBefore (λ r. Contains so_far (place_of r, r) × (Contains held r → ⊥)) (IsMissing held other) missing
+    lists_as RecordBefore (λ r. Contains so_far (key_of r, r) × (Contains held r → ⊥)) (IsMissing held other) missing
     (λ r. (
-      λ h. (((stores other m is (place_of r, r)).0 (subst (λ (l : Map). Contains l (place_of r, r)) (sym all) h.0)).1, h.1),
-      λ h. (subst (λ (l : Map). Contains l (place_of r, r)) all ((stores other m is (place_of r, r)).1 (refl, h.0)), h.1),
+      λ h. (((is.each (key_of r, r)).0 (subst (λ (l : Map). Contains l (key_of r, r)) (sym all) h.0)).1, h.1),
+      λ h. (subst (λ (l : Map). Contains l (key_of r, r)) all ((is.each (key_of r, r)).1 (refl, h.0)), h.1),
     ))
     lists
 
 -- ---- the records that both views keep are stored so far
 abbrev pub StoredIn : BookData → List RecordData → ℕ → BookData → ℕ → Map → Type 0
-StoredIn book held point low base so_far = (e : Entry) → Contains so_far e → IsKeptInBoth book point low base e.0.1 → Contains held e.1
+StoredIn book held point low base so_far = (e : Entry) → Contains so_far e → IsKeptInBoth book point low base e.0 → Contains held e.1
 
 pub stored_none : (book : BookData) (held : List RecordData) (point : ℕ) (low : BookData) (base : ℕ) → StoredIn book held point low base []
 stored_none book held point low base e h = absurd (none_in e h)
 
 pub stored_more : (book : BookData) (held : List RecordData) (point : ℕ) (low : BookData) (base : ℕ) (so_far : Map) (x : Entry) → StoredIn book held point low base so_far
-    → (IsKeptInBoth book point low base x.0.1 → Contains held x.1) → StoredIn book held point low base (so_far ++ x ∷ [])
+    → (IsKeptInBoth book point low base x.0 → Contains held x.1) → StoredIn book held point low base (so_far ++ x ∷ [])
 stored_more book held point low base so_far x was one e h kept =
     ⊎_elim
     (λ (u : Contains so_far e). was e u kept)
-    (λ (u : e ≡ x). subst (λ (y : Entry). Contains held y.1) (sym u) (one (subst (λ (y : Entry). IsKeptInBoth book point low base y.0.1) u kept)))
+    (λ (u : e ≡ x). subst (λ (y : Entry). Contains held y.1) (sym u) (one (subst (λ (y : Entry). IsKeptInBoth book point low base y.0) u kept)))
     ((joins_last so_far x e).0 h)
 
-pub stored_all : (book : BookData) (held : List RecordData) (point : ℕ) (low : BookData) (lower : List RecordData) (base : ℕ) (m so_far : Map) → IsMapOf lower m → m ≡ so_far
+pub stored_all : (book : BookData) (held : List RecordData) (point : ℕ) (low : BookData) (lower : List RecordData) (base : ℕ) (m so_far : Map) → AreEntries lower m → m ≡ so_far
     → StoredIn book held point low base so_far → StoresKept book held point low lower base
 stored_all book held point low lower base m so_far is all stored r h kept =
-    stored (place_of r, r) (subst (λ (l : Map). Contains l (place_of r, r)) all ((stores lower m is (place_of r, r)).1 (refl, h))) kept
+    stored (key_of r, r) (subst (λ (l : Map). Contains l (key_of r, r)) all ((is.each (key_of r, r)).1 (refl, h))) kept
 
 -- one that both keep and that is not left is not stored
-pub lacks_one : (book : BookData) (held : List RecordData) (point : ℕ) (low : BookData) (lower : List RecordData) (base : ℕ) (left : Map) (x : Entry) → Stores lower x
-    → Contains held x.1 ↔ Contains left x → IsKeptInBoth book point low base x.0.1 × (Contains left x → ⊥) → StoresKept book held point low lower base → ⊥
+pub lacks_one : (book : BookData) (held : List RecordData) (point : ℕ) (low : BookData) (lower : List RecordData) (base : ℕ) (left : Map) (x : Entry) → IsStoredEntry lower x
+    → Contains held x.1 ↔ Contains left x → IsKeptInBoth book point low base x.0 × (Contains left x → ⊥) → StoresKept book held point low lower base → ⊥
 lacks_one book held point low lower base left x of there lacks stored =
-    lacks.1 (there.0 (stored x.1 of.1 (subst (λ (p : Place). IsKeptInBoth book point low base p.1) of.0 lacks.0)))
+    lacks.1 (there.0 (stored x.1 of.1 (subst (λ (p : Key). IsKeptInBoth book point low base p) of.0 lacks.0)))

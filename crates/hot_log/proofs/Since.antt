@@ -51,8 +51,8 @@ onward_since b held number since at left starts none above = record {
   listed = λ r h lt. above.listed r h.0 (starts.0 r.epoch r.number h.1 lt (none r h lt));
   backed = λ e h a.
       let t = above.backed e h in
-      let alive = alive_key b t.0 e.0 t.2 a in
-      (t.0, (t.1, alive), t.2, starts.1 t.0.epoch t.0.number alive t.4);
+      let alive = alive_key b e.1 e.0 t.1 a in
+      (e.1, (t.0, alive), t.1, starts.1 e.1.epoch e.1.number alive t.2);
   rising = above.rising;
 }
 

@@ -1,4 +1,4 @@
--- Keys of records with their pages, and in groups by segment backlink or by page.
+-- Keys of records with the records, and in groups by segment backlink or by page.
 use Rattle.std.specs.Prelude.{◌≡◌, ℕ, ◌≤◌, max, ◌⊎◌, ◌↔◌, List, [], Option, Some, None}
 use Rattle.std.specs.List.{Contains}
 use Rattle.redo_core.specs.Data.{RecordData}
@@ -63,64 +63,59 @@ pub record IsIndexOf (held : List RecordData) (backs : IndexData) : Type 0 where
   pub listed : (r : RecordData) → Contains held r → backs.start ≤ r.back → InGroup backs.keys r.back r.epoch r.number
   pub backed : (g e n : ℕ) → InGroup backs.keys g e n → (r : RecordData) × Contains held r × (r.back ≡ g) × HasKey (key_in e n) r
 
--- a key has joined those that have pages
-abbrev pub GainsPage : List (Key × ℕ) → Key → ℕ → List (Key × ℕ) → Type 0
-GainsPage old key page new = (e : Key × ℕ) → Contains new e ↔ (Contains old e ⊎ (e ≡ (key, page)))
+-- a key has joined the others, with a record
+abbrev pub GainsEntry : List (Key × RecordData) → Key → RecordData → List (Key × RecordData) → Type 0
+GainsEntry old key redo new = (e : Key × RecordData) → Contains new e ↔ (Contains old e ⊎ (e ≡ (key, redo)))
 
 -- a key has left them
-abbrev pub LosesPage : List (Key × ℕ) → Key → List (Key × ℕ) → Type 0
-LosesPage old key new = (e : Key × ℕ) → Contains new e ↔ (Contains old e × (e.0 ≡ key → ⊥))
+abbrev pub LosesEntry : List (Key × RecordData) → Key → List (Key × RecordData) → Type 0
+LosesEntry old key new = (e : Key × RecordData) → Contains new e ↔ (Contains old e × (e.0 ≡ key → ⊥))
 
--- the page of a key, or none where it has none
-abbrev pub IsPageOf : List (Key × ℕ) → Key → Option ℕ → Type 0
-IsPageOf keys key None = (page : ℕ) → Contains keys (key, page) → ⊥
-IsPageOf keys key (Some page) = Contains keys (key, page)
-
--- a key without a page has been given one; that of another stays
-abbrev pub AddsPage : List (Key × ℕ) → Key → ℕ → List (Key × ℕ) → Option ℕ → Type 0
-AddsPage old key page new None = IsPageOf old key None × GainsPage old key page new
-AddsPage old key page new (Some was) = IsPageOf old key (Some was) × (new ≡ old)
+-- the record of a key, or none where the key is not there
+abbrev pub IsUnderKey : List (Key × RecordData) → Key → Option RecordData → Type 0
+IsUnderKey keys key None = (redo : RecordData) → Contains keys (key, redo) → ⊥
+IsUnderKey keys key (Some redo) = Contains keys (key, redo)
 
 -- the key (e, n) is above the one given; with none given each is
 abbrev pub IsAboveKey : Option Key → ℕ → ℕ → Type 0
 IsAboveKey None e n = Unit {0}
 IsAboveKey (Some key) e n = KeyBefore key (key_in e n)
 
--- the least key with a page above the one given, or none where no key is above it
-abbrev pub IsLeastKey : List (Key × ℕ) → Option Key → Option Key → Type 0
-IsLeastKey keys after None = (e n page : ℕ) → Contains keys (key_in e n, page) → IsAboveKey after e n → ⊥
+-- the least key above the one given, or none where no key is above it
+abbrev pub IsLeastKey : List (Key × RecordData) → Option Key → Option Key → Type 0
+IsLeastKey keys after None = (e n : ℕ) (r : RecordData) → Contains keys (key_in e n, r) → IsAboveKey after e n → ⊥
 IsLeastKey keys after (Some key) =
-    ((page : ℕ) × Contains keys (key, page) × IsAboveKey after key.epoch key.number)
-    × ((e n page : ℕ) → Contains keys (key_in e n, page) → IsAboveKey after e n → ((e ≡ key.epoch) × (n ≡ key.number)) ⊎ KeyBefore key (key_in e n))
+    ((r : RecordData) × Contains keys (key, r) × IsAboveKey after key.epoch key.number)
+    × ((e n : ℕ) (r : RecordData) → Contains keys (key_in e n, r) → IsAboveKey after e n → ((e ≡ key.epoch) × (n ≡ key.number)) ⊎ KeyBefore key (key_in e n))
 
--- the greatest key with a page at or below the one given, or none where each key is above it
-abbrev pub IsGreatestKey : List (Key × ℕ) → Key → Option Key → Type 0
-IsGreatestKey keys to None = (e n page : ℕ) → Contains keys (key_in e n, page) → KeyBefore to (key_in e n)
+-- the greatest key at or below the one given, or none where each key is above it
+abbrev pub IsGreatestKey : List (Key × RecordData) → Key → Option Key → Type 0
+IsGreatestKey keys to None = (e n : ℕ) (r : RecordData) → Contains keys (key_in e n, r) → KeyBefore to (key_in e n)
 IsGreatestKey keys to (Some key) =
-    ((page : ℕ) × Contains keys (key, page) × (KeyBefore to key → ⊥))
-    × ((e n page : ℕ) → Contains keys (key_in e n, page) → (KeyBefore to (key_in e n) → ⊥) → ((e ≡ key.epoch) × (n ≡ key.number)) ⊎ KeyBefore (key_in e n) key)
+    ((r : RecordData) × Contains keys (key, r) × (KeyBefore to key → ⊥))
+    × ((e n : ℕ) (r : RecordData) → Contains keys (key_in e n, r) → (KeyBefore to (key_in e n) → ⊥) → ((e ≡ key.epoch) × (n ≡ key.number)) ⊎ KeyBefore (key_in e n) key)
 
--- the greatest key with a page, or none where no key has one
-abbrev pub IsGreatestOf : List (Key × ℕ) → Option Key → Type 0
-IsGreatestOf keys None = (e n page : ℕ) → Contains keys (key_in e n, page) → ⊥
+-- the greatest key, or none where there is none
+abbrev pub IsGreatestOf : List (Key × RecordData) → Option Key → Type 0
+IsGreatestOf keys None = (e n : ℕ) (r : RecordData) → Contains keys (key_in e n, r) → ⊥
 IsGreatestOf keys (Some key) =
-    ((page : ℕ) × Contains keys (key, page))
-    × ((e n page : ℕ) → Contains keys (key_in e n, page) → ((e ≡ key.epoch) × (n ≡ key.number)) ⊎ KeyBefore (key_in e n) key)
+    ((r : RecordData) × Contains keys (key, r))
+    × ((e n : ℕ) (r : RecordData) → Contains keys (key_in e n, r) → ((e ≡ key.epoch) × (n ≡ key.number)) ⊎ KeyBefore (key_in e n) key)
 
--- the keys above one, with their pages, rising
-pub record AreAbove (keys : List (Key × ℕ)) (after : Key) (above : List (Key × ℕ)) : Type 0 where
-  pub each : (e : Key × ℕ) → Contains above e ↔ (Contains keys e × KeyBefore after e.0)
+-- the keys above one, with their records, rising
+pub record AreAbove (keys : List (Key × RecordData)) (after : Key) (above : List (Key × RecordData)) : Type 0 where
+  pub each : (e : Key × RecordData) → Contains above e ↔ (Contains keys e × KeyBefore after e.0)
   pub rising : IsRising (λ x y. key_cmp x.0 y.0 ≡ Less) above
 
--- the keys are those of the stored records, each with the page of its record
-pub record IsKeyPages (held : List RecordData) (keys : List (Key × ℕ)) : Type 0 where
-  pub listed : (r : RecordData) → Contains held r → Contains keys (key_of r, r.page)
-  pub backed : (e n page : ℕ) → Contains keys (key_in e n, page) → (r : RecordData) × Contains held r × HasKey (key_in e n) r × (r.page ≡ page)
+-- the keys are those of the stored records, each with its record
+pub record IsKeyRecords (held : List RecordData) (keys : List (Key × RecordData)) : Type 0 where
+  pub listed : (r : RecordData) → Contains held r → Contains keys (key_of r, r)
+  pub backed : (e n : ℕ) (r : RecordData) → Contains keys (key_in e n, r) → Contains held r × HasKey (key_in e n) r
 
--- stored records with the page of each key and the index by segment backlink
-pub record IsIndexed (held : List RecordData) (keys : List (Key × ℕ)) (backs : IndexData) : Type 0 where
+-- stored records with those by key and the index by segment backlink
+pub record IsIndexed (held : List RecordData) (keys : List (Key × RecordData)) (backs : IndexData) : Type 0 where
   pub form : IsHeld held
-  pub by_key : IsKeyPages held keys
+  pub by_key : IsKeyRecords held keys
   pub by_back : IsIndexOf held backs
 
 -- the least key above the one given of the stored records of one group, or none
@@ -137,11 +132,6 @@ IsLastHeld group held g to (Some key) =
     ((r : RecordData) × Contains held r × (group r ≡ g) × HasKey key r × (KeyBefore to (key_of r) → ⊥))
     × ((r : RecordData) → Contains held r → group r ≡ g → (KeyBefore to (key_of r) → ⊥) → HasKey key r ⊎ KeyBefore (key_of r) key)
 
--- the record of a page and a key, or none where none is stored
-abbrev pub IsRecordOf : List RecordData → ℕ → Key → Option RecordData → Type 0
-IsRecordOf held page key None = (r : RecordData) → Contains held r → r.page ≡ page → HasKey key r → ⊥
-IsRecordOf held page key (Some r) = Contains held r × (r.page ≡ page) × HasKey key r
-
 -- the record of a page with the least key above the one given, or none
 abbrev pub IsNextRecord : List RecordData → ℕ → Key → Option RecordData → Type 0
 IsNextRecord held page after None = IsNextHeld (λ r. r.page) held page after None
@@ -152,8 +142,8 @@ abbrev pub IsLastRecord : List RecordData → ℕ → Key → Option RecordData 
 IsLastRecord held page to None = IsLastHeld (λ r. r.page) held page to None
 IsLastRecord held page to (Some r) = Contains held r × IsLastHeld (λ r. r.page) held page to (Some (key_of r))
 
--- the keys of the stored records above one, with the pages of these, rising
-pub record AreHeldAbove (held : List RecordData) (after : Key) (above : List (Key × ℕ)) : Type 0 where
-  pub listed : (r : RecordData) → Contains held r → KeyBefore after (key_of r) → Contains above (key_of r, r.page)
-  pub backed : (e : Key × ℕ) → Contains above e → (r : RecordData) × Contains held r × HasKey e.0 r × (r.page ≡ e.1) × KeyBefore after (key_of r)
+-- the keys of the stored records above one, with the records, rising
+pub record AreHeldAbove (held : List RecordData) (after : Key) (above : List (Key × RecordData)) : Type 0 where
+  pub listed : (r : RecordData) → Contains held r → KeyBefore after (key_of r) → Contains above (key_of r, r)
+  pub backed : (e : Key × RecordData) → Contains above e → Contains held e.1 × HasKey e.0 e.1 × KeyBefore after (key_of e.1)
   pub rising : IsRising (λ x y. key_cmp x.0 y.0 ≡ Less) above

@@ -26,6 +26,6 @@ pub record ListsKeysOf (P : RecordData → Type 0) (keys : List Key) : Type 0 wh
   pub lists : Lists RecordBefore P kept
   pub keys_are : keys ≡ map key_of kept
 
--- a key with a page, above the one given, that waits or is alive above a point
-abbrev pub IsKeyKept : BookData → List (Key × ℕ) → Key → ℕ → Key → Type 0
-IsKeyKept b keys above point k = ((page : ℕ) × Contains keys (k, page)) × KeyBefore above k × KeepsKey b point k
+-- a key above the one given, which waits or is alive above a point
+abbrev pub IsKeyKept : BookData → List (Key × RecordData) → Key → ℕ → Key → Type 0
+IsKeyKept b keys above point k = ((r : RecordData) × Contains keys (k, r)) × KeyBefore above k × KeepsKey b point k

@@ -3,7 +3,6 @@ use Rattle.std.specs.Prelude.{◌≡◌, ℕ, ◌<◌, Bool, ◌==◌, nat_lt, �
 use Rattle.std.specs.List.{Contains}
 use Rattle.std.specs.Ordering.{nat_cmp, ordering_then}
 use Rattle.std.specs.declared.cmp.Ordering.{Ordering}
-use Rattle.std.specs.declared.cmp.Ordering.TheVariants.{Less}
 use Rattle.std.specs.Map.{keys_of}
 use Rattle.std.specs.List.Sorted.{IsStrictlySortedBy}
 use Rattle.redo_core.specs.Data.{RecordData}
@@ -18,10 +17,6 @@ place_cmp x y = ordering_then (nat_cmp x.0 y.0) (key_cmp x.1 y.1)
 -- a record's page and key
 abbrev pub place_of : RecordData → ℕ × Key
 place_of r = (r.page, key_of r)
-
--- a record's page, or on one page its key, is below that of another
-abbrev pub PlaceBefore : RecordData → RecordData → Type 0
-PlaceBefore r s = place_cmp (place_of r) (place_of s) ≡ Less
 
 abbrev pub records_in : List ((ℕ × Key) × RecordData) → List RecordData
 records_in entries = map (λ (e : (ℕ × Key) × RecordData). e.1) entries

@@ -3,9 +3,9 @@ ghost use Rattle.std.specs.Prelude.{◌≡◌, ℕ, ◌↔◌, IsTrue, false};
 ghost use Rattle.std.specs.List.{Contains};
 ghost use Rattle.std.specs.declared.cmp.Ordering.TheVariants.{Less};
 ghost use Rattle.redo_core.specs.Data.{RecordData};
+ghost use Rattle.redo_core.specs.Keys.{key_cmp};
 ghost use Rattle.redo_core.specs.declared.keys.Key.{Key};
 ghost use Rattle.hot_log.specs.Kept.{KeepsKey};
-ghost use Rattle.hot_log.specs.Paged.{place_cmp};
 ghost use Rattle.hot_log.specs.Scanning.{IsKeptInBoth, StoresKept};
 ghost use Rattle.hot_log.specs.Seen.{seen_in};
 
@@ -25,31 +25,31 @@ impl<'a> View<'a> {
         ensures { IsTrue result ↔ seen_in self.now StoresKept point lower.now.book.now lower.now.held.now base }
     {
         let mut own = Ahead::new(self.held.entries());
-        for (place, redo) in lower.held.entries() {
-            own.pass_to(place);
-            if self.lacks(point, lower.book, base, &own, place, redo) {
+        for (key, redo) in lower.held.entries() {
+            own.pass_to(*key);
+            if self.lacks(point, lower.book, base, &own, *key, redo) {
                 return false;
             }
         }
         true
     }
 
-    /// Whether a record of a page and key is kept in both views, and is not among those ahead, which are not before it.
+    /// Whether a record of a key is kept in both views, and is not among those ahead, which are not before it.
     fn lacks(
         &self,
         point: u64,
         low: &EpochBook,
         base: u64,
         own: &Ahead<'_>,
-        place: &(u16, PackedKey),
+        packed: PackedKey,
         redo: &Record,
     ) -> bool
-        requires { (e : (ℕ × Key) × RecordData) → Contains own.now e → place_cmp e.0 place.now ≡ Less → ⊥ }
-        ensures lacks { IsTrue result → IsKeptInBoth self.now.book.now point low.now base place.now.1 × (Contains own.now (place.now, redo.now) → ⊥) }
-        ensures has { result ≡ false → IsKeptInBoth self.now.book.now point low.now base place.now.1 → Contains own.now (place.now, redo.now) }
+        requires { (e : Key × RecordData) → Contains own.now e → key_cmp e.0 packed ≡ Less → ⊥ }
+        ensures lacks { IsTrue result → IsKeptInBoth self.now.book.now point low.now base packed × (Contains own.now (packed, redo.now) → ⊥) }
+        ensures has { result ≡ false → IsKeptInBoth self.now.book.now point low.now base packed → Contains own.now (packed, redo.now) }
     {
-        let key = place.1.key();
-        if !may_be_kept(low, key, base) || own.is_at(place, redo) {
+        let key = packed.key();
+        if !may_be_kept(low, key, base) || own.is_at(packed, redo) {
             return false;
         }
         is_kept(low, key, base) && is_kept(self.book, key, point)

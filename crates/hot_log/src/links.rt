@@ -165,9 +165,9 @@ impl<'a> View<'a> {
         Some(top)
     }
 
-    /// The stored keys from the alive ones above an LSN on, with the pages of their records, rising, where no alive one is of an epoch
+    /// The stored keys from the alive ones above an LSN on, with their records, rising, where no alive one is of an epoch
     /// before the one given.
-    fn keys_on(&self, number: u64, since: u16) -> Entries<'a, PackedKey, u16>
+    fn keys_on(&self, number: u64, since: u16) -> Entries<'a, PackedKey, Record>
         requires { seen_in self.now HasNoneEarlier number since }
         ensures { seen_in self.now AreOnward number result }
     {
@@ -202,7 +202,7 @@ impl<'a> View<'a> {
 }
 
 /// The next of some keys that is alive; the walk skips those before it, and it.
-fn next_alive(book: &EpochBook, left: &mut Entries<'_, PackedKey, u16>) -> Option<Key>
+fn next_alive(book: &EpochBook, left: &mut Entries<'_, PackedKey, Record>) -> Option<Key>
     ensures { PassesToAlive book.now left.old result left.new }
 {
     while let Some((key, _)) = left.next() {

@@ -2,21 +2,21 @@ ghost use Rattle.std.specs.Prelude.{◌≡◌, Some, ◌<◌, ◌⊎◌, ◌↔�
 ghost use Rattle.std.specs.Option.{option_copied};
 ghost use Rattle.redo_core.specs.Data.{RecordData};
 ghost use Rattle.redo_core.specs.Keys.{key_of};
-ghost use Rattle.redo_core.specs.Order.{Lists};
+ghost use Rattle.redo_core.specs.Order.{Lists, RecordBefore};
 ghost use Rattle.redo_core.specs.Standing.{IsDead};
 ghost use Rattle.hot_log.specs.Held.{IsHeld, IsRecordAt, IsKeyAfter, IsKeyTo, IsGreatestHeld, HasKey, HoldsKey};
 ghost use Rattle.hot_log.specs.Found.{IsPageAfter};
-ghost use Rattle.hot_log.specs.Indexing.{AreHeldAbove, IsIndexOf, IsRecordOf, IsNextHeld, IsNextRecord, IsLastRecord};
+ghost use Rattle.hot_log.specs.Indexing.{AreHeldAbove, IsIndexOf, IsNextHeld, IsNextRecord, IsLastRecord};
 ghost use Rattle.hot_log.specs.Missing.{IsMissing};
-ghost use Rattle.hot_log.specs.Paged.{PlaceBefore};
 ghost use Rattle.hot_log.specs.Putting.{Puts, RefusesPut};
 ghost use Rattle.hot_log.specs.Removing.{IsFolded, Removes};
-ghost use Rattle.hot_log.specs.Scanning.{IsMapOf};
+ghost use Rattle.hot_log.specs.Scanning.{AreEntries};
 ghost use Rattle.hot_log.specs.declared.log.PutFault.TheVariants.{Memory as OfMemory};
 ghost use Rattle.std.specs.List.{Contains};
 
+use crate::ahead::Ahead;
 use crate::index::KeyIndex;
-use crate::key_pages::KeyPages;
+use crate::key_records::KeyRecords;
 use crate::packed::{PackedKey, unpacked};
 use crate::records::PagedRecords;
 use crate::removal;
@@ -29,13 +29,13 @@ use thiserror::Error;
 
 /// The redo records that a segment stores, by page and key.
 ///
-/// It also has the page of each key, and the keys by segment backlink: those of the stored records and no others. The index by backlink
+/// It also has them by key alone, and their keys by segment backlink: those of the stored records and no others. The index by backlink
 /// starts at the greatest point up to which folded records were removed, and leaves out the records with lower backlinks: a segment
 /// searches from its base point on, which is not lower.
 #[derive(Drop)]
 pub struct HotLog {
     pub(crate) records: PagedRecords,
-    pub(crate) by_key: KeyPages,
+    pub(crate) by_key: KeyRecords,
     by_back: KeyIndex,
 }
 
@@ -74,7 +74,7 @@ impl HotLog {
     {
         HotLog {
             records: PagedRecords::new(alloc),
-            by_key: KeyPages::new(alloc),
+            by_key: KeyRecords::new(alloc),
             by_back: KeyIndex::new(alloc),
         }
     }
@@ -118,9 +118,7 @@ impl HotLog {
         ensures { IsRecordAt self.now key (option_copied result) }
     {
         self.opens_form();
-        let packed = PackedKey::exact(key)?;
-        let page = self.by_key.page_of(packed)?;
-        self.records.get(page, packed)
+        self.by_key.get(PackedKey::exact(key)?)
     }
 
     /// Whether a record of a key is stored.
@@ -131,7 +129,7 @@ impl HotLog {
         let Some(packed) = PackedKey::exact(key) else {
             return false;
         };
-        match self.by_key.page_of(packed) {
+        match self.by_key.get(packed) {
             Some(_) => true,
             None => false,
         }
@@ -156,19 +154,19 @@ impl HotLog {
     {
         self.opens_form();
         let key = PackedKey::of(&redo);
-        let Ok(page) = self.by_key.add(key, redo.page()) else {
-            return Err(Refused {
-                value: redo,
-                fault: PutFault::Memory,
-            });
-        };
-        if page.is_some() {
-            if self.records.has(&redo) {
+        if let Some(held) = self.by_key.get(key) {
+            if held.is_same(&redo) {
                 return Ok(Put::Known);
             }
             return Err(Refused {
                 value: redo,
                 fault: PutFault::OtherRecord,
+            });
+        }
+        if self.by_key.add(key, &redo).is_err() {
+            return Err(Refused {
+                value: redo,
+                fault: PutFault::Memory,
             });
         }
         match hold(&mut self.records, &mut self.by_back, redo) {
@@ -189,12 +187,10 @@ impl HotLog {
         let Some(packed) = PackedKey::exact(key) else {
             return;
         };
-        let Some(page) = self.by_key.remove(packed) else {
+        let Some(redo) = self.by_key.remove(packed) else {
             return;
         };
-        let Some(redo) = self.records.remove(page, packed) else {
-            return;
-        };
+        self.records.remove(redo.page(), packed);
         self.by_back.remove(redo.back(), packed);
     }
 
@@ -222,28 +218,19 @@ impl HotLog {
         unpacked(self.by_key.key_after(Some(PackedKey::capped(after))))
     }
 
-    // The keys above the one given with the pages of their records, rising.
-    pub(crate) fn keys_above(&self, after: Key) -> Entries<'_, PackedKey, u16>
+    // The keys above the one given with their records, rising.
+    pub(crate) fn keys_above(&self, after: Key) -> Entries<'_, PackedKey, Record>
         ensures above { AreHeldAbove self.now after result }
         ensures form { IsHeld self.now }
     {
         self.by_key.above(PackedKey::capped(after))
     }
 
-    // The records with their pages and keys, by page, and within a page by key.
-    pub(crate) fn entries(&self) -> Entries<'_, (u16, PackedKey), Record>
-        ensures { IsMapOf self.now result }
+    // The records with their keys, rising.
+    pub(crate) fn entries(&self) -> Entries<'_, PackedKey, Record>
+        ensures { AreEntries self.now result }
     {
-        self.records.entries()
-    }
-
-    // The record of a page and a key, or None where there is none.
-    pub(crate) fn record_of(&self, page: u16, key: Key) -> Option<&Record>
-        ensures { IsRecordOf self.now page key (option_copied result) }
-    {
-        self.opens_form();
-        let packed = PackedKey::exact(key)?;
-        self.records.get(page, packed)
+        self.by_key.entries()
     }
 
     // The least key above the one given of the records with a segment backlink.
@@ -314,16 +301,24 @@ impl HotLog {
         self.records.page_after(after)
     }
 
-    /// The records of another log that this one does not store, by page, and within a page by key. It scans both side by side, without
-    /// look-ups. The only error is an allocation failure.
-    pub fn missing_by_page<'a>(
+    /// The records of another log that this one does not store, rising by key. It scans both side by side, without look-ups. The only
+    /// error is an allocation failure.
+    pub fn missing<'a>(
         &self,
         alloc: Global,
         other: &'a HotLog,
     ) -> Result<Vec<&'a Record>, AllocError>
-        ensures { IfOk result (λ v. Lists PlaceBefore (IsMissing self.now other.now) (map (λ x. x.now) v.items)) }
+        ensures { IfOk result (λ v. Lists RecordBefore (IsMissing self.now other.now) (map (λ x. x.now) v.items)) }
     {
-        self.records.missing_by_page(alloc, &other.records)
+        let mut missing = Vec::new(alloc);
+        let mut own = Ahead::new(self.entries());
+        for (key, redo) in other.entries() {
+            own.pass_to(*key);
+            if !own.is_at(*key, redo) {
+                missing.push(redo)?;
+            }
+        }
+        Ok(missing)
     }
 
     /// Removes the alive records of a page with LSNs at most the version of its image and at most a point.

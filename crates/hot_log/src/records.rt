@@ -8,19 +8,15 @@ ghost use Rattle.hot_log.specs.Held.{IsHeld, HasKey, IsRecordAt};
 ghost use Rattle.hot_log.specs.Alive.{IsAliveBetween};
 ghost use Rattle.hot_log.specs.Anew.{ListsAnew};
 ghost use Rattle.hot_log.specs.Found.{IsPageAfter};
-ghost use Rattle.hot_log.specs.Indexing.{IsKeyPages, IsRecordOf, IsNextRecord, IsLastRecord};
-ghost use Rattle.hot_log.specs.Missing.{IsMissing};
-ghost use Rattle.hot_log.specs.Paged.{PlaceBefore};
-ghost use Rattle.hot_log.specs.Scanning.{IsMapOf};
+ghost use Rattle.hot_log.specs.Indexing.{IsKeyRecords, IsNextRecord, IsLastRecord};
 ghost use Rattle.hot_log.specs.Removing.{IsBetween, Removes, RemovesRow, UnlistsRow};
 
-use crate::ahead::Ahead;
-use crate::key_pages::KeyPages;
+use crate::key_records::KeyRecords;
 use crate::packed::PackedKey;
 use crate::search::is_alive;
 use epoch_book::EpochBook;
 use redo_core::{Key, Record, Refused};
-use sorted_runs::{Entries, SortedRuns};
+use sorted_runs::SortedRuns;
 use std::alloc::{AllocError, Global};
 use std::marker::Model;
 use std::ops::Bound;
@@ -77,24 +73,6 @@ impl PagedRecords {
         let _map = &self.map;
     }
 
-    /// The record of a page and a key, or None where there is none.
-    pub fn get(&self, page: u16, key: PackedKey) -> Option<&Record>
-        ensures { IsRecordOf self.now page key (option_copied result) }
-    {
-        self.map.get(&(page, key))
-    }
-
-    /// Whether this record is stored.
-    pub fn has(&self, redo: &Record) -> bool
-        ensures { IsTrue result ↔ Contains self.now redo.now }
-    {
-        self.opens_form();
-        match self.get(redo.page(), PackedKey::of(redo)) {
-            Some(held) => held.is_same(redo),
-            None => false,
-        }
-    }
-
     /// Stores a record by its page and key. The only error is an allocation failure, which leaves the records unchanged and returns it.
     pub fn insert(&mut self, redo: Record) -> Result<(), Refused<Record, AllocError>>
         requires { IsRecordAt self.old (key_of redo) None }
@@ -114,12 +92,11 @@ impl PagedRecords {
     }
 
     /// Removes the record of a page and a key, if there is one.
-    pub fn remove(&mut self, page: u16, key: PackedKey) -> Option<Record>
-        ensures value { IsRecordOf self.old page key result }
+    pub fn remove(&mut self, page: u16, key: PackedKey)
         ensures removes { Removes (λ r. (r.page ≡ page) × HasKey key r) self.old self.new }
         ensures form { IsHeld self.new }
     {
-        self.map.remove(&(page, key))
+        let _ = self.map.remove(&(page, key));
     }
 
     /// Removes the records of a page with keys above one and up to another.
@@ -211,48 +188,18 @@ impl PagedRecords {
 }
 
 impl PagedRecords {
-    /// The records with their pages and keys, by page, and within a page by key.
-    pub fn entries(&self) -> Entries<'_, (u16, PackedKey), Record>
-        ensures { IsMapOf self.now result }
-    {
-        self.map.iter()
-    }
-
-    /// The records of another log that this one does not store, by page, and within a page by key. It scans both logs side by side,
-    /// without look-ups. The only error is an allocation failure.
-    pub fn missing_by_page<'a>(
-        &self,
-        alloc: Global,
-        other: &'a PagedRecords,
-    ) -> Result<Vec<&'a Record>, AllocError>
-        ensures { IfOk result (λ v. Lists PlaceBefore (IsMissing self.now other.now) (map (λ x. x.now) v.items)) }
-    {
-        let mut missing = Vec::new(alloc);
-        let mut own = Ahead::new(self.entries());
-        for (place, redo) in other.entries() {
-            own.pass_to(place);
-            if !own.is_at(place, redo) {
-                missing.push(redo)?;
-            }
-        }
-        Ok(missing)
-    }
-}
-
-impl PagedRecords {
-    /// Removes the first run of alive records of a page between two keys, and their keys from those that have pages, and returns its
-    /// last key.
+    /// Removes the first run of alive records of a page between two keys, with those by key, and returns its last key.
     pub fn remove_row(
         &mut self,
-        by_key: &mut KeyPages,
+        by_key: &mut KeyRecords,
         book: &EpochBook,
         page: u16,
         above: Key,
         to: Key,
     ) -> Option<Key>
-        requires { IsKeyPages self.old by_key.old }
+        requires { IsKeyRecords self.old by_key.old }
         ensures removes { RemovesRow book.now page above to self.old self.new result }
-        ensures pages { IsKeyPages self.new by_key.new }
+        ensures pages { IsKeyRecords self.new by_key.new }
         ensures form { IsHeld self.new }
     {
         self.opens_form();
@@ -262,17 +209,17 @@ impl PagedRecords {
         Some(row.1.key())
     }
 
-    /// Removes the keys of the first run of alive records of a page between two keys from those that have pages, and returns a key that
-    /// the run is above, and its last one.
+    /// Removes the first run of alive records of a page between two keys from those by key, and returns a key that the run is above, and
+    /// its last one.
     fn unlist_row(
         &self,
-        by_key: &mut KeyPages,
+        by_key: &mut KeyRecords,
         book: &EpochBook,
         page: u16,
         above: PackedKey,
         to: PackedKey,
     ) -> Option<(PackedKey, PackedKey)>
-        requires { IsKeyPages self.now by_key.old }
+        requires { IsKeyRecords self.now by_key.old }
         ensures { UnlistsRow book.now self.now page above to by_key.new result }
     {
         let (from, end) = (Bound::Excluded((page, above)), Bound::Included((page, to)));

@@ -276,20 +276,6 @@ impl<'a> View<'a> {
         Some(key.number)
     }
 
-    /// Whether the record of a page and a key is alive, and its segment backlink below an LSN.
-    fn is_below(&self, page: u16, key: Key, number: u64) -> bool
-        ensures { IsTrue result ↔ ((r : RecordData) × seen_in self.now IsHeldAlive r × HasKey key r × (r.page ≡ page) × (r.back < number)) }
-    {
-        self.held.opens_form();
-        if !is_alive(self.book, key.epoch, key.number) {
-            return false;
-        }
-        match self.held.record_of(page, key) {
-            Some(redo) => redo.back() < number,
-            None => false,
-        }
-    }
-
     /// The last alive record up to an LSN, whatever its page, or None where there is none.
     pub fn last_alive(&self, to: u64) -> Option<&'a Record>
         ensures found { IsGreatestRecord (λ r. seen_in self.now IsHeldAlive r × (r.number ≤ to)) (option_copied result) }
@@ -305,6 +291,13 @@ impl<'a> View<'a> {
         None
     }
 
+    /// Whether the record of a key is alive, and its segment backlink below an LSN.
+    fn goes_below(&self, redo: &Record, key: Key, number: u64) -> bool
+        ensures { IsTrue result ↔ (IsAlive self.now.book.now.cuts self.now.book.now.complete key.epoch key.number × (redo.now.back < number)) }
+    {
+        redo.back() < number && is_alive(self.book, key.epoch, key.number)
+    }
+
     /// Whether an alive record of an epoch above the one given has a segment backlink below an LSN.
     pub fn opens_below(&self, epoch: u16, number: u64) -> bool
         ensures { IsTrue result ↔ ((r : RecordData) × seen_in self.now IsOpenedBelow epoch number r) }
@@ -314,12 +307,12 @@ impl<'a> View<'a> {
             epoch,
             number: u64::MAX,
         });
-        while let Some((key, page)) = left.next() {
+        while let Some((key, redo)) = left.next() {
             let key = key.key();
             if key.epoch > complete {
                 return false;
             }
-            if self.is_below(*page, key, number) {
+            if self.goes_below(redo, key, number) {
                 return true;
             }
         }

@@ -1,12 +1,9 @@
 //! The kept records whose keys a list does not have.
 ghost use Rattle.std.specs.Prelude.{◌≡◌, ◌↔◌, IsTrue, IfOk, map, take, drop};
 ghost use Rattle.std.specs.List.{All, Contains};
-ghost use Rattle.std.specs.Option.{option_copied};
 ghost use Rattle.redo_core.specs.Order.{IsRising, Lists, RecordBefore};
 ghost use Rattle.redo_core.specs.Keys.{KeyBefore};
-ghost use Rattle.hot_log.specs.Found.{IsOnlyRecord};
-ghost use Rattle.hot_log.specs.Held.{HasKey};
-ghost use Rattle.hot_log.specs.Kept.{IsKeptUnlisted};
+ghost use Rattle.hot_log.specs.Kept.{KeepsKey, IsKeptUnlisted};
 ghost use Rattle.hot_log.specs.Seen.{seen_in};
 
 use crate::search::{epoch_above, is_kept};
@@ -33,33 +30,22 @@ impl<'a> View<'a> {
             epoch: epoch_above(self.book, point),
             number: point,
         });
-        while let Some((key, page)) = left.next() {
+        while let Some((key, redo)) = left.next() {
             let key = key.key();
             place = reach(keys, place, key);
-            if let Some(redo) = self.unlisted_at(point, keys, place, *page, key) {
+            if self.is_unlisted(point, keys, place, key) {
                 found.push(redo)?;
             }
         }
         Ok(found)
     }
 
-    /// The record of a page and a key, where it is kept and not listed; if it is listed, its key is likely at the index given.
-    fn unlisted_at(
-        &self,
-        point: u64,
-        keys: &[Key],
-        place: usize,
-        page: u16,
-        key: Key,
-    ) -> Option<&'a Record>
+    /// Whether a key is kept and not listed; if it is listed, it is likely at the index given.
+    fn is_unlisted(&self, point: u64, keys: &[Key], place: usize, key: Key) -> bool
         requires { IsRising KeyBefore keys.now }
-        ensures { IsOnlyRecord (λ r. seen_in self.now IsKeptUnlisted point keys.now r × (r.page ≡ page) × HasKey key r) (option_copied result) }
+        ensures { IsTrue result ↔ (KeepsKey self.now.book.now point key × (Contains keys.now key → ⊥)) }
     {
-        self.held.opens_form();
-        if is_listed(keys, place, key) || !is_kept(self.book, key, point) {
-            return None;
-        }
-        self.held.record_of(page, key)
+        !is_listed(keys, place, key) && is_kept(self.book, key, point)
     }
 }
 

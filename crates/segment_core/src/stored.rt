@@ -7,7 +7,6 @@ ghost use Rattle.hot_log.specs.Held.{IsRecordAt, IsKeyAfter, HoldsKey};
 ghost use Rattle.hot_log.specs.Alive.{IsHeldOf};
 ghost use Rattle.hot_log.specs.Found.{IsPageAfter};
 ghost use Rattle.hot_log.specs.Missing.{IsMissing};
-ghost use Rattle.hot_log.specs.Paged.{PlaceBefore};
 ghost use Rattle.hot_log.specs.Kept.{ListsKeysOf};
 ghost use Rattle.hot_log.specs.Scanning.{StoresKept};
 ghost use Rattle.page_base.specs.Stored.{IsStored};
@@ -139,11 +138,11 @@ impl Segment {
         self.hot.len()
     }
 
-    /// The records that another segment stores and this one does not, by page, and within a page by key. It fails only if memory runs out.
-    pub fn missing_by_page<'a>(&self, other: &'a Segment) -> Result<Vec<&'a Record>, AllocError>
-        ensures { IfOk result (λ v. Lists PlaceBefore (IsMissing self.now.held other.now.held) (map (λ x. x.now) v.items)) }
+    /// The records that another segment stores and this one does not, rising by key. It fails only if memory runs out.
+    pub fn missing<'a>(&self, other: &'a Segment) -> Result<Vec<&'a Record>, AllocError>
+        ensures { IfOk result (λ v. Lists RecordBefore (IsMissing self.now.held other.now.held) (map (λ x. x.now) v.items)) }
     {
-        self.hot.missing_by_page(self.alloc, &other.hot)
+        self.hot.missing(self.alloc, &other.hot)
     }
 
     /// Whether this segment stores each record of another one that both keep, this one above a point and the other one above a base: the

@@ -53,6 +53,18 @@ by_stored s anchor t base = (
   λ has r held both. wanted_is_held s anchor r both.1 (has r (held, both.0)),
 )
 
+-- two segments keep records under the same keys, and the first has each record that the second keeps: so has the second
+pub back_by_keys : (s : State) (anchor : ℕ) (t : State) (base : ℕ) (own others : List Key) → IsRising RecordBefore t.held → ListsKeysOf (IsKeptBy s anchor) own
+    → ListsKeysOf (IsKeptBy t base) others → own ≡ others → HasAllKept t base s anchor → HasAllKept s anchor t base
+back_by_keys s anchor t base own others rising mine theirs same has r kept =
+    let listed : Contains others (key_of r) = subst (λ (ks : List Key). Contains ks (key_of r)) (sym theirs.keys_are) (in_map key_of theirs.kept r ((theirs.lists.members r).1 kept)) in
+    let x = from_map key_of mine.kept (key_of r) (subst (λ (ks : List Key). Contains ks (key_of r)) (sym same ∙ mine.keys_are) listed) in
+    let own_kept : IsKeptBy s anchor x.0 = (mine.lists.members x.0).0 x.1 in
+    let wanted : KeepsKey t.book base (key_of x.0) = subst (KeepsKey t.book base) (sym x.2) kept.1 in
+    let held : Contains t.held x.0 = wanted_is_held t base x.0 wanted (has x.0 own_kept) in
+    let e : x.0 ≡ r = one_of_key t.held x.0 r rising held kept.0 (ap (λ (y : Key). y.epoch) x.2) (ap (λ (y : Key). y.number) x.2) in
+    inl (subst (IsKeptBy s anchor) e own_kept)
+
 -- the records of just the kept keys are there exactly where each kept record is
 pub at_all_keys : (s : State) (anchor : ℕ) (t : State) (base : ℕ) (keys : List Key) → IsRising RecordBefore t.held → ListsKeysOf (IsKeptBy t base) keys
     → All (HasAt s anchor t) keys ↔ HasAllKept s anchor t base

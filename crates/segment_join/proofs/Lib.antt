@@ -1,4 +1,3 @@
-pub mod Sorting
 pub mod Keeping
 pub mod Comparing
 pub mod Alike

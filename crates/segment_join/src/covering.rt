@@ -1,4 +1,4 @@
-ghost use Rattle.std.specs.Prelude.{ℕ, ◌≤◌, ◌↔◌, List, IsTrue, IfOk};
+ghost use Rattle.std.specs.Prelude.{◌≡◌, ℕ, ◌≤◌, ◌↔◌, List, IsTrue, IfOk};
 ghost use Rattle.std.specs.List.{Contains, AllZip, All};
 ghost use Rattle.redo_core.specs.Meaning.{Meaning, IsMeaning};
 ghost use Rattle.redo_core.specs.AtMost.{IsAtMost};
@@ -47,6 +47,57 @@ fn covers_state(upper: &Segment, lower: &Segment) -> Result<bool, AllocError>
         return Ok(false);
     }
     has_all(upper, anchor, lower, base)
+}
+
+/// Whether the meaning of a segment that another one covers also covers that one's.
+///
+/// It compares no records where the two keep the same keys. It fails only if memory runs out.
+pub(crate) fn covers_back(upper: &Segment, lower: &Segment) -> Result<bool, AllocError>
+    requires covered { (base anchor : ℕ) → HasAnchor lower.now base → HasAnchor upper.now anchor → CoversState base lower.now anchor upper.now }
+    ensures { IfOk result (λ answer. (y x : Meaning) → HasMeaning upper.now y → HasMeaning lower.now x → IsTrue answer ↔ Covers y x) }
+{
+    upper.opens_form();
+    covers_state_back(upper, lower)
+}
+
+fn covers_state_back(upper: &Segment, lower: &Segment) -> Result<bool, AllocError>
+    requires covered { (base anchor : ℕ) → HasAnchor lower.now base → HasAnchor upper.now anchor → CoversState base lower.now anchor upper.now }
+    ensures { IfOk result (λ answer. (anchor base : ℕ) → HasAnchor upper.now anchor → HasAnchor lower.now base → IsTrue answer ↔ CoversState anchor upper.now base lower.now) }
+{
+    if !covers_book(upper, lower) {
+        return Ok(false);
+    }
+    let anchor = upper.anchor();
+    let base = lower.anchor();
+    if anchor < base {
+        return Ok(false);
+    }
+    has_all_back(upper, anchor, lower, base)
+}
+
+/// The same as `has_all`, where the lower segment has all that the upper one keeps.
+fn has_all_back(
+    upper: &Segment,
+    anchor: u64,
+    lower: &Segment,
+    base: u64,
+) -> Result<bool, AllocError>
+    requires { HasAllKept lower.now base upper.now anchor }
+    ensures { IfOk result (λ answer. IsTrue answer ↔ HasAllKept upper.now anchor lower.now base) }
+{
+    let own = upper.kept_keys(anchor)?;
+    let others = lower.kept_keys(base)?;
+    // A key has at most one record, and that of the upper segment is stored in the lower one.
+    if are_same_keys(&own, &others) {
+        return Ok(true);
+    }
+    has_all(upper, anchor, lower, base)
+}
+
+fn are_same_keys(own: &[Key], others: &[Key]) -> bool
+    ensures { IsTrue result → own.now ≡ others.now }
+{
+    *own == *others
 }
 
 /// Whether an upper segment keeps each record that a lower one keeps above a base, or needs it no more.

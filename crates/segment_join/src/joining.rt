@@ -1,8 +1,7 @@
 ghost use Rattle.std.specs.Prelude.{◌≡◌, ◌≢◌, ◌⊎◌, map, OnOk, OnErr, IfErr};
-ghost use Rattle.redo_core.specs.Order.{Lists};
+ghost use Rattle.redo_core.specs.Order.{Lists, RecordBefore};
 ghost use Rattle.redo_core.specs.Book.{roster_of};
 ghost use Rattle.hot_log.specs.Missing.{IsMissing};
-ghost use Rattle.hot_log.specs.Paged.{PlaceBefore};
 ghost use Rattle.segment_core.specs.Savepoint.{IsSavepointOf};
 ghost use Rattle.segment_core.specs.Transaction.{began, reached};
 ghost use Rattle.segment_core.specs.declared.answers.Refusal.TheVariants.{OtherRoster as OtherRosterOf, Memory as MemoryOf};
@@ -75,7 +74,7 @@ fn know_and_hold(union: &mut MergeTransaction<'_>, other: &Segment) -> Result<()
     ensures began { began union.new ≡ began union.old }
 {
     union.segment().opens_form();
-    let missing = union.segment().missing_by_page(other)?;
+    let missing = union.segment().missing(other)?;
     if let Err(why) = take_all(union, other, &missing) {
         return Err(why);
     }
@@ -89,7 +88,7 @@ fn take_all(
     other: &Segment,
     missing: &[&Record],
 ) -> Result<(), Refusal>
-    requires { Lists PlaceBefore (IsMissing (reached union.old).held other.now.held) (map (λ x. x.now) missing.now) }
+    requires { Lists RecordBefore (IsMissing (reached union.old).held other.now.held) (map (λ x. x.now) missing.now) }
     ensures takes { OnOk result (TakesAll (reached union.old) other.now (reached union.new)) }
     ensures refused { IfErr result (λ e. (e ≡ MemoryOf) ⊎ RefusesAll (reached union.old) other.now e) }
     ensures began { began union.new ≡ began union.old }

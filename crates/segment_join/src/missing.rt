@@ -2,45 +2,25 @@ ghost use Rattle.std.specs.Prelude.{◌≡◌, ℕ, ◌↔◌, map, IsTrue, IfOk
 ghost use Rattle.std.specs.List.{Contains};
 ghost use Rattle.redo_core.specs.Data.{RecordData};
 ghost use Rattle.redo_core.specs.Order.{IsRising, Lists, RecordBefore};
-ghost use Rattle.hot_log.specs.Paged.{PlaceBefore};
 ghost use Rattle.segment_theorems.specs.HasMeaning.{HasAnchor, IsKeptBy};
 
 use redo_core::Record;
 use segment_core::Segment;
 use std::alloc::AllocError;
 
-/// Those of a segment's stored records that its meaning keeps, of a list by page and key; they rise by key. It fails only if memory
-/// runs out.
+/// Those of a segment's stored records that its meaning keeps, of a list that rises by key. It fails only if memory runs out.
 pub(crate) fn kept_among<'a>(
     segment: &Segment,
     records: &[&'a Record],
 ) -> Result<Vec<&'a Record>, AllocError>
-    requires by_page { IsRising PlaceBefore (map (λ x. x.now) records.now) }
+    requires rising { IsRising RecordBefore (map (λ x. x.now) records.now) }
     requires held { (r : RecordData) → Contains (map (λ x. x.now) records.now) r → Contains segment.now.held r }
     ensures { (anchor : ℕ) → HasAnchor segment.now anchor → IfOk result (λ v. Lists RecordBefore (λ r. Contains (map (λ x. x.now) records.now) r × IsKeptBy segment.now anchor r) (map (λ x. x.now) v.items)) }
 {
-    // A key has at most one record.
-    segment.opens_form();
     let anchor = segment.anchor();
-    let mut kept = kept_by_page(segment, anchor, records)?;
-    // Often few of the records are kept: filtering first saves the sort of the others.
-    kept.sort_unstable_by_key(|redo| redo.key());
-    Ok(kept)
-}
-
-/// Those of a segment's stored records that wait or are alive above a point, of a list by page and key.
-fn kept_by_page<'a>(
-    segment: &Segment,
-    point: u64,
-    records: &[&'a Record],
-) -> Result<Vec<&'a Record>, AllocError>
-    requires by_page { IsRising PlaceBefore (map (λ x. x.now) records.now) }
-    requires held { (r : RecordData) → Contains (map (λ x. x.now) records.now) r → Contains segment.now.held r }
-    ensures { IfOk result (λ v. Lists PlaceBefore (λ r. Contains (map (λ x. x.now) records.now) r × IsKeptBy segment.now point r) (map (λ x. x.now) v.items)) }
-{
     let mut kept = Vec::new(segment.allocator());
     for redo in records {
-        if keeps(segment, point, redo) {
+        if keeps(segment, anchor, redo) {
             kept.push(*redo)?;
         }
     }

@@ -6,7 +6,7 @@ ghost use Rattle.segment_theorems.specs.HasMeaning.{HasAnchor};
 ghost use Rattle.segment_core.specs.declared.answers.ReadFault.TheVariants.{Memory as MemoryOf};
 ghost use Rattle.segment_join.specs.Sameness.{ReportsSame, SameByParts, ReportsPages, IsUnwritten};
 
-use crate::covering::covers;
+use crate::covering::{covers, covers_back};
 use segment_core::{BaseImage, ReadFault, Segment};
 use segment_theorems::same_meaning;
 use std::alloc::AllocError;
@@ -37,7 +37,7 @@ fn has_same_meaning(one: &Segment, other: &Segment) -> Result<bool, AllocError>
     if !covers(one, other)? {
         return Ok(false);
     }
-    if !covers(other, one)? {
+    if !covers_back(other, one)? {
         return Ok(false);
     }
     has_same_pages(one, one.anchor(), other, other.anchor())

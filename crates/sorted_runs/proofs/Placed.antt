@@ -1,5 +1,5 @@
 -- The effect on all entries of an edit at the position of a key.
-use Rattle.std.proofs.Common.{◌≡◌, ℕ, zero, suc, ◌+◌, ◌<◌, ◌≤◌, List, [], ◌∷◌, ◌++◌, length, get_or, set, take, drop, sym, ap, ◌∙◌, subst, refl, arith, append_assoc, length-append, Some, None, Bool, rules, IsTrue, false}
+use Rattle.std.proofs.Common.{◌≡◌, ℕ, zero, suc, ◌+◌, ◌<◌, ◌≤◌, List, [], ◌∷◌, ◌++◌, length, get_or, set, take, drop, sym, ap, ◌∙◌, subst, refl, arith, append_assoc, length-append, Some, None, Bool, rules}
 use Rattle.std.proofs.lemmas.Grind.{common_steps}
 use Rattle.std.specs.Global.{Vec}
 use Rattle.std.specs.List.{insert, filter, AllByRecursion}
@@ -133,13 +133,6 @@ module _ {K V : Type 0} {R : K → K → Ordering} (o : IsTotalOrder R) (k : K) 
 
     pub gained_there : (i : ℕ) (v : V) (fs' : List K) (new : List (Vec (K × V))) (len' : ℕ) → IsGap R l k i → IsShaped fs' new → GainsAt vs r i (k, v) new → len' ≡ len + 1 → (entries new ≡ insert_entry R (entries vs) k v) × IsRuns R fs' new len'
     gained_there i v fs' new len' gap = gained i v fs' new len' (subst (λ q. IsGap R q k i) run_is gap)
-
--- a value had is none that was not there
-pub some_none : {X P : Type 0} (x : X) → Some x ≡ None → P
-some_none x e = cc
-
-pub never : {P : Type 0} → IsTrue false → P
-never h = cc
 
 pub none_yet : {K V : Type 0} (fs : List K) (vs : List (Vec (K × V))) → Headed fs vs → length fs ≡ 0 → entries vs ≡ []
 none_yet fs vs h e = grind (arith, common_steps)

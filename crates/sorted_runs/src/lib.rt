@@ -10,7 +10,7 @@
 #![tactic(auto)]
 
 ghost use Rattle.std.specs.Prelude.{◌≡◌, [], None, length, not, IfOk, IfErr, OnOk, OnErr};
-ghost use Rattle.std.specs.Option.{option_copied, IsSome};
+ghost use Rattle.std.specs.Option.{option_copied};
 ghost use Rattle.std.specs.List.{filter, AllZip};
 ghost use Rattle.std.specs.Map.{keys_of, lookup, remove_entry};
 ghost use Rattle.std.specs.BTreeMap.{is_at, insert_entry};
@@ -208,39 +208,6 @@ impl<K: Ord + Copy + Drop, V: Drop> SortedRuns<K, V> {
         let begin = start_of(&self.firsts, &self.runs, self.near, &from);
         let end = end_of(&self.firsts, &self.runs, self.near, &to);
         self.len = cut_out(&mut self.firsts, &mut self.runs, self.len, begin, end);
-    }
-}
-
-impl<K: Ord + Copy + Drop, V: Copy + Drop> SortedRuns<K, V> {
-    /// Sets the value of a key that has none; otherwise keeps the key's value, and returns it. Its only error is that of `insert`, and
-    /// leaves the same.
-    pub fn add(&mut self, key: K, value: V) -> Result<Option<V>, AllocFailed<(K, V)>>
-        ensures had { IfOk result (λ had. had ≡ lookup (is_at (K.cmp key)) self.old) }
-        ensures gains { IfOk result (λ had. had ≡ None → self.new ≡ insert_entry K.cmp self.old key value) }
-        ensures keeps { IfOk result (λ had. IsSome had → self.new ≡ self.old) }
-        ensures returned { IfErr result (λ e. e.value ≡ (key, value)) }
-        ensures absent { OnErr result (lookup (is_at (K.cmp key)) self.old ≡ None) }
-        ensures unchanged { OnErr result (self.new ≡ self.old) }
-        ensures was_ordered { IsStrictlySortedBy K.cmp (keys_of self.old) }
-        ensures ordered { IsStrictlySortedBy K.cmp (keys_of self.new) }
-    {
-        if self.firsts.is_empty() {
-            open(self.alloc, &mut self.firsts, &mut self.runs, 0, key, value)?;
-            self.len = 1;
-            return Ok(None);
-        }
-        let r = run_for(&self.firsts, self.near, &key);
-        self.near = r;
-        let run = &self.runs[r];
-        match slot(run, &key) {
-            Ok(at) => Ok(Some(run[at].1)),
-            Err(at) => {
-                let (firsts, runs) = (&mut self.firsts, &mut self.runs);
-                let len = add_counted(self.alloc, firsts, runs, self.len, r, at, key, value)?;
-                self.len = len;
-                Ok(None)
-            }
-        }
     }
 }
 

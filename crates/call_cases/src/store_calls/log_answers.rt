@@ -34,7 +34,7 @@ pub fn answer(bench: &Fixture, row: &Row) -> Result<Answer, AllocError> {
         "linked" => linked(view, row),
         "records_of" => numbers(row, view.records_of(alloc, page, from, to)),
         "records_since_init" => numbers(row, view.records_since_init(alloc, page, from, to)),
-        "missing" => numbers(row, view.held.missing_by_page(alloc, &bench.other)),
+        "missing" => numbers(row, view.held.missing(alloc, &bench.other)),
         "kept_keys" => view.kept_keys(alloc, row.number(0)).map(Answer::Keys),
         _ => plain(bench, row),
     }

@@ -2,9 +2,8 @@ use Rattle.std.proofs.lemmas.Grind.{common_steps}
 use Rattle.std.proofs.Common.{inl, inr, ⊎_elim, List, map, sym, subst, Bor, arith}
 use Rattle.std.specs.List.{Contains}
 use Rattle.redo_core.specs.Data.{RecordData}
-use Rattle.redo_core.specs.Order.{Lists}
+use Rattle.redo_core.specs.Order.{Lists, RecordBefore}
 use Rattle.hot_log.specs.Missing.{IsMissing}
-use Rattle.hot_log.specs.Paged.{PlaceBefore}
 use Rattle.segment_theorems.specs.State.{State}
 use Rattle.segment_core.proofs.BookTaken.{late_of}
 use Rattle.segment_join.proofs.LeavingOut.{settled_held}
@@ -17,8 +16,8 @@ use Rattle.segment_join.proofs.joining.know_and_hold.Goals as goal
 pub take_all-requires : goal.take_all-requires
 take_all-requires c =
     let other = c.args.other.now in
-    subst (λ (rs : List (Bor RecordData)). Lists PlaceBefore (IsMissing (reached c.args.union.now).held other.held) (map (λ x. x.now) rs)) (sym c.deref.ensures.value)
-    (subst (λ (s : State). Lists PlaceBefore (IsMissing s.held other.held) (map (λ x. x.now) c.in_ok-missing.missing.items)) c.segment-2.ensures c.in_ok-missing.ensures)
+    subst (λ (rs : List (Bor RecordData)). Lists RecordBefore (IsMissing (reached c.args.union.now).held other.held) (map (λ x. x.now) rs)) (sym c.deref.ensures.value)
+    (subst (λ (s : State). Lists RecordBefore (IsMissing s.held other.held) (map (λ x. x.now) c.in_ok-missing.missing.items)) c.segment-2.ensures c.in_ok-missing.ensures)
 
 pub hold_rest-requires-clause-known : goal.hold_rest-requires-clause-known
 hold_rest-requires-clause-known c = λ r has.

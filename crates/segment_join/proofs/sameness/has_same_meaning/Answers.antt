@@ -17,7 +17,12 @@ returns c =
     c.anchor.ensures.own c.anchor-2.ensures.own
     (λ y x hy hx. (
       (c.in_ok-covers.ensures.meanings y x hy hx).0 c.if-not-branch.false,
-      (c.in_ok-covers-2.ensures.meanings x y hx hy).0 c.if-not-branch-2.false,
+      (c.in_ok-covers_back.ensures x y hx hy).0 c.if-not-branch-2.false,
     ))
     tells)
     c.has_same_pages.ensures
+
+pub covers_back-requires : goal.covers_back-requires
+covers_back-requires c = record {
+  covered = λ base anchor low top. (c.in_ok-covers.ensures.own base anchor low top).0 c.if-not-branch.false;
+}

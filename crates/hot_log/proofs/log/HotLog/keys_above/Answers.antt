@@ -10,10 +10,10 @@ returns-clause-above c =
     let held = c.self.inside.records in let a = c.above.ensures in let by_key = c.self.invariant.by_key in let p = c.capped.result in
     subst (λ (l : List RecordData). AreHeldAbove l c.args.after c.above.result) c.self.view_is
     (above_given_held held c.args.after p c.above.result c.self.invariant.form c.capped.ensures (record {
-      listed = λ r h b. (a.each (key_of r, r.page)).1 (by_key.listed r h, b);
+      listed = λ r h b. (a.each (key_of r, r)).1 (by_key.listed r h, b);
       backed = λ e h.
           let in_keys = (a.each e).0 h in
           let t = by_key.backed e.0.epoch e.0.number e.1 in_keys.0 in
-          (t.0, t.1, t.2, t.3, subst (λ (n : _). KeyBefore p (record { epoch = n; number = t.0.number })) (sym t.2.0) (subst (λ (n : _). KeyBefore p (record { epoch = e.0.epoch; number = n })) (sym t.2.1) in_keys.1));
+          (t.0, t.1, subst (λ (n : _). KeyBefore p (record { epoch = n; number = e.1.number })) (sym t.1.0) (subst (λ (n : _). KeyBefore p (record { epoch = e.0.epoch; number = n })) (sym t.1.1) in_keys.1));
       rising = a.rising;
     }))

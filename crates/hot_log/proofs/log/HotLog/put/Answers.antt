@@ -1,124 +1,104 @@
-use Rattle.std.proofs.Common.{◌≡◌, ◌⊎◌, ◌↔◌, refl, sym, ◌∙◌, subst, List, None, IsTrue, false, ℕ}
+use Rattle.std.proofs.Common.{◌≡◌, ◌⊎◌, ◌↔◌, refl, sym, ◌∙◌, subst, List, None, IsTrue, false}
 use Rattle.std.specs.List.{Contains}
 use Rattle.std.proofs.lemmas.Bool.{false≢true}
 use Rattle.redo_core.specs.Data.{RecordData}
-use Rattle.redo_core.specs.Keys.{key_in, key_of}
+use Rattle.redo_core.specs.Keys.{key_of}
 use Rattle.redo_core.specs.declared.keys.Key.{Key}
 use Rattle.hot_log.specs.Held.{IsRecordAt}
-use Rattle.hot_log.specs.Indexing.{IsKeyPages, IsIndexed}
+use Rattle.hot_log.specs.Indexing.{IsKeyRecords, IsUnderKey, IsIndexed, GainsEntry}
 use Rattle.hot_log.specs.Putting.{RefusesPut}
-use Rattle.hot_log.proofs.Indexed.{none_for, unpaged, had_page, had_none, pages_grow, pages_undone, had_same}
+use Rattle.hot_log.proofs.Indexed.{none_for, stored_at, entries_grow, entries_undone, on_ok, on_err}
 use Rattle.hot_log.proofs.Keys.{same_epoch, same_number}
 use Rattle.hot_log.proofs.log.HotLog.put.Goals as goal
 
-pub returns-in_default-clause-refused : goal.returns-in_default-clause-refused
-returns-in_default-clause-refused c =
-    let held = c.self.inside.records in let keys = c.self.inside.by_key in let redo = c.args.redo in
-    let e = c.of-key.result.epoch in let n = c.of-key.result.number in
-    let free : IsRecordAt held (key_of redo) None = none_for held e n redo.epoch redo.number (same_epoch c.of-key.ensures.value) (same_number c.of-key.ensures.value) (unpaged held keys e n c.self.invariant.by_key c.in_default.ensures.absent) in
-    (refl, subst (λ (l : List RecordData). IsRecordAt l (key_of redo) None) c.self.view_is free)
+-- no record has the key of the one that is put
+free : (held : List RecordData) (keys : List (Key × RecordData)) (redo : RecordData) (key : Key) → IsKeyRecords held keys → key ≡ key_of redo → IsUnderKey keys key None
+    → IsRecordAt held (key_of redo) None
+free held keys redo key is same none =
+    none_for held key.epoch key.number redo.epoch redo.number (same_epoch same) (same_number same) (stored_at held keys key.epoch key.number None is none)
 
-pub returns-then-is_some-clause-refused : goal.returns-then-is_some-clause-refused
-returns-then-is_some-clause-refused c =
-    let held = c.self.inside.records in let keys = c.self.inside.by_key in let redo = c.args.redo in
-    let e = c.of-key.result.epoch in let n = c.of-key.result.number in
-    let had = had_page c.in-Ok.page c.is_some.result keys c.add.new.self (key_in e n) c.page.result c.is_some.ensures c.if-is_some.true c.in-Ok.ensures.adds in
-    let t = c.self.invariant.by_key.backed e n had.0 had.1 in (
+pub returns-then-is_same-clause-put : goal.returns-then-is_same-clause-put
+returns-then-is_same-clause-put c =
+    let key = c.of-key.result in
+    let t = c.self.invariant.by_key.backed key.epoch key.number c.in-Some.held.now c.in-Some.ensures in
+    let same : c.in-Some.held.now ≡ c.args.redo = c.if-is_same.ensures.0 refl in
+    (subst (λ (l : List RecordData). Contains l c.args.redo) c.self.view_is (subst (Contains c.self.inside.records) same t.0), refl)
+
+pub returns-in-Some-clause-refused : goal.returns-in-Some-clause-refused
+returns-in-Some-clause-refused c =
+    let key = c.of-key.result in let other = c.in-Some.held.now in
+    let t = c.self.invariant.by_key.backed key.epoch key.number other c.in-Some.ensures in (
       refl,
       (
-        t.0,
-        subst (λ (l : List RecordData). Contains l t.0) c.self.view_is t.1,
-        (t.2.0 ∙ (same_epoch c.of-key.ensures.value), t.2.1 ∙ (same_number c.of-key.ensures.value)),
-        λ same. let is : IsTrue false = c.if-has.ensures.1 (subst (Contains held) same t.1) in absurd (false≢true is),
+        other,
+        subst (λ (l : List RecordData). Contains l other) c.self.view_is t.0,
+        (t.1.0 ∙ same_epoch c.of-key.ensures.value, t.1.1 ∙ same_number c.of-key.ensures.value),
+        λ same. let is : IsTrue false = c.if-is_same.ensures.1 same in absurd (false≢true is),
       ),
     )
 
-pub hold-requires-clause-free : goal.hold-requires-clause-free
-hold-requires-clause-free c =
-    let held = c.self.inside.records in let keys = c.self.inside.by_key in let redo = c.args.redo in
-    let e = c.of-key.result.epoch in let n = c.of-key.result.number in
-    let none = had_none c.in-Ok.page c.is_some.result keys c.add.new.self (key_in e n) c.page.result c.is_some.ensures c.if-is_some.false c.in-Ok.ensures.adds in
-    let free : IsRecordAt held (key_of redo) None = none_for held e n redo.epoch redo.number (same_epoch c.of-key.ensures.value) (same_number c.of-key.ensures.value) (unpaged held keys e n c.self.invariant.by_key none.0) in
-    free
+pub returns-then-is_err-clause-refused : goal.returns-then-is_err-clause-refused
+returns-then-is_err-clause-refused c = (
+  refl,
+  subst (λ (l : List RecordData). IsRecordAt l (key_of c.args.redo) None) c.self.view_is
+      (free c.self.inside.records c.self.inside.by_key c.args.redo c.of-key.result c.self.invariant.by_key c.of-key.ensures.value c.in_default.ensures),
+)
 
-pub invariant_of-self-in-Ok-hold : goal.invariant_of-self-in-Ok-hold
-invariant_of-self-in-Ok-hold c =
-    let held = c.self.inside.records in let keys = c.self.inside.by_key in let redo = c.args.redo in
-    let e = c.of-key.result.epoch in let n = c.of-key.result.number in
-    let none = had_none c.in-Ok.page c.is_some.result keys c.add.new.self (key_in e n) c.page.result c.is_some.ensures c.if-is_some.false c.in-Ok.ensures.adds in
+pub hold-requires-clause-free : goal.hold-requires-clause-free
+hold-requires-clause-free c = free c.self.inside.records c.self.inside.by_key c.args.redo c.of-key.result c.self.invariant.by_key c.of-key.ensures.value c.in_default.ensures
+
+pub invariant_of-self-in-Ok : goal.invariant_of-self-in-Ok
+invariant_of-self-in-Ok c =
+    let held = c.self.inside.records in let keys = c.self.inside.by_key in let key = c.of-key.result in
+    let gains = on_ok c.add.result c.is_err.result (GainsEntry keys key c.args.redo c.add.new.self) c.is_err.ensures.value c.if-is_err.false c.add.ensures.gains in
     record {
-      form = c.in-Ok-hold.ensures.form;
-      by_key = pages_grow held c.hold.new.records keys c.add.new.self redo e n c.page.result c.self.invariant.by_key c.in-Ok-hold.ensures.gains (same_epoch c.of-key.ensures.value) (same_number c.of-key.ensures.value) c.page.ensures none.1;
-      by_back = c.in-Ok-hold.ensures.still_listed;
+      form = c.in-Ok.ensures.form;
+      by_key = entries_grow held c.hold.new.records keys c.add.new.self c.args.redo key.epoch key.number c.self.invariant.by_key c.in-Ok.ensures.gains
+          (same_epoch c.of-key.ensures.value) (same_number c.of-key.ensures.value) gains;
+      by_back = c.in-Ok.ensures.still_listed;
     }
 
 pub invariant_of-self-in-Err : goal.invariant_of-self-in-Err
 invariant_of-self-in-Err c =
-    let held = c.self.inside.records in let keys = c.self.inside.by_key in let redo = c.args.redo in
-    let e = c.of-key.result.epoch in let n = c.of-key.result.number in
-    let none = had_none c.in-Ok.page c.is_some.result keys c.add.new.self (key_in e n) c.page.result c.is_some.ensures c.if-is_some.false c.in-Ok.ensures.adds in
-    let free : IsRecordAt held (key_of redo) None = none_for held e n redo.epoch redo.number (same_epoch c.of-key.ensures.value) (same_number c.of-key.ensures.value) (unpaged held keys e n c.self.invariant.by_key none.0) in
-    let same : c.hold.new.records ≡ held = c.in-Err.ensures.unchanged in
+    let held = c.self.inside.records in let keys = c.self.inside.by_key in let key = c.of-key.result in
+    let gains = on_ok c.add.result c.is_err.result (GainsEntry keys key c.args.redo c.add.new.self) c.is_err.ensures.value c.if-is_err.false c.add.ensures.gains in
+    let none = free held keys c.args.redo key c.self.invariant.by_key c.of-key.ensures.value c.in_default.ensures in
     record {
       form = c.in-Err.ensures.form;
-      by_key = subst (λ (l : List RecordData). IsKeyPages l c.remove.new.self) (sym same) (pages_undone held keys c.add.new.self c.remove.new.self redo e n c.page.result c.self.invariant.by_key free (same_epoch c.of-key.ensures.value) (same_number c.of-key.ensures.value) none.1 c.remove.ensures.loses);
+      by_key = subst (λ (l : List RecordData). IsKeyRecords l c.remove.new.self) (sym c.in-Err.ensures.unchanged)
+          (entries_undone held keys c.add.new.self c.remove.new.self c.args.redo key.epoch key.number c.self.invariant.by_key none
+          (same_epoch c.of-key.ensures.value) (same_number c.of-key.ensures.value) gains c.remove.ensures.loses);
       by_back = c.in-Err.ensures.still_listed;
     }
 
-pub returns-in-Ok-hold-clause-put : goal.returns-in-Ok-hold-clause-put
-returns-in-Ok-hold-clause-put c =
-    let held = c.self.inside.records in let keys = c.self.inside.by_key in let redo = c.args.redo in
-    let e = c.of-key.result.epoch in let n = c.of-key.result.number in
-    let none = had_none c.in-Ok.page c.is_some.result keys c.add.new.self (key_in e n) c.page.result c.is_some.ensures c.if-is_some.false c.in-Ok.ensures.adds in
-    let free : IsRecordAt held (key_of redo) None = none_for held e n redo.epoch redo.number (same_epoch c.of-key.ensures.value) (same_number c.of-key.ensures.value) (unpaged held keys e n c.self.invariant.by_key none.0) in (
-      subst (λ (l : List RecordData). IsRecordAt l (key_of redo) None) c.self.view_is free,
-      λ r. subst (λ (l : List RecordData). Contains c.hold.new.records r ↔ (Contains l r ⊎ (r ≡ redo))) c.self.view_is (c.in-Ok-hold.ensures.gains r),
+pub returns-in-Ok-clause-put : goal.returns-in-Ok-clause-put
+returns-in-Ok-clause-put c =
+    let none = free c.self.inside.records c.self.inside.by_key c.args.redo c.of-key.result c.self.invariant.by_key c.of-key.ensures.value c.in_default.ensures in (
+      subst (λ (l : List RecordData). IsRecordAt l (key_of c.args.redo) None) c.self.view_is none,
+      λ r. subst (λ (l : List RecordData). Contains c.hold.new.records r ↔ (Contains l r ⊎ (r ≡ c.args.redo))) c.self.view_is (c.in-Ok.ensures.gains r),
     )
 
 pub returns-in-Err-clause-refused : goal.returns-in-Err-clause-refused
 returns-in-Err-clause-refused c =
-    let held = c.self.inside.records in let keys = c.self.inside.by_key in let redo = c.args.redo in
-    let e = c.of-key.result.epoch in let n = c.of-key.result.number in
-    let none = had_none c.in-Ok.page c.is_some.result keys c.add.new.self (key_in e n) c.page.result c.is_some.ensures c.if-is_some.false c.in-Ok.ensures.adds in
-    let free : IsRecordAt held (key_of redo) None = none_for held e n redo.epoch redo.number (same_epoch c.of-key.ensures.value) (same_number c.of-key.ensures.value) (unpaged held keys e n c.self.invariant.by_key none.0) in
+    let none = free c.self.inside.records c.self.inside.by_key c.args.redo c.of-key.result c.self.invariant.by_key c.of-key.ensures.value c.in_default.ensures in
     let refused = c.in-Err.ensures.refused in (
       refused.0,
-      subst (RefusesPut c.args.self.now redo) (sym refused.1) (subst (λ (l : List RecordData). IsRecordAt l (key_of redo) None) c.self.view_is free),
+      subst (RefusesPut c.args.self.now c.args.redo) (sym refused.1) (subst (λ (l : List RecordData). IsRecordAt l (key_of c.args.redo) None) c.self.view_is none),
     )
 
 pub invariant_of-self : goal.invariant_of-self
-invariant_of-self c = subst (λ (l : List (Key × ℕ)). IsIndexed c.self.inside.records l c.self.inside.by_back) (sym c.in_default.ensures.unchanged) c.self.invariant
+invariant_of-self c =
+    let same = on_err c.add.result c.is_err.result (c.add.new.self ≡ c.self.inside.by_key) c.is_err.ensures.value c.if-is_err.true c.add.ensures.unchanged in
+    subst (λ (l : List (Key × RecordData)). IsIndexed c.self.inside.records l c.self.inside.by_back) (sym same) c.self.invariant
 
-pub invariant_of-self-then-has : goal.invariant_of-self-then-has
-invariant_of-self-then-has c =
-    let same = had_same c.in-Ok.page c.is_some.result c.self.inside.by_key c.add.new.self (key_in c.of-key.result.epoch c.of-key.result.number) c.page.result c.is_some.ensures c.if-is_some.true c.in-Ok.ensures.adds in
-    subst (λ (l : List (Key × ℕ)). IsIndexed c.self.inside.records l c.self.inside.by_back) (sym same) c.self.invariant
-
-pub invariant_of-self-then-is_some : goal.invariant_of-self-then-is_some
-invariant_of-self-then-is_some c =
-    let same = had_same c.in-Ok.page c.is_some.result c.self.inside.by_key c.add.new.self (key_in c.of-key.result.epoch c.of-key.result.number) c.page.result c.is_some.ensures c.if-is_some.true c.in-Ok.ensures.adds in
-    subst (λ (l : List (Key × ℕ)). IsIndexed c.self.inside.records l c.self.inside.by_back) (sym same) c.self.invariant
-
-pub returns-then-has-clause-put : goal.returns-then-has-clause-put
-returns-then-has-clause-put c = (subst (λ (l : List RecordData). Contains l c.args.redo) c.self.view_is (c.if-has.ensures.0 refl), c.self.view_is)
-
-pub returns-in_default-clause-unchanged : goal.returns-in_default-clause-unchanged
-returns-in_default-clause-unchanged c = c.self.view_is
-
-pub returns-then-is_some-clause-unchanged : goal.returns-then-is_some-clause-unchanged
-returns-then-is_some-clause-unchanged c = c.self.view_is
+pub returns-then-is_err-clause-unchanged : goal.returns-then-is_err-clause-unchanged
+returns-then-is_err-clause-unchanged c = c.self.view_is
 
 pub returns-in-Err-clause-unchanged : goal.returns-in-Err-clause-unchanged
 returns-in-Err-clause-unchanged c = c.in-Err.ensures.unchanged ∙ c.self.view_is
 
-pub returns-in_default-clause-form : goal.returns-in_default-clause-form
-returns-in_default-clause-form c = c.self.invariant.form
-
-pub returns-then-has-clause-form : goal.returns-then-has-clause-form
-returns-then-has-clause-form c = c.self.invariant.form
-
-pub returns-then-is_some-clause-form : goal.returns-then-is_some-clause-form
-returns-then-is_some-clause-form c = c.self.invariant.form
+pub returns-then-is_err-clause-form : goal.returns-then-is_err-clause-form
+returns-then-is_err-clause-form c = c.self.invariant.form
 
 pub returns-in-Err-clause-form : goal.returns-in-Err-clause-form
 returns-in-Err-clause-form c = c.in-Err.ensures.form
@@ -126,5 +106,5 @@ returns-in-Err-clause-form c = c.in-Err.ensures.form
 pub hold-requires-clause-listed : goal.hold-requires-clause-listed
 hold-requires-clause-listed c = c.self.invariant.by_back
 
-pub returns-in-Ok-hold-clause-form : goal.returns-in-Ok-hold-clause-form
-returns-in-Ok-hold-clause-form c = c.in-Ok-hold.ensures.form
+pub returns-in-Ok-clause-form : goal.returns-in-Ok-clause-form
+returns-in-Ok-clause-form c = c.in-Ok.ensures.form

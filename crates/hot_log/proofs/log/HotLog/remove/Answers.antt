@@ -1,11 +1,11 @@
-use Rattle.std.proofs.Common.{subst, List, ℕ, sym, refl}
+use Rattle.std.proofs.Common.{subst, List, None, sym, refl}
 use Rattle.redo_core.specs.Data.{RecordData}
 use Rattle.redo_core.specs.declared.keys.Key.{Key}
 use Rattle.hot_log.specs.Held.{HasKey}
 use Rattle.hot_log.specs.Removing.{Removes}
 use Rattle.hot_log.specs.Indexing.{IsIndexed}
 use Rattle.hot_log.proofs.Capped.{none_exact}
-use Rattle.hot_log.proofs.Indexed.{index_shrinks, pages_shrink, unpaged, removes_none, removes_key}
+use Rattle.hot_log.proofs.Indexed.{index_shrinks, entries_shrink, stored_at, removes_none, removes_key}
 use Rattle.hot_log.proofs.log.HotLog.remove.Goals as goal
 
 pub returns-in_default-clause-removes : goal.returns-in_default-clause-removes
@@ -20,36 +20,23 @@ returns-in_default-remove-clause-removes c =
     let held = c.self.inside.records in let p = c.in-Some.packed in
     subst (λ (k : Key). Removes (HasKey k) c.args.self.now held) c.in-Some.ensures.some
     (subst (λ (l : List RecordData). Removes (HasKey p) l held) c.self.view_is
-    (removes_none held p.epoch p.number (unpaged held c.self.inside.by_key p.epoch p.number c.self.invariant.by_key c.in_default-remove.ensures.had)))
-
--- the record of a key that has a page is there
-never : (c : goal.In_default-remove-2) → ⊥
-never c =
-    let p = c.in-Some.packed in
-    let t = c.self.invariant.by_key.backed p.epoch p.number c.in-Some-remove.page c.in-Some-remove.ensures.had in
-    c.in_default-remove-2.ensures.value t.0 t.1 t.3 t.2
-
-pub invariant_of-self-in_default-remove-2 : goal.invariant_of-self-in_default-remove-2
-invariant_of-self-in_default-remove-2 c = absurd (never c)
-
-pub returns-in_default-remove-2-clause-removes : goal.returns-in_default-remove-2-clause-removes
-returns-in_default-remove-2-clause-removes c = absurd (never c)
+    (removes_none held p.epoch p.number (stored_at held c.self.inside.by_key p.epoch p.number None c.self.invariant.by_key c.in_default-remove.ensures.had)))
 
 goes : (c : goal.After-drop-redo) → Removes (HasKey c.in-Some.packed) c.self.inside.records c.remove-2.new.self
 goes c =
     let p = c.in-Some.packed in
-    removes_key c.self.inside.records c.remove-2.new.self c.self.inside.by_key p.epoch p.number c.in-Some-remove.page c.self.invariant.form c.self.invariant.by_key
-    c.in-Some-remove.ensures.had c.in-Some-remove-2.ensures.removes
+    removes_key c.self.inside.records c.remove-2.new.self c.self.inside.by_key p.epoch p.number c.page.result c.in-Some-remove.redo c.self.invariant.form c.self.invariant.by_key
+    c.in-Some-remove.ensures.had c.page.ensures c.remove-2.ensures.removes
 
 pub invariant_of-self-2 : goal.invariant_of-self-2
 invariant_of-self-2 c =
-    let held = c.self.inside.records in let redo = c.in-Some-remove-2.redo in let p = c.in-Some.packed in
-    let found = c.in-Some-remove-2.ensures.value in
+    let held = c.self.inside.records in let redo = c.in-Some-remove.redo in let p = c.in-Some.packed in
+    let found = c.self.invariant.by_key.backed p.epoch p.number redo c.in-Some-remove.ensures.had in
     record {
-      form = c.in-Some-remove-2.ensures.form;
-      by_key = pages_shrink held c.remove-2.new.self c.self.inside.by_key c.remove.new.self p.epoch p.number c.self.invariant.by_key (goes c) c.in-Some-remove.ensures.loses;
+      form = c.remove-2.ensures.form;
+      by_key = entries_shrink held c.remove-2.new.self c.self.inside.by_key c.remove.new.self p.epoch p.number c.self.invariant.by_key (goes c) c.in-Some-remove.ensures.loses;
       by_back = index_shrinks held c.remove-2.new.self c.self.inside.by_back c.remove-3.new.self redo c.back.result p.epoch p.number c.self.invariant.form
-          c.self.invariant.by_back found.0 found.2 c.back.ensures.value (goes c) c.remove-3.ensures;
+          c.self.invariant.by_back found.0 found.1 c.back.ensures.value (goes c) c.remove-3.ensures;
     }
 
 pub returns-clause-removes : goal.returns-clause-removes
@@ -58,7 +45,7 @@ returns-clause-removes c =
     (subst (λ (l : List RecordData). Removes (HasKey c.in-Some.packed) l c.remove-2.new.self) c.self.view_is (goes c))
 
 pub invariant_of-self : goal.invariant_of-self
-invariant_of-self c = subst (λ (l : List (Key × ℕ)). IsIndexed c.self.inside.records l c.self.inside.by_back) (sym (c.in_default-remove.ensures.unchanged refl)) c.self.invariant
+invariant_of-self c = subst (λ (l : List (Key × RecordData)). IsIndexed c.self.inside.records l c.self.inside.by_back) (sym (c.in_default-remove.ensures.unchanged refl)) c.self.invariant
 
 pub returns-clause-form : goal.returns-clause-form
-returns-clause-form c = c.in-Some-remove-2.ensures.form
+returns-clause-form c = c.remove-2.ensures.form
