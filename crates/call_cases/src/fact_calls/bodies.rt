@@ -122,9 +122,9 @@ fn is_of_patches(alloc: Global, redo: &Record, one: &Fact) -> Result<bool, Alloc
     }
 }
 
-// Whether the copies of a fact are the fact, also one of a copy that was shared.
+// Whether the copies of a fact are the fact, also a copy of a copy.
 fn is_its_copies(fact: &Fact) -> Result<bool, AllocError> {
-    are_one(&shared_copy(fact)?, fact)
+    are_one(&copy_of_copy(fact)?, fact)
 }
 
 /// The answer of a call over the stored facts.
