@@ -7,7 +7,7 @@ use crate::working::DrillResult;
 use named_log::LogName;
 use node_cell::laws::receipts_stand;
 use node_cell::{AbsorbFault, Closed, DeliverFault, Node, Pass, Receipt, settle};
-use node_threads::{Answer, Inlet, Refusal};
+use node_threads::{DeliverResult, Inlet, WorkerRefusal};
 use segment_core::CommitFault;
 use std::alloc::{AllocError, Global};
 use std::sync::Wait;
@@ -86,18 +86,18 @@ fn pass_of<L: LogName>(back: Option<Inlet<L>>) -> Pass<L>
 }
 
 // An error where a worker could not be started, or lacked memory.
-fn had_memory(refusals: &[Refusal]) -> Result<(), AllocError>
+fn had_memory(refusals: &[WorkerRefusal]) -> Result<(), AllocError>
     ensures { OnOk result (AllStarted refusals.now) }
 {
     for refusal in refusals {
         match refusal {
-            Refusal::NotStarted { .. } => return Err(AllocError),
-            Refusal::Memory { .. } => return Err(AllocError),
-            Refusal::Commit {
+            WorkerRefusal::NotStarted { .. } => return Err(AllocError),
+            WorkerRefusal::Memory { .. } => return Err(AllocError),
+            WorkerRefusal::Commit {
                 fault: CommitFault::Memory,
                 ..
             } => return Err(AllocError),
-            Refusal::Absorb {
+            WorkerRefusal::Absorb {
                 fault: AbsorbFault::Memory,
                 ..
             } => return Err(AllocError),
@@ -112,7 +112,7 @@ fn close_one<L: LogName, R: Wait>(
     alloc: Global,
     node: Node<L>,
     pass: Pass<L>,
-    answers: Vec<Answer<L>>,
+    answers: Vec<DeliverResult<L>>,
 ) -> Result<Closed<L>, AllocError>
     requires pass { IsPassOf node pass }
     requires list { pass.list ≡ receipts_in answers.items }
@@ -129,7 +129,7 @@ fn close_one<L: LogName, R: Wait>(
 
 fn receipts_of<L: LogName>(
     alloc: Global,
-    answers: Vec<Answer<L>>,
+    answers: Vec<DeliverResult<L>>,
 ) -> Result<Vec<Receipt<L>>, AllocError>
     ensures { IfOk result (λ rs. map (λ r. (r.place, r.log_place)) rs.items ≡ receipts_in answers.items) }
 {

@@ -9,7 +9,7 @@ use crate::floor::DrillSetup;
 use front_board::Board;
 use named_log::LogName;
 use node_cell::Node;
-use node_threads::{Answer, Gate, Inlet, Plan, Refusal, Served, serve};
+use node_threads::{DeliverResult, Gate, Inlet, Plan, ServeInput, Shared, WorkerRefusal, serve};
 use std::alloc::{AllocError, Global};
 use std::sync::Wait;
 use std::thread::Threads;
@@ -21,8 +21,8 @@ pub struct DrillResult<L: LogName> {
     pub board: Board<L>,
     pub nodes: Vec<Node<L>>,
     pub inlets: Vec<Option<Inlet<L>>>,
-    pub answers: Vec<Vec<Answer<L>>>,
-    pub refusals: Vec<Refusal>,
+    pub answers: Vec<Vec<DeliverResult<L>>>,
+    pub refusals: Vec<WorkerRefusal>,
     ghost len: { (length inlets.items ≡ length nodes.items) × (length answers.items ≡ length nodes.items) },
     ghost numbers: { All (λ n. IsNode board.words n.number) nodes.items },
     ghost passes: { AllStarted refusals.items → Each (λ k n s. (is_some s ≡ true) × ((j : _) → s ≡ Some j → IsPassOf n j.pass × ((a : _) → slice_get answers.items k ≡ Some a → j.pass.list ≡ receipts_in a.items))) nodes.items inlets.items },
@@ -43,23 +43,25 @@ pub fn work<L: LogName + Send + Sync, G: Gate + Sync, R: Threads + Wait + Sync>(
         feeds,
         inlets,
     } = floor;
-    let shared = nodes.as_slice();
-    match serve(rt, alloc, shared, feeds, inlets, &board, plan, gate) {
-        Ok(served) => {
-            let Served {
-                feeds: _,
-                inlets,
-                answers,
-                refusals,
-            } = served;
-            Ok(DrillResult {
-                board,
-                nodes,
-                inlets,
-                answers,
-                refusals,
-            })
-        }
-        Err(_) => Err(AllocError),
-    }
+    let lent = nodes.as_slice();
+    let shared = Shared {
+        nodes: lent,
+        board: &board,
+        gate,
+    };
+    let input = ServeInput {
+        feeds,
+        inlets,
+        plan,
+    };
+    let Ok(served) = serve(rt, alloc, &shared, input) else {
+        return Err(AllocError);
+    };
+    Ok(DrillResult {
+        board,
+        nodes,
+        inlets: served.inlets,
+        answers: served.answers,
+        refusals: served.refusals,
+    })
 }

@@ -1,3 +1,4 @@
 pub mod Each
 pub mod Refusals
 pub mod Work
+pub mod Runs

@@ -1,12 +1,14 @@
-ghost use Rattle.std.specs.Prelude.{◌≡◌, ◌≢◌, ◌+◌, ◌-◌, ◌<◌, ◌≤◌, ◌++◌, ◌∷◌, [], All, length, IfSome, IfNone, MatchResult, vec_len, vec_capacity};
+ghost use Rattle.std.specs.Prelude.{◌≡◌, ◌≢◌, ◌<◌, ◌≤◌, ◌++◌, ◌∷◌, [], length, IfSome, IfNone, MatchResult, vec_len, vec_capacity};
 ghost use Rattle.front_board.specs.Seat.{IsNode};
 ghost use Rattle.node_cell.specs.Node.{IsPassOf};
-ghost use Rattle.node_threads.specs.Work.{Answered, Names, NamesItem, answered_place, receipt_in};
+ghost use Rattle.node_threads.specs.Runs.{IsReady};
+ghost use Rattle.node_threads.specs.Work.{Answered, Names, answered_place, receipt_in};
 
+use crate::context::Context;
 use crate::gate::{Gate, Job, Kind};
 use crate::list::numbered;
 use crate::stop::{StopSignal, StopToken, told};
-use front_board::{Board, Seat};
+use front_board::Seat;
 use intake_queue::{Intake, Parcel, TakerPass};
 use named_log::{LogFact, LogName};
 use node_cell::{DeliverFault, Node, Pass, Receipt};
@@ -15,61 +17,50 @@ use std::sync::Wait;
 use std::thread;
 
 /// The receipt of a parcel's fact, or the fact and why it was refused.
-pub type Answer<L> = Result<Receipt<L>, Refused<LogFact<L>, DeliverFault>>;
+pub type DeliverResult<L> = Result<Receipt<L>, Refused<LogFact<L>, DeliverFault>>;
 
-/// What a drainer owns: the ends of its inlet, and the answers so far, with room for all.
+/// What a drainer owns: the ends of its inlet, how many parcels it takes, and the answers so far, with room for all.
 #[derive(Drop)]
-pub struct DrainerState<L: LogName> {
+pub(crate) struct DrainerState<L: LogName> {
     pub taker: TakerPass<L>,
     pub node: usize,
     pub pass: Pass<L>,
     pub seat: Seat<L>,
-    pub answers: Vec<Answer<L>>,
+    pub count: u64,
+    pub answers: Vec<DeliverResult<L>>,
 }
 
 /// What a drainer brings back.
 #[derive(Drop)]
-pub struct DrainerResult<'s, L: LogName> {
+pub(crate) struct DrainerResult<'s, L: LogName> {
     pub hold: DrainerState<L>,
     pub halt: Option<StopToken<'s>>,
     pub absent: bool,
 }
 
-/// Takes so many parcels, and delivers each to the node. It ends sooner where the intake is empty and a worker could not be
+/// Takes its number of parcels, and delivers each to the node. It ends sooner where the intake is empty and a worker could not be
 /// started.
-pub fn run_drainer<'s, L: LogName, G: Gate, R: Wait>(
-    rt: &R,
-    nodes: &[Node<L>],
-    board: &Board<L>,
-    gate: &G,
-    stop: &'s StopSignal,
+pub(crate) fn run_drainer<'s, L: LogName, G: Gate, R: Wait>(
+    context: &'s Context<'s, L, G, R>,
     intake: &Intake<L>,
     worker: u64,
-    count: u64,
     mut hold: DrainerState<L>,
 ) -> DrainerResult<'s, L>
-    requires taker { hold.taker.intake ≡ intake.now.id }
-    requires seat { hold.seat.board ≡ board.now }
-    requires pass { (n : _) → NamesItem hold.node nodes.now n → IsPassOf n hold.pass }
-    requires nodes { All (λ n. IsNode board.now.words n.number) nodes.now }
-    requires none { hold.answers.items ≡ [] }
-    requires room { count ≤ vec_capacity hold.answers }
+    requires ready { IsReady context.now.nodes.now context.now.board.now intake.now hold }
     ensures seat { result.hold.seat.board ≡ hold.seat.board }
     ensures node { result.hold.node ≡ hold.node }
     ensures answered { Answered hold.taker result.hold.taker hold.pass result.hold.pass result.hold.answers.items }
-    ensures count { Names hold.node (length nodes.now) → IfNone result.halt (length result.hold.answers.items ≡ count) }
-    ensures halt { IfSome result.halt (λ t. (t.of ≡ stop.entry.now.id) × (t.value ≢ 0)) }
+    ensures count { Names hold.node (length context.entry.now.nodes.now) → IfNone result.halt (length result.hold.answers.items ≡ hold.count) }
+    ensures halt { IfSome result.halt (λ t. (t.of ≡ context.entry.now.stop.now.id) × (t.value ≢ 0)) }
 {
-    let Some(node) = numbered(nodes, hold.node) else {
+    let Some(node) = numbered(context.nodes, hold.node) else {
         return DrainerResult {
             hold,
             halt: None,
             absent: true,
         };
     };
-    let halt = drain_all(
-        rt, node, board, gate, stop, intake, worker, count, &mut hold,
-    );
+    let halt = drain_all(context, node, intake, worker, &mut hold);
     DrainerResult {
         hold,
         halt,
@@ -78,39 +69,36 @@ pub fn run_drainer<'s, L: LogName, G: Gate, R: Wait>(
 }
 
 fn drain_all<'s, L: LogName, G: Gate, R: Wait>(
-    rt: &R,
+    context: &'s Context<'s, L, G, R>,
     node: &Node<L>,
-    board: &Board<L>,
-    gate: &G,
-    stop: &'s StopSignal,
     intake: &Intake<L>,
     worker: u64,
-    count: u64,
     hold: &mut DrainerState<L>,
 ) -> Option<StopToken<'s>>
     requires taker { hold.old.taker.intake ≡ intake.now.id }
-    requires seat { hold.old.seat.board ≡ board.now }
+    requires seat { hold.old.seat.board ≡ context.now.board.now }
     requires pass { IsPassOf node.now hold.old.pass }
-    requires node { IsNode board.now.words node.now.number }
+    requires node { IsNode context.now.board.now.words node.now.number }
     requires none { hold.old.answers.items ≡ [] }
-    requires room { count ≤ vec_capacity hold.old.answers }
+    requires room { hold.old.count ≤ vec_capacity hold.old.answers }
     ensures seat { hold.new.seat.board ≡ hold.old.seat.board }
     ensures node { hold.new.node ≡ hold.old.node }
     ensures answered { Answered hold.old.taker hold.new.taker hold.old.pass hold.new.pass hold.new.answers.items }
-    ensures count { IfNone result (length hold.new.answers.items ≡ count) }
-    ensures halt { IfSome result (λ t. (t.of ≡ stop.entry.now.id) × (t.value ≢ 0)) }
+    ensures count { IfNone result (length hold.new.answers.items ≡ hold.old.count) }
+    ensures halt { IfSome result (λ t. (t.of ≡ context.entry.now.stop.now.id) × (t.value ≢ 0)) }
 {
+    let count = hold.count;
     for before in 0..count {
-        match take_waiting(rt, stop, intake, &mut hold.taker) {
+        match take_waiting(context.rt, context.stop, intake, &mut hold.taker) {
             Ok(parcel) => {
                 let job = Job {
                     worker,
                     kind: Kind::Deliver,
                     turn: before + 1,
                 };
-                gate.before(job);
-                deliver(rt, node, board, hold, parcel);
-                gate.after(job);
+                context.gate.before(job);
+                deliver(context, node, hold, parcel);
+                context.gate.after(job);
             }
             Err(halt) => return Some(halt),
         }
@@ -119,16 +107,15 @@ fn drain_all<'s, L: LogName, G: Gate, R: Wait>(
 }
 
 // Delivers the fact of a parcel, and notes the answer.
-fn deliver<L: LogName, R: Wait>(
-    rt: &R,
+fn deliver<L: LogName, G, R: Wait>(
+    context: &Context<'_, L, G, R>,
     node: &Node<L>,
-    board: &Board<L>,
     hold: &mut DrainerState<L>,
     parcel: Parcel<L>,
 )
-    requires seat { hold.old.seat.board ≡ board.now }
+    requires seat { hold.old.seat.board ≡ context.now.board.now }
     requires pass { IsPassOf node.now hold.old.pass }
-    requires node { IsNode board.now.words node.now.number }
+    requires node { IsNode context.now.board.now.words node.now.number }
     requires room { vec_len hold.old.answers < vec_capacity hold.old.answers }
     ensures taker { hold.new.taker ≡ hold.old.taker }
     ensures seat { hold.new.seat.board ≡ hold.old.seat.board }
@@ -137,7 +124,13 @@ fn deliver<L: LogName, R: Wait>(
     ensures answer { (a : _) × (hold.new.answers.items ≡ hold.old.answers.items ++ a ∷ []) × (answered_place a ≡ parcel.fact.place) × (hold.new.pass ≡ record hold.old.pass { list = hold.old.pass.list ++ receipt_in a }) }
 {
     let fact = parcel.into_fact();
-    let (delivered, _) = node.deliver(rt, &mut hold.pass, board, &mut hold.seat, fact);
+    let (delivered, _) = node.deliver(
+        context.rt,
+        &mut hold.pass,
+        context.board,
+        &mut hold.seat,
+        fact,
+    );
     let answer = match delivered {
         Ok(ack) => Ok(ack.receipt),
         Err(refused) => Err(refused),

@@ -1,4 +1,4 @@
-ghost use Rattle.std.specs.Prelude.{◌≡◌, ◌≢◌, ◌⊎◌, ℕ, ◌+◌, ◌-◌, ◌<◌, ◌≤◌, [], length, reverse, IfSome, IfNone, Some, slice_get};
+ghost use Rattle.std.specs.Prelude.{◌≡◌, ◌≢◌, length, reverse, IfSome, IfNone};
 ghost use Rattle.node_threads.specs.Work.{Offered, IsDone, Names, NamesItem};
 
 use crate::list::numbered;
@@ -18,7 +18,7 @@ pub struct Feed<L: LogName> {
 
 /// What a feeder brings back.
 #[derive(Drop)]
-pub struct FeederResult<'s, L: LogName> {
+pub(crate) struct FeederResult<'s, L: LogName> {
     pub feed: Feed<L>,
     pub halt: Option<StopToken<'s>>,
     pub absent: bool,
@@ -26,7 +26,7 @@ pub struct FeederResult<'s, L: LogName> {
 
 /// Offers the facts, each again where the intake is full. It ends where all were accepted or the numbers are used up, or
 /// where the intake is full and a worker could not be started.
-pub fn run_feeder<'s, L: LogName, R: Wait>(
+pub(crate) fn run_feeder<'s, L: LogName, R: Wait>(
     rt: &R,
     intakes: &[Intake<L>],
     stop: &'s StopSignal,

@@ -9,7 +9,9 @@
 //! taker took, and its pass has just the receipts among them.
 #![tactic(auto)]
 
+mod context;
 mod drain;
+mod ending;
 mod feed;
 mod folding;
 mod gate;
@@ -28,13 +30,10 @@ mod start_feeders;
 mod start_rounds;
 mod stop;
 
-pub use drain::{Answer, DrainerResult, DrainerState, run_drainer};
-pub use feed::{Feed, FeederResult, run_feeder};
+pub use drain::DeliverResult;
+pub use feed::Feed;
 pub use folding::fold_many;
 pub use gate::{Gate, Job, Kind};
 pub use inlet::Inlet;
-pub use refusal::Refusal;
-pub use rounds::{run_folder, run_gossiper};
-pub use run::Plan;
-pub use serving::{ServeInput, Served, serve};
-pub use stop::{StopSignal, StopToken};
+pub use refusal::WorkerRefusal;
+pub use serving::{Plan, ServeInput, Served, Shared, serve};

@@ -3,11 +3,12 @@ ghost use Rattle.std.specs.Prelude.{◌≡◌, ◌+◌, ◌≤◌, [], length, s
 
 use crate::drain::DrainerState;
 use crate::feed::Feed;
-use crate::refusal::Refusal;
-use crate::run::Plan;
+use crate::refusal::WorkerRefusal;
+use crate::rounds::{Rounds, Sort};
+use crate::serving::Plan;
 use crate::start_drainers::Drainer;
 use crate::start_feeders::Feeder;
-use crate::start_rounds::{Rounder, Rounds, count_refusals, make_rounds};
+use crate::start_rounds::Rounder;
 use named_log::LogName;
 use std::alloc::{AllocError, Global};
 
@@ -18,11 +19,13 @@ pub(crate) struct Rooms<'s, L: LogName> {
     pub feeders: Vec<Feeder<'s, L>>,
     pub drainers: Vec<Drainer<'s, L>>,
     pub rounders: Vec<Rounder>,
-    pub folds: Vec<Rounds<'s>>,
-    pub gossip: Vec<Rounds<'s>>,
+    pub rounds: Vec<Rounds<'s>>,
     pub feeds: Vec<Option<Feed<L>>>,
     pub holds: Vec<Option<DrainerState<L>>>,
-    pub refusals: Vec<Refusal>,
+    pub refusals: Vec<WorkerRefusal>,
+    ghost none: { (feeders.items ≡ []) × (drainers.items ≡ []) × (rounders.items ≡ []) × (feeds.items ≡ []) × (holds.items ≡ []) × (vec_len refusals ≡ 0) },
+    ghost back: { (vec_capacity feeds ≡ vec_capacity feeders) × (vec_capacity holds ≡ vec_capacity drainers) × (vec_len rounds ≤ vec_capacity rounders) },
+    ghost room: { vec_capacity feeders + vec_capacity drainers + 1 + sum_by (λ w. length w.rounds.now + 1) rounds.items ≤ vec_capacity refusals },
 }
 
 /// Lists for so many feeders and drainers, and for the folders and gossipers of a plan.
@@ -32,40 +35,67 @@ pub(crate) fn make_rooms<'s, L: LogName>(
     holds: usize,
     plan: &'s Plan,
 ) -> Result<Rooms<'s, L>, AllocError>
-    ensures none { IfOk result (λ r. (r.feeders.items ≡ []) × (r.drainers.items ≡ []) × (r.rounders.items ≡ []) × (r.feeds.items ≡ []) × (r.holds.items ≡ []) × (vec_len r.refusals ≡ 0)) }
-    ensures workers { IfOk result (λ r. (vec_capacity r.feeders ≡ feeds) × (vec_capacity r.drainers ≡ holds) × (vec_len r.folds + vec_len r.gossip ≤ vec_capacity r.rounders)) }
-    ensures back { IfOk result (λ r. (vec_capacity r.feeds ≡ feeds) × (vec_capacity r.holds ≡ holds)) }
-    ensures refusals { IfOk result (λ r. feeds + holds + 1 + sum_by (λ w. length w.rounds.now + 1) r.folds.items + sum_by (λ w. length w.rounds.now + 1) r.gossip.items ≤ vec_capacity r.refusals) }
+    ensures { IfOk result (λ r. (vec_capacity r.feeders ≡ feeds) × (vec_capacity r.drainers ≡ holds)) }
 {
-    let folds = make_rounds(alloc, &plan.folds)?;
-    let gossip = make_rounds(alloc, &plan.gossip)?;
-    let Some(refusals) = most_refusals(feeds, holds, &folds, &gossip) else {
+    let rounds = Vec::with_capacity(alloc, plan.folds.len())?;
+    let rounds = add_rounds(alloc, Sort::Fold, &plan.folds, rounds)?;
+    let rounds = add_rounds(alloc, Sort::Gossip, &plan.gossip, rounds)?;
+    let Some(refusals) = most_refusals(feeds, holds, &rounds) else {
         return Err(AllocError);
     };
-    let rounders = folds.len().saturating_add(gossip.len());
     Ok(Rooms {
         feeders: Vec::with_capacity(alloc, feeds)?,
         drainers: Vec::with_capacity(alloc, holds)?,
-        rounders: Vec::with_capacity(alloc, rounders)?,
-        folds,
-        gossip,
+        rounders: Vec::with_capacity(alloc, rounds.len())?,
+        rounds,
         feeds: Vec::with_capacity(alloc, feeds)?,
         holds: Vec::with_capacity(alloc, holds)?,
         refusals: Vec::with_capacity(alloc, refusals)?,
     })
 }
 
+// Appends the rounds of each list.
+fn add_rounds<'s>(
+    alloc: Global,
+    sort: Sort,
+    lists: &'s [Vec<(u16, u16)>],
+    mut workers: Vec<Rounds<'s>>,
+) -> Result<Vec<Rounds<'s>>, AllocError> {
+    for list in lists {
+        workers.push(rounds_of(alloc, sort, list.as_slice())?)?;
+    }
+    Ok(workers)
+}
+
+fn rounds_of<'s>(
+    alloc: Global,
+    sort: Sort,
+    rounds: &'s [(u16, u16)],
+) -> Result<Rounds<'s>, AllocError> {
+    let refusals = Vec::with_capacity(alloc, rounds.len())?;
+    Ok(Rounds {
+        sort,
+        rounds,
+        refusals,
+    })
+}
+
 // How many refusals there may be: one for each feeder and drainer, those of the folders and gossipers, and the first worker that
 // could not be started, which is listed before the others.
-fn most_refusals(
-    feeds: usize,
-    holds: usize,
-    folds: &[Rounds<'_>],
-    gossip: &[Rounds<'_>],
-) -> Option<usize>
-    ensures { IfSome result (λ n. n ≡ feeds + holds + 1 + sum_by (λ w. length w.rounds.now + 1) folds.now + sum_by (λ w. length w.rounds.now + 1) gossip.now) }
+fn most_refusals(feeds: usize, holds: usize, rounds: &[Rounds<'_>]) -> Option<usize>
+    ensures { IfSome result (λ n. n ≡ feeds + holds + 1 + sum_by (λ w. length w.rounds.now + 1) rounds.now) }
 {
     let workers = feeds.checked_add(holds)?.checked_add(1)?;
-    let with_folds = workers.checked_add(count_refusals(folds)?)?;
-    with_folds.checked_add(count_refusals(gossip)?)
+    workers.checked_add(count_refusals(rounds)?)
+}
+
+// One refusal for each worker, or one for each of its rounds.
+fn count_refusals(workers: &[Rounds<'_>]) -> Option<usize>
+    ensures { IfSome result (λ n. n ≡ sum_by (λ w. length w.rounds.now + 1) workers.now) }
+{
+    let mut count = 0usize;
+    for worker in workers {
+        count = count.checked_add(worker.rounds.len())?.checked_add(1)?;
+    }
+    Some(count)
 }

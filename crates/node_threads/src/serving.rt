@@ -1,17 +1,17 @@
-ghost use Rattle.std.specs.Prelude.{◌≡◌, ℕ, ◌+◌, ◌-◌, ◌<◌, ◌≤◌, ◌^◌, [], All, length, IfOk, IfErr, Some, slice_get, vec_capacity};
+ghost use Rattle.std.specs.Prelude.{◌≡◌, ℕ, ◌<◌, ◌^◌, [], All, length, IfOk, IfErr, Some, slice_get, vec_capacity};
 ghost use Rattle.node_threads.specs.Each.{Each};
 ghost use Rattle.node_threads.specs.Refusals.{AllStarted};
 ghost use Rattle.front_board.specs.Seat.{IsNode};
 ghost use Rattle.node_cell.specs.Node.{IsPassOf};
 ghost use Rattle.node_threads.specs.Work.{Offered, IsDone, Names, NamesItem, Answered, count_of};
 
-use crate::drain::Answer;
+use crate::context::context_of;
+use crate::drain::DeliverResult;
 use crate::feed::Feed;
 use crate::gate::Gate;
-use crate::inlet::{Halves, Inlet, Whole, assemble, rejoin, split};
-use crate::refusal::Refusal;
-use crate::run::{Parts, Plan, Ran, run_in_scope};
-use crate::start_drainers::parcels_of;
+use crate::inlet::{Halves, Inlet, Room, Whole, assemble, rejoin, split};
+use crate::refusal::WorkerRefusal;
+use crate::run::{Parts, run_in_scope};
 use crate::stop::StopSignal;
 use front_board::Board;
 use named_log::LogName;
@@ -21,17 +21,23 @@ use std::alloc::{AllocError, Global};
 use std::sync::{OnceLock, Wait};
 use std::thread::Threads;
 
-/// What `serve` gives back: the feeds and inlets in the order given, each with none where its worker could not be started; the
-/// answers of each inlet, in the order taken; and what was refused.
+/// What the workers do: how many parcels each drainer takes, and the rounds of each folder and each gossiper, by nodes from 1.
 #[derive(Drop)]
-pub struct Served<L: LogName> {
-    pub feeds: Vec<Option<Feed<L>>>,
-    pub inlets: Vec<Option<Inlet<L>>>,
-    pub answers: Vec<Vec<Answer<L>>>,
-    pub refusals: Vec<Refusal>,
+pub struct Plan {
+    pub parcels: Vec<u64>,
+    pub folds: Vec<Vec<(u16, u16)>>,
+    pub gossip: Vec<Vec<(u16, u16)>>,
 }
 
-/// What `serve` was handed.
+/// What `serve` borrows: the nodes, the board of their fronts, and the gate of the workers' jobs.
+#[derive_where(Clone, Copy)]
+pub struct Shared<'a, L: LogName, G> {
+    pub nodes: &'a [Node<L>],
+    pub board: &'a Board<L>,
+    pub gate: &'a G,
+}
+
+/// What `serve` owns until it returns.
 #[derive(Drop)]
 pub struct ServeInput<L: LogName> {
     pub feeds: Vec<Feed<L>>,
@@ -39,13 +45,24 @@ pub struct ServeInput<L: LogName> {
     pub plan: Plan,
 }
 
-// Lists with room for everything that the workers bring back.
+/// What `serve` gives back: the feeds and inlets in the order given, each with none where its worker could not be started; the
+/// answers of each inlet, in the order taken; and what was refused.
+#[derive(Drop)]
+pub struct Served<L: LogName> {
+    pub feeds: Vec<Option<Feed<L>>>,
+    pub inlets: Vec<Option<Inlet<L>>>,
+    pub answers: Vec<Vec<DeliverResult<L>>>,
+    pub refusals: Vec<WorkerRefusal>,
+}
+
+// Lists with room for the parts of the inlets, and for the inlets that come back.
 #[derive(Drop)]
 struct Space<L: LogName> {
-    answers: Vec<Vec<Answer<L>>>,
+    rooms: Vec<Room<L>>,
     halves: Halves<L>,
     whole: Whole<L>,
     back: Vec<Inlet<L>>,
+    ghost none: { (halves.intakes.items ≡ []) × (halves.holds.items ≡ []) × (whole.inlets.items ≡ []) × (whole.answers.items ≡ []) × (back.items ≡ []) },
 }
 
 fn make_space<L: LogName>(
@@ -53,12 +70,11 @@ fn make_space<L: LogName>(
     parcels: &[u64],
     count: usize,
 ) -> Result<Space<L>, AllocError>
-    ensures none { IfOk result (λ s. (s.halves.intakes.items ≡ []) × (s.halves.holds.items ≡ []) × (s.whole.inlets.items ≡ []) × (s.whole.answers.items ≡ []) × (s.back.items ≡ [])) }
     ensures room { IfOk result (λ s. (vec_capacity s.halves.intakes ≡ count) × (vec_capacity s.halves.holds ≡ count) × (vec_capacity s.whole.inlets ≡ count) × (vec_capacity s.whole.answers ≡ count) × (vec_capacity s.back ≡ count)) }
-    ensures answers { IfOk result (λ s. (length s.answers.items ≡ count) × ((k : ℕ) (a : _) → slice_get s.answers.items k ≡ Some a → (a.items ≡ []) × (vec_capacity a ≡ count_of parcels.now k))) }
+    ensures rooms { IfOk result (λ s. (length s.rooms.items ≡ count) × ((k : ℕ) (r : _) → slice_get s.rooms.items k ≡ Some r → r.count ≡ count_of parcels.now k)) }
 {
     Ok(Space {
-        answers: make_answers(alloc, parcels, count)?,
+        rooms: make_answer_rooms(alloc, parcels, count)?,
         halves: Halves {
             intakes: Vec::with_capacity(alloc, count)?,
             holds: Vec::with_capacity(alloc, count)?,
@@ -71,20 +87,89 @@ fn make_space<L: LogName>(
     })
 }
 
-// For each inlet an empty list with room for the answers to its parcels.
-fn make_answers<L: LogName>(
+// For each inlet room for the answers to its parcels.
+fn make_answer_rooms<L: LogName>(
     alloc: Global,
     parcels: &[u64],
     count: usize,
-) -> Result<Vec<Vec<Answer<L>>>, AllocError>
-    ensures { IfOk result (λ rooms. (length rooms.items ≡ count) × ((k : ℕ) (a : _) → slice_get rooms.items k ≡ Some a → (a.items ≡ []) × (vec_capacity a ≡ count_of parcels.now k))) }
+) -> Result<Vec<Room<L>>, AllocError>
+    ensures { IfOk result (λ rooms. (length rooms.items ≡ count) × ((k : ℕ) (r : _) → slice_get rooms.items k ≡ Some r → r.count ≡ count_of parcels.now k)) }
 {
     let mut rooms = Vec::with_capacity(alloc, count)?;
     for index in 0..count {
-        let room = Vec::with_capacity(alloc, parcels_of(parcels, index) as usize)?;
-        rooms.push(room)?;
+        rooms.push(room_of(alloc, parcels_of(parcels, index))?)?;
     }
     Ok(rooms)
+}
+
+fn room_of<L: LogName>(alloc: Global, count: u64) -> Result<Room<L>, AllocError>
+    ensures { IfOk result (λ r. r.count ≡ count) }
+{
+    let answers = Vec::with_capacity(alloc, count as usize)?;
+    Ok(Room { count, answers })
+}
+
+// The number of parcels that a plan gives the drainer of an inlet, from 0.
+fn parcels_of(parcels: &[u64], index: usize) -> u64
+    ensures { result ≡ count_of parcels.now index }
+{
+    match parcels.get(index) {
+        Some(count) => *count,
+        None => 0,
+    }
+}
+
+/// Runs a feeder for each feed, a drainer for each inlet, and a folder and a gossiper for each list of the plan. The only
+/// error is lack of memory, before the first start.
+pub fn serve<'s, L: LogName + Send + Sync, G: Gate + Sync, R: Threads + Wait + Sync>(
+    rt: &'s R,
+    alloc: Global,
+    shared: &Shared<'s, L, G>,
+    input: ServeInput<L>,
+) -> Result<Served<L>, Refused<ServeInput<L>, AllocError>>
+    requires feeds { (k : ℕ) (f : _) (i : _) → slice_get input.feeds.items k ≡ Some f → NamesItem f.inlet input.inlets.items i → f.sender.intake ≡ i.intake.id }
+    requires inlets { (k : ℕ) (i : _) → slice_get input.inlets.items k ≡ Some i → (i.taker.intake ≡ i.intake.id) × (i.seat.board ≡ shared.now.board.now) }
+    requires passes { (k : ℕ) (i : _) (n : _) → slice_get input.inlets.items k ≡ Some i → NamesItem i.node shared.now.nodes.now n → IsPassOf n i.pass }
+    requires nodes { All (λ n. IsNode shared.now.board.now.words n.number) shared.now.nodes.now }
+    requires few { (length input.feeds.items < 2 ^ 61) × (length input.inlets.items < 2 ^ 61) }
+    ensures len { IfOk result (λ r. (length r.feeds.items ≡ length input.feeds.items) × (length r.inlets.items ≡ length input.inlets.items) × (length r.answers.items ≡ length input.inlets.items)) }
+    ensures feeds { IfOk result (λ r. AllStarted r.refusals.items → Each (λ k f s. (g : _) × (s ≡ Some g) × (g.inlet ≡ f.inlet) × Offered f.sender f.facts.items g.sender g.facts.items × (Names f.inlet (length input.inlets.items) → IsDone g.sender g.facts.items)) input.feeds.items r.feeds.items) }
+    ensures inlets { IfOk result (λ r. AllStarted r.refusals.items → Each (λ k i s. (j : _) × (s ≡ Some j) × (j.intake ≡ i.intake) × (j.seat.board ≡ i.seat.board) × (j.node ≡ i.node) × ((a : _) → slice_get r.answers.items k ≡ Some a → Answered i.taker j.taker i.pass j.pass a.items × (Names i.node (length shared.now.nodes.now) → length a.items ≡ count_of input.plan.parcels.items k))) input.inlets.items r.inlets.items) }
+    ensures err { IfErr result (λ r. (r.value.feeds ≡ input.feeds) × (r.value.inlets.items ≡ input.inlets.items) × (r.value.plan ≡ input.plan)) }
+{
+    let ServeInput {
+        feeds,
+        inlets,
+        plan,
+    } = input;
+    let Ok(space) = make_space(alloc, plan.parcels.as_slice(), inlets.len()) else {
+        return Err(no_memory(feeds, inlets, plan));
+    };
+    let Space {
+        rooms,
+        halves,
+        whole,
+        back,
+    } = space;
+    let Halves { intakes, holds } = split(inlets, rooms, halves);
+    let stop: StopSignal = OnceLock::new();
+    let lent = intakes.as_slice();
+    let context = context_of(rt, alloc, *shared, lent, &stop);
+    let ran = match run_in_scope(&context, &plan, Parts { feeds, holds }) {
+        Ok(ran) => ran,
+        Err(refused) => {
+            let Parts { feeds, holds } = refused.value;
+            let inlets = rejoin(intakes, holds, back);
+            return Err(no_memory(feeds, inlets, plan));
+        }
+    };
+    let Whole { inlets, answers } = assemble(alloc, intakes, ran.holds, whole);
+    Ok(Served {
+        feeds: ran.feeds,
+        inlets,
+        answers,
+        refusals: ran.refusals,
+    })
 }
 
 // All that was handed in, before the first start.
@@ -93,9 +178,7 @@ fn no_memory<L: LogName>(
     inlets: Vec<Inlet<L>>,
     plan: Plan,
 ) -> Refused<ServeInput<L>, AllocError>
-    ensures feeds { result.value.feeds ≡ feeds }
-    ensures inlets { result.value.inlets ≡ inlets }
-    ensures plan { result.value.plan ≡ plan }
+    ensures { (result.value.feeds ≡ feeds) × (result.value.inlets ≡ inlets) × (result.value.plan ≡ plan) }
 {
     Refused {
         value: ServeInput {
@@ -105,62 +188,4 @@ fn no_memory<L: LogName>(
         },
         fault: AllocError,
     }
-}
-
-/// Runs a feeder for each feed, a drainer for each inlet, and a folder and a gossiper for each list of the plan. The only
-/// error is lack of memory, before the first start.
-pub fn serve<L: LogName + Send + Sync, G: Gate + Sync, R: Threads + Wait + Sync>(
-    rt: &R,
-    alloc: Global,
-    nodes: &[Node<L>],
-    feeds: Vec<Feed<L>>,
-    inlets: Vec<Inlet<L>>,
-    board: &Board<L>,
-    plan: Plan,
-    gate: &G,
-) -> Result<Served<L>, Refused<ServeInput<L>, AllocError>>
-    requires feeds { (k : ℕ) (f : _) (i : _) → slice_get feeds.items k ≡ Some f → NamesItem f.inlet inlets.items i → f.sender.intake ≡ i.intake.id }
-    requires inlets { (k : ℕ) (i : _) → slice_get inlets.items k ≡ Some i → (i.taker.intake ≡ i.intake.id) × (i.seat.board ≡ board.now) }
-    requires passes { (k : ℕ) (i : _) (n : _) → slice_get inlets.items k ≡ Some i → NamesItem i.node nodes.now n → IsPassOf n i.pass }
-    requires nodes { All (λ n. IsNode board.now.words n.number) nodes.now }
-    requires few { (length feeds.items < 2 ^ 61) × (length inlets.items < 2 ^ 61) }
-    ensures len { IfOk result (λ r. (length r.feeds.items ≡ length feeds.items) × (length r.inlets.items ≡ length inlets.items) × (length r.answers.items ≡ length inlets.items)) }
-    ensures feeds { IfOk result (λ r. AllStarted r.refusals.items → Each (λ k f s. (g : _) × (s ≡ Some g) × (g.inlet ≡ f.inlet) × Offered f.sender f.facts.items g.sender g.facts.items × (Names f.inlet (length inlets.items) → IsDone g.sender g.facts.items)) feeds.items r.feeds.items) }
-    ensures inlets { IfOk result (λ r. AllStarted r.refusals.items → Each (λ k i s. (j : _) × (s ≡ Some j) × (j.intake ≡ i.intake) × (j.seat.board ≡ i.seat.board) × (j.node ≡ i.node) × ((a : _) → slice_get r.answers.items k ≡ Some a → Answered i.taker j.taker i.pass j.pass a.items × (Names i.node (length nodes.now) → length a.items ≡ count_of plan.parcels.items k))) inlets.items r.inlets.items) }
-    ensures err { IfErr result (λ r. (r.value.feeds ≡ feeds) × (r.value.inlets.items ≡ inlets.items) × (r.value.plan ≡ plan)) }
-{
-    let Ok(space) = make_space(alloc, plan.parcels.as_slice(), inlets.len()) else {
-        return Err(no_memory(feeds, inlets, plan));
-    };
-    let Space {
-        answers: rooms,
-        halves,
-        whole,
-        back,
-    } = space;
-    let Halves { intakes, holds } = split(inlets, rooms, halves);
-    let stop: StopSignal = OnceLock::new();
-    let shared = intakes.as_slice();
-    let ran = match run_in_scope(
-        rt, alloc, nodes, board, gate, &stop, shared, &plan, feeds, holds,
-    ) {
-        Ok(ran) => ran,
-        Err(refused) => {
-            let Parts { feeds, holds } = refused.value;
-            let inlets = rejoin(intakes, holds, back);
-            return Err(no_memory(feeds, inlets, plan));
-        }
-    };
-    let Ran {
-        feeds,
-        holds,
-        refusals,
-    } = ran;
-    let Whole { inlets, answers } = assemble(alloc, intakes, holds, whole);
-    Ok(Served {
-        feeds,
-        inlets,
-        answers,
-        refusals,
-    })
 }

@@ -3,10 +3,10 @@ ghost use Rattle.std.specs.Prelude.{◌≡◌, ◌≢◌, IfSome};
 use std::sync::{OnceLock, OnceToken};
 
 /// Whether a worker could not be started: set once, to its number, or to 0 where all were started.
-pub type StopSignal = OnceLock<u64>;
+pub(crate) type StopSignal = OnceLock<u64>;
 
 /// Evidence that a worker could not be started.
-pub type StopToken<'s> = OnceToken<'s, u64>;
+pub(crate) type StopToken<'s> = OnceToken<'s, u64>;
 
 /// Whether the other workers have to stop.
 pub(crate) fn told<'s>(stop: &'s StopSignal) -> Option<StopToken<'s>>

@@ -1,7 +1,7 @@
 //! How to embed `serve`: open a node of a log, feed it and fold its pages in threads, close it, and settle (verify) its receipts.
 #![tactic(auto)]
 
-ghost use Rattle.std.specs.Prelude.{◌≡◌, ◌∷◌, [], length, IfOk};
+ghost use Rattle.std.specs.Prelude.{◌≡◌, ◌∷◌, [], length};
 ghost use Rattle.front_board.specs.Seat.{IsNode};
 ghost use Rattle.node_cell.specs.Node.{IsPassOf};
 
@@ -9,7 +9,7 @@ use front_board::Board;
 use intake_queue::Intake;
 use named_log::{Drill, LogFact};
 use node_cell::{Closed, Node, Receipt, settle};
-use node_threads::{Answer, Feed, Gate, Inlet, Job, Plan, serve};
+use node_threads::{DeliverResult, Feed, Gate, Inlet, Job, Plan, ServeInput, Shared, serve};
 use std::alloc::{AllocError, Global};
 use std::io;
 use std::sync::Wait;
@@ -105,7 +105,7 @@ fn work<R: Threads + Wait + Sync>(
     rt: &R,
     alloc: Global,
     site: Site,
-) -> Result<(Closed<Log>, Vec<Answer<Log>>), AllocError> {
+) -> Result<(Closed<Log>, Vec<DeliverResult<Log>>), AllocError> {
     let Site {
         board,
         node,
@@ -117,8 +117,17 @@ fn work<R: Threads + Wait + Sync>(
     let feeds = Vec::from_array(alloc, [feed])?;
     let inlets = Vec::from_array(alloc, [inlet])?;
     let nodes = Vec::from_array(alloc, [node])?;
-    let shared = nodes.as_slice();
-    let Ok(served) = serve(rt, alloc, shared, feeds, inlets, &board, plan, &Through) else {
+    let shared = Shared {
+        nodes: nodes.as_slice(),
+        board: &board,
+        gate: &Through,
+    };
+    let input = ServeInput {
+        feeds,
+        inlets,
+        plan,
+    };
+    let Ok(served) = serve(rt, alloc, &shared, input) else {
         return Err(AllocError);
     };
     if !served.refusals.is_empty() {

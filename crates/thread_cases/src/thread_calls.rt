@@ -10,7 +10,7 @@ mod node;
 mod turns;
 
 use crate::thread_calls::dealing::deal;
-use crate::thread_calls::turns::{Task, take_turns};
+use crate::thread_calls::turns::{TurnTask, take_turns};
 use case_io::{Row, size};
 use named_log::{Drill, LogFact};
 use node_lock::MAX_PASSES;
@@ -71,7 +71,7 @@ fn deliver<R: Threads + Wait + Sync>(rt: &R, row: &Row) -> io::Result<()> {
 
 // Prints how many threads ended.
 fn turn<R: Threads + Wait + Sync>(rt: &R, row: &Row) -> io::Result<()> {
-    let task = Task {
+    let task = TurnTask {
         threads: size(row.number_or(2, 1)),
         turns: row.number_or(3, LOG_LEN as u64),
         rounds: row.number(4),

@@ -9,7 +9,7 @@ mod jobs;
 mod missing;
 mod rounds;
 
-use crate::worker_calls::floors::{print_ends, print_plan};
+use crate::worker_calls::floors::{planned, print_ends, print_plan};
 use crate::worker_calls::folds::print_folds;
 use crate::worker_calls::gates::{Order, Turnstile};
 use crate::worker_calls::jobs::{print_jobs, print_rounds};
@@ -47,7 +47,10 @@ fn of_floors<R: Threads + Wait + Sync>(rt: &R, row: &Row) -> io::Result<()> {
     }
     match row.name {
         "plan" => print_plan(row, nodes, workers),
-        "trails" => print_ends(rt, row, nodes, workers, row.number(2), &Open),
+        "trails" => {
+            let (floor, plan) = planned(row.alloc, nodes, workers, row.number(2))?;
+            print_ends(rt, row, floor, plan, &Open)
+        }
         "at_once" => in_order(rt, row, nodes, workers, Order::AtOnce),
         "late_folds" => in_order(rt, row, nodes, workers, Order::LateFolds),
         "early_mail" => in_order(rt, row, nodes, workers, Order::EarlyMail),
@@ -68,6 +71,7 @@ fn in_order<R: Threads + Wait + Sync>(
 {
     let pairs = nodes as u64 * (nodes as u64 - 1);
     let gate = Turnstile::new(order, FACTS, pairs);
-    print_ends(rt, row, nodes, workers, FACTS, &gate)?;
+    let (floor, plan) = planned(row.alloc, nodes, workers, FACTS)?;
+    print_ends(rt, row, floor, plan, &gate)?;
     row.one("Unmet", &gate.unmet.read())
 }

@@ -1,7 +1,6 @@
 use Rattle.std.proofs.lemmas.Grind.{common_steps}
 use Rattle.std.proofs.Common.{arith, ◌≡◌, ◌∷◌, [], ◌++◌, length, ap, sym, subst, ◌∙◌, Some}
 use Rattle.node_lock.specs.Passes.{PassData, AreIdle}
-use Rattle.node_threads.specs.Refusals.{AllStarted}
 use Rattle.serve_example.proofs.Parts.{the_only, at_first, none_refused}
 use Rattle.serve_example.proofs.work.Goals as goal
 

@@ -85,7 +85,7 @@ impl Shared {
 
 /// What the threads do: each takes `turns` turns of `rounds`, or, with one working holder, only the first does, and the others wait.
 #[derive(Drop)]
-pub struct Task {
+pub struct TurnTask {
     pub threads: usize,
     pub turns: u64,
     pub rounds: u64,
@@ -96,7 +96,7 @@ fn run<R: Threads + Wait + Sync>(
     rt: &R,
     alloc: Global,
     shared: &Shared,
-    task: &Task,
+    task: &TurnTask,
 ) -> Result<usize, AllocError> {
     let done = AtomicU64::new(0);
     let ended = thread::map_indices(
@@ -132,7 +132,7 @@ pub fn take_turns<R: Threads + Wait + Sync>(
     rt: &R,
     alloc: Global,
     name: &str,
-    task: &Task,
+    task: &TurnTask,
 ) -> Result<usize, AllocError> {
     run(rt, alloc, &opened(alloc, name)?, task)
 }

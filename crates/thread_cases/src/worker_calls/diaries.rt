@@ -28,21 +28,21 @@ const ROOM: usize = 256;
 
 /// A gate that lets everything through, and records each call. It may watch a node.
 #[derive(Drop)]
-pub struct Diary<'r, R: Wait> {
+pub struct RecordingGate<'r, R: Wait> {
     rt: &'r R,
     node: Option<&'r Node<Log>>,
     calls: Mutex<Vec<Call>>,
 }
 
-impl<'r, R: Wait> Diary<'r, R> {
+impl<'r, R: Wait> RecordingGate<'r, R> {
     /// A diary with no calls, which watches `node` where there is one.
     pub fn open(
         rt: &'r R,
         alloc: Global,
         node: Option<&'r Node<Log>>,
-    ) -> Result<Diary<'r, R>, AllocError> {
+    ) -> Result<RecordingGate<'r, R>, AllocError> {
         let calls = Vec::with_capacity(alloc, ROOM)?;
-        Ok(Diary {
+        Ok(RecordingGate {
             rt,
             node,
             calls: Mutex::new(calls),
@@ -64,7 +64,7 @@ impl<'r, R: Wait> Diary<'r, R> {
 
     /// The calls, in order.
     pub fn into_calls(self) -> Vec<Call> {
-        let Diary {
+        let RecordingGate {
             rt: _,
             node: _,
             calls,
@@ -73,7 +73,7 @@ impl<'r, R: Wait> Diary<'r, R> {
     }
 }
 
-impl<'r, R: Wait> Gate for Diary<'r, R> {
+impl<'r, R: Wait> Gate for RecordingGate<'r, R> {
     fn before(&self, job: Job) {
         self.note(Moment::Before, job);
     }

@@ -7,14 +7,14 @@ use fleet_drill::{
     DrillResult, DrillSetup, MAX_NODES, close_all, join_all, make_plan, open_floor, tell, work,
 };
 use node_cell::Closed;
-use node_threads::{Answer, Gate, Plan};
+use node_threads::{DeliverResult, Gate, Plan};
 use std::alloc::{AllocError, Global};
 use std::io;
 use std::sync::Wait;
 use std::thread::Threads;
 
-// The setup of a drill of so many nodes, and the plan of so many workers.
-fn planned(
+/// The setup of a drill of so many nodes with trails of at most so many entries, and the plan of so many workers.
+pub fn planned(
     alloc: Global,
     nodes: usize,
     workers: usize,
@@ -39,20 +39,14 @@ pub fn print_plan(row: &Row, nodes: usize, workers: usize) -> io::Result<()>
     row.one("Gossip", &plan.gossip)
 }
 
-/// Prints the results of a drill under a gate, with trails of at most so many entries: how much was refused, and the drill's text
-/// for all nodes joined.
+/// Prints the results of a drill under a gate: how much was refused, and the drill's text for all nodes joined.
 pub fn print_ends<G: Gate + Sync, R: Threads + Wait + Sync>(
     rt: &R,
     row: &Row,
-    nodes: usize,
-    workers: usize,
-    trail: u64,
+    floor: DrillSetup<Log>,
+    plan: Plan,
     gate: &G,
-) -> io::Result<()>
-    requires nodes { (0 < nodes) × (nodes ≤ MAX_NODES) }
-    requires workers { 0 < workers }
-{
-    let (floor, plan) = planned(row.alloc, nodes, workers, trail)?;
+) -> io::Result<()> {
     let worked = work(rt, row.alloc, floor, plan, gate)?;
     print_refused(row, &worked)?;
     let closed = close_all(rt, row.alloc, worked)?;
@@ -68,7 +62,7 @@ fn print_refused(row: &Row, worked: &DrillResult<Log>) -> io::Result<()> {
     row.parts("Refused", &(worked.refusals.len(), parcels))
 }
 
-fn refused_of(answers: &[Answer<Log>]) -> usize {
+fn refused_of(answers: &[DeliverResult<Log>]) -> usize {
     let mut refused = 0usize;
     for answer in answers {
         if answer.is_err() {

@@ -5,7 +5,7 @@ use crate::Log;
 use crate::worker_calls::jobs::small_floor;
 use case_io::Row;
 use fleet_drill::{DrillSetup, Open};
-use node_threads::{Answer, Feed, Plan, Served, serve};
+use node_threads::{DeliverResult, Feed, Plan, ServeInput, Served, Shared, serve};
 use std::alloc::{AllocError, Global};
 use std::io;
 use std::sync::Wait;
@@ -39,8 +39,18 @@ fn serve_fewer_inlets<R: Threads + Wait + Sync>(
         mut inlets,
     } = setup;
     drop_last(&mut inlets);
-    let shared = nodes.as_slice();
-    match serve(rt, alloc, shared, feeds, inlets, &board, plan, &Open) {
+    let lent = nodes.as_slice();
+    let shared = Shared {
+        nodes: lent,
+        board: &board,
+        gate: &Open,
+    };
+    let input = ServeInput {
+        feeds,
+        inlets,
+        plan,
+    };
+    match serve(rt, alloc, &shared, input) {
         Ok(served) => Ok(served),
         Err(_) => Err(AllocError),
     }
@@ -59,8 +69,18 @@ fn serve_fewer_nodes<R: Threads + Wait + Sync>(
         inlets,
     } = setup;
     drop_last(&mut nodes);
-    let shared = nodes.as_slice();
-    match serve(rt, alloc, shared, feeds, inlets, &board, plan, &Open) {
+    let lent = nodes.as_slice();
+    let shared = Shared {
+        nodes: lent,
+        board: &board,
+        gate: &Open,
+    };
+    let input = ServeInput {
+        feeds,
+        inlets,
+        plan,
+    };
+    match serve(rt, alloc, &shared, input) {
         Ok(served) => Ok(served),
         Err(_) => Err(AllocError),
     }
@@ -103,7 +123,7 @@ fn facts_left(feed: &Option<Feed<Log>>) -> Option<usize> {
     }
 }
 
-fn taken_of(answers: &[Answer<Log>]) -> usize {
+fn taken_of(answers: &[DeliverResult<Log>]) -> usize {
     let mut taken = 0usize;
     for answer in answers {
         if answer.is_ok() {

@@ -4,7 +4,7 @@ use crate::Log;
 use case_io::Row;
 use fleet_drill::{DrillResult, Open, close_all, join_all, open_floor, tell, work};
 use node_cell::Closed;
-use node_threads::{Gate, Plan, Refusal, serve};
+use node_threads::{Gate, Plan, ServeInput, Shared, WorkerRefusal, serve};
 use segment_core::Segment;
 use std::alloc::{AllocError, Global};
 use std::io;
@@ -14,10 +14,11 @@ use std::thread::Threads;
 // The number of the early facts: the first epoch's records and the advance.
 const EARLY: usize = 65;
 
-type Round = (u16, u16);
+/// A node and a page to fold, or the node that asks and the one that answers.
+pub type NodePair = (u16, u16);
 
 // One worker, with these rounds.
-fn one_worker(alloc: Global, rounds: &[Round]) -> Result<Vec<Vec<Round>>, AllocError> {
+fn one_worker(alloc: Global, rounds: &[NodePair]) -> Result<Vec<Vec<NodePair>>, AllocError> {
     let mut workers = Vec::new(alloc);
     workers.push(rounds.to_vec(alloc)?)?;
     Ok(workers)
@@ -27,8 +28,8 @@ fn one_worker(alloc: Global, rounds: &[Round]) -> Result<Vec<Vec<Round>>, AllocE
 fn plan_of(
     alloc: Global,
     parcels: &[u64],
-    folds: &[Round],
-    gossip: &[Round],
+    folds: &[NodePair],
+    gossip: &[NodePair],
 ) -> Result<Plan, AllocError> {
     let folds = one_worker(alloc, folds)?;
     let gossip = one_worker(alloc, gossip)?;
@@ -40,19 +41,33 @@ fn plan_of(
     })
 }
 
+/// The rounds of one folder and one gossiper.
+#[derive(Clone, Copy)]
+pub struct Rounds<'r> {
+    pub folds: &'r [NodePair],
+    pub gossip: &'r [NodePair],
+}
+
 /// One folder and one gossiper run these rounds under a gate, at nodes that have worked. Returns the refusals.
 pub fn work_again<G: Gate + Sync, R: Threads + Wait + Sync>(
     rt: &R,
     alloc: Global,
     worked: &DrillResult<Log>,
-    folds: &[Round],
-    gossip: &[Round],
+    rounds: &Rounds<'_>,
     gate: &G,
-) -> Result<Vec<Refusal>, AllocError> {
-    let plan = plan_of(alloc, &[0], folds, gossip)?;
-    let nodes = worked.nodes.as_slice();
-    let (feeds, inlets) = (Vec::new(alloc), Vec::new(alloc));
-    match serve(rt, alloc, nodes, feeds, inlets, &worked.board, plan, gate) {
+) -> Result<Vec<WorkerRefusal>, AllocError> {
+    let plan = plan_of(alloc, &[0], rounds.folds, rounds.gossip)?;
+    let shared = Shared {
+        nodes: worked.nodes.as_slice(),
+        board: &worked.board,
+        gate,
+    };
+    let input = ServeInput {
+        feeds: Vec::new(alloc),
+        inlets: Vec::new(alloc),
+        plan,
+    };
+    match serve(rt, alloc, &shared, input) {
         Ok(served) => Ok(served.refusals),
         Err(_) => Err(AllocError),
     }
@@ -98,8 +113,16 @@ fn ask_and_fold<R: Threads + Wait + Sync>(
     alloc: Global,
     worked: &DrillResult<Log>,
 ) -> Result<usize, AllocError> {
-    let asked = work_again(rt, alloc, worked, &[], &[(2, 1)], &Open)?;
-    let folded = work_again(rt, alloc, worked, &[(1, 0)], &[], &Open)?;
+    let ask = Rounds {
+        folds: &[],
+        gossip: &[(2, 1)],
+    };
+    let fold = Rounds {
+        folds: &[(1, 0)],
+        gossip: &[],
+    };
+    let asked = work_again(rt, alloc, worked, &ask, &Open)?;
+    let folded = work_again(rt, alloc, worked, &fold, &Open)?;
     Ok(asked.len() + folded.len())
 }
 
@@ -116,9 +139,11 @@ fn name_strangers<R: Threads + Wait + Sync>(
     row: &Row,
     worked: &DrillResult<Log>,
 ) -> io::Result<usize> {
-    let folds = [(0, 0), (3, 0), (1, 0)];
-    let gossip = [(1, 3), (0, 1), (2, 1)];
-    let refusals = work_again(rt, row.alloc, worked, &folds, &gossip, &Open)?;
+    let rounds = Rounds {
+        folds: &[(0, 0), (3, 0), (1, 0)],
+        gossip: &[(1, 3), (0, 1), (2, 1)],
+    };
+    let refusals = work_again(rt, row.alloc, worked, &rounds, &Open)?;
     row.one("Strangers", &refusals)?;
     Ok(refusals.len())
 }

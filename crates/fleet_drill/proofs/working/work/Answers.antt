@@ -20,7 +20,7 @@ pub serve-requires-clause-passes : goal.serve-requires-clause-passes
 serve-requires-clause-passes g c κs within = λ k i n ei named.
     let x = also_at c.args.floor.nodes.items c.args.floor.inlets.items k i c.args.floor.len.1 ei in
     let t = c.args.floor.inlets_fit.at k x.0 i x.1 ei in
-    let here : slice_get c.args.floor.nodes.items (i.node - 1) ≡ Some n = subst (λ ns. slice_get ns (i.node - 1) ≡ Some n) c.as_slice-shared.ensures.value named.1 in
+    let here : slice_get c.args.floor.nodes.items (i.node - 1) ≡ Some n = subst (λ ns. slice_get ns (i.node - 1) ≡ Some n) c.as_slice-lent.ensures.value named.1 in
     let same = named_same c.args.floor.nodes.items i.node k x.0 n t.0 here x.1 in
     (t.3.0 ∙ ap (λ m. m.lock) same, t.3.1)
 

@@ -25,6 +25,6 @@ serve-requires-clause-passes g c κs within = λ k i n ei named.
     let old = was_at c.args.setup.inlets.items c.drop_last.new.items.items fewer.0 k i fewer.1 ei in
     let x = also_at c.args.setup.nodes.items c.args.setup.inlets.items k i c.args.setup.len.1 old in
     let t = c.args.setup.inlets_fit.at k x.0 i x.1 old in
-    let here : slice_get c.args.setup.nodes.items (i.node - 1) ≡ Some n = subst (λ ns. slice_get ns (i.node - 1) ≡ Some n) c.as_slice-shared.ensures.value named.1 in
+    let here : slice_get c.args.setup.nodes.items (i.node - 1) ≡ Some n = subst (λ ns. slice_get ns (i.node - 1) ≡ Some n) c.as_slice-lent.ensures.value named.1 in
     let same = named_same c.args.setup.nodes.items i.node k x.0 n t.0 here x.1 in
     (t.3.0 ∙ ap (λ m. m.lock) same, t.3.1)

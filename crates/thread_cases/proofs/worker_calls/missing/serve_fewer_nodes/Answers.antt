@@ -21,7 +21,7 @@ serve-requires-clause-passes g c κs within = λ k i n ei named.
     let fewer = c.drop_last.ensures in
     let x = also_at c.args.setup.nodes.items c.args.setup.inlets.items k i c.args.setup.len.1 ei in
     let t = c.args.setup.inlets_fit.at k x.0 i x.1 ei in
-    let left : slice_get c.drop_last.new.items.items (i.node - 1) ≡ Some n = subst (λ ns. slice_get ns (i.node - 1) ≡ Some n) c.as_slice-shared.ensures.value named.1 in
+    let left : slice_get c.drop_last.new.items.items (i.node - 1) ≡ Some n = subst (λ ns. slice_get ns (i.node - 1) ≡ Some n) c.as_slice-lent.ensures.value named.1 in
     let here = was_at c.args.setup.nodes.items c.drop_last.new.items.items fewer.0 (i.node - 1) n fewer.1 left in
     let same = named_same c.args.setup.nodes.items i.node k x.0 n t.0 here x.1 in
     (t.3.0 ∙ ap (λ m. m.lock) same, t.3.1)
@@ -30,4 +30,4 @@ pub serve-requires-clause-nodes : goal.serve-requires-clause-nodes
 serve-requires-clause-nodes g c κs within =
     let fewer = c.drop_last.ensures in
     let left = all_before c.args.setup.nodes.items c.drop_last.new.items.items fewer.0 (λ n. IsNode c.args.setup.board.words n.number) fewer.1 c.args.setup.numbers in
-    subst (All (λ n. IsNode c.args.setup.board.words n.number)) (sym c.as_slice-shared.ensures.value) left
+    subst (All (λ n. IsNode c.args.setup.board.words n.number)) (sym c.as_slice-lent.ensures.value) left

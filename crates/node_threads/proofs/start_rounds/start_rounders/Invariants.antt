@@ -1,7 +1,7 @@
 use Rattle.std.proofs.Common.{◌≡◌, ◌+◌, ◌≤◌, length}
 use Rattle.std.specs.Prelude.{sum_by, vec_len, vec_capacity}
 use Rattle.node_threads.specs.Refusals.{most_listed}
-use Rattle.node_threads.proofs.start_rounds.start_gossipers.Given as goal
+use Rattle.node_threads.proofs.start_rounds.start_rounders.Given as goal
 
 abbrev pub invariant-loop-work : goal.invariant-loop-work
 invariant-loop-work g l = record {

@@ -1,6 +1,6 @@
 use Rattle.std.proofs.Common.{◌≡◌, ◌+◌, ◌≤◌}
 use Rattle.std.specs.Prelude.{vec_len, vec_capacity}
-use Rattle.node_threads.proofs.rounds.run_gossiper.Given as goal
+use Rattle.node_threads.proofs.rounds.run_gossip.Given as goal
 
 abbrev pub invariant-loop-asker : goal.invariant-loop-asker
 invariant-loop-asker g l = record {

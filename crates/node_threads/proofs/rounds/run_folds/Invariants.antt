@@ -1,12 +1,12 @@
 use Rattle.std.proofs.Common.{◌≡◌, ◌+◌, ◌≤◌, length}
 use Rattle.std.specs.Prelude.{vec_len, vec_capacity}
-use Rattle.node_threads.proofs.rounds.run_folder.Given as goal
+use Rattle.node_threads.proofs.rounds.run_folds.Given as goal
 
-abbrev pub invariant-loop-left : goal.invariant-loop-left
-invariant-loop-left g l = record {
+abbrev pub invariant-loop-context : goal.invariant-loop-context
+invariant-loop-context g l = record {
   count : vec_len l.refusals + length l.left ≤ vec_len l.fn.refusals + length l.rounds;
   room : vec_capacity l.refusals ≡ vec_capacity l.fn.refusals;
 }
 
-abbrev pub decreases-loop-left : goal.decreases-loop-left
-decreases-loop-left g l = length l.left
+abbrev pub decreases-loop-context : goal.decreases-loop-context
+decreases-loop-context g l = length l.left
