@@ -8,18 +8,10 @@ ghost use Rattle.node_c.specs.Ending.{IsStatus};
 
 use descriptors::Descriptor;
 use framing::devices::Watched;
-use node_stream::{Node, serve_frames, status_of};
+use framing::statuses::MEMORY;
+use node_stream::{LIMIT, Node, PAGES, serve_frames, status_of};
 use redo_core::Roster;
 use std::alloc::Global;
-
-/// There was no memory for the first segment.
-const MEMORY: u8 = 5;
-
-/// The most bytes of a frame.
-const LIMIT: usize = 67_108_864;
-
-/// The images of pages that the cache keeps at most.
-const PAGES: usize = 64;
 
 /// Answers the request frames that a descriptor gives, each by a frame on another one, or on the same, until the input ends. At first
 /// a fresh node of birth 0 answers, with an empty segment of one reader. Both descriptors block, and stay open.

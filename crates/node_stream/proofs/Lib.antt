@@ -1,9 +1,7 @@
 pub mod FirstWords
-pub mod Framed
 pub mod GuardFields
-pub mod Headed
 pub mod Long
+pub mod Rendered
 pub mod Together
 pub mod Turns
 pub mod Unchanged
-pub mod Worded

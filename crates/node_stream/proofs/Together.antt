@@ -4,16 +4,15 @@ use Rattle.std.specs.Prelude.{codes}
 use Rattle.std.specs.List.{All, concat}
 use Rattle.std.proofs.lemmas.List.Elements.{All-nil, All-push}
 use Rattle.framing.specs.Frames.{header, framed, IsShort, IsBegun}
-use Rattle.framing.specs.Inside.{AreInside, FitsFrame, Exceeds, bytes_with}
+use Rattle.framing.specs.Inside.{AreInside, FitsFrame, bytes_with}
 use Rattle.framing.proofs.FramesAnswered.{joined}
 use Rattle.framing.proofs.Headers.{length-header}
 use Rattle.framing.proofs.Nested.{first_inside, none_inside}
 use Rattle.guard.specs.Data.{GuardData}
-use Rattle.node_stream.specs.Answering.{Spoken, by_frames, AnswersAsked, AnswersRequest, ReadsAsked, AnswersOneOf, AnswersInTurn, AnswersAll}
+use Rattle.node_stream.specs.Answering.{Spoken, by_frames, TellsFault, AnswersAsked, AnswersRequest, ReadsAsked, AnswersOneOf, AnswersInTurn, AnswersAll}
 use Rattle.node_stream.specs.Gathering.{HasPlaceFor, Gathers, gathered_bytes, gathered_room}
 use Rattle.node_stream.specs.GuardReading.{guard_request}
 use Rattle.node_stream.specs.GuardTelling.{sure_for}
-use Rattle.node_stream.specs.Refusing.{TellsFault}
 use Rattle.node_stream.specs.declared.asked.GuardAsked.{GuardAsked}
 use Rattle.node_stream.specs.declared.gathered.Gathered.{Gathered}
 use Rattle.node_stream.specs.declared.job.Form.TheVariants as stream
@@ -115,10 +114,10 @@ module _ (old : GuardData) (bytes rest out : List ℕ) (left : ℕ) (mid : Guard
 
 -- ---- what was put is an answer
 -- what is answered without a step
-pub fault_answers : (mid : GuardData) (frame text : List ℕ) → TellsFault frame text → AnswersRequest by_frames mid frame text mid
-fault_answers mid frame text (inl lacks) = inl (record { is = lacks; did = inl refl })
-fault_answers mid frame text (inr fault) =
-    subst (λ (a : Result GuardAsked LineFault). AnswersAsked by_frames a mid text mid) (sym fault.1) (inr (fault.2, refl))
+pub fault_answers : (form : Spoken) (mid : GuardData) (bytes text : List ℕ) → TellsFault form bytes text → AnswersRequest form mid bytes text mid
+fault_answers form mid bytes text (inl lacks) = inl (record { is = lacks; did = inl refl })
+fault_answers form mid bytes text (inr fault) =
+    subst (λ (a : Result GuardAsked LineFault). AnswersAsked form a mid text mid) (sym fault.1) (inr (fault.2, refl))
 
 -- in place of the reply of what only reads the answer may say that memory ran out
 lacking : (old : GuardData) (asked : Result GuardAsked LineFault) (text : List ℕ) (new : GuardData) → ReadsAsked by_frames asked old text new
@@ -147,30 +146,11 @@ said mid frame text asked new answers answers' others asks one reads short place
     let over = subst (λ (a : Result GuardAsked LineFault). ReadsAsked by_frames a mid text new) (sym asks) (reads long) in
     (codes "long", inr (inl (record { is = refl; answer = text; reads = over; exceeds = put.0 })), put.1, omega arith)
 
--- the longest answer that reports a change exceeds the limit
-pub held_back : (mid : GuardData) (frame : List ℕ) (asked : GuardAsked) (answers answers' : Gathered) (others : ℕ)
-    → guard_request stream.Frames frame ≡ Ok asked → (FitsFrame (length (gathered_bytes answers)) (sure_for asked.request) others → ⊥)
-    → gathered_bytes answers' ≡ gathered_bytes answers ++ framed (codes "long")
-    → (told : List ℕ) × AnswersOneOf by_frames (length (gathered_bytes answers)) others mid frame told mid
-    × (gathered_bytes answers' ≡ gathered_bytes answers ++ framed told) × IsShort told
-held_back mid frame asked answers answers' others asks over put =
-    let exceeds : Exceeds (length (gathered_bytes answers)) (sure_for asked.request) others = omega (arith, over) in
-    (codes "long", inr (inr (record { asked = asked; asks = asks; is = refl; exceeds = exceeds }, refl)), put, omega arith)
-
--- there was no room for it, and no memory
-pub not_begun : (mid : GuardData) (frame : List ℕ) (asked : GuardAsked) (answers answers' : Gathered) (others : ℕ) → HasPlaceFor answers (others + 1)
-    → gathered_bytes answers' ≡ gathered_bytes answers ++ framed (codes "memory")
-    → (told : List ℕ) × AnswersOneOf by_frames (length (gathered_bytes answers)) others mid frame told mid
-    × (gathered_bytes answers' ≡ gathered_bytes answers ++ framed told) × IsShort told
-not_begun mid frame asked answers answers' others place put =
-    let fits : FitsFrame (length (gathered_bytes answers)) 6 others = omega (arith, place.within) in
-    (codes "memory", inl (fits, inl (record { is = refl; did = inl refl })), put, omega arith)
-
 -- the frame encodes no request, or there was no memory to read it
-pub not_read : (mid : GuardData) (frame text : List ℕ) (answers answers' : Gathered) (others : ℕ) → TellsFault frame text → length text ≤ 17
+pub not_read : (mid : GuardData) (frame text : List ℕ) (answers answers' : Gathered) (others : ℕ) → TellsFault by_frames frame text → length text ≤ 17
     → HasPlaceFor answers (others + 1) → gathered_bytes answers' ≡ gathered_bytes answers ++ framed text
     → (told : List ℕ) × AnswersOneOf by_frames (length (gathered_bytes answers)) others mid frame told mid
     × (gathered_bytes answers' ≡ gathered_bytes answers ++ framed told) × IsShort told
 not_read mid frame text answers answers' others why few place put =
     let fits : FitsFrame (length (gathered_bytes answers)) (length text) others = omega (arith, place.within, few) in
-    (text, inl (fits, fault_answers mid frame text why), put, omega (arith, few))
+    (text, inl (fits, fault_answers by_frames mid frame text why), put, omega (arith, few))

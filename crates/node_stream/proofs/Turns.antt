@@ -18,9 +18,9 @@ use Rattle.guard.specs.declared.requests.Request.TheVariants as request
 use Rattle.guard.specs.declared.replies.Reply.{Reply}
 use Rattle.guard.specs.declared.replies.Reply.TheVariants as reply
 use Rattle.guard.proofs.Plainly.{plain_runs}
-use Rattle.node_stream.specs.Answering.{Spoken, by_lines, by_frames, AnswersAsked, AnswersRequest, ReadsAsked, AnswersOneOf, AnswersInTurn, AnswersThese, IsAnswerBy}
+use Rattle.node_stream.specs.Answering.{Spoken, by_lines, by_frames, TellsFault, AnswersAsked, AnswersRequest, ReadsAsked, AnswersOneOf, AnswersInTurn, AnswersThese, IsAnswerBy}
 use Rattle.node_stream.specs.Carried.{carried_before, carried_out}
-use Rattle.node_stream.specs.Running.{IsTurn, MakesNoTurn, MakesRequest, IsTurnOver, MakesOneOf, MakeInTurn, MakeEach, MakesThese, MakesBelow, MakeTurns, RunsBringing, RunsInside, Run, AnswersRun, FramesRun, PlainStream, PlainlyRun}
+use Rattle.node_stream.specs.Running.{IsTurn, MakesRequest, IsTurnOver, MakesOneOf, MakeInTurn, MakeEach, MakesThese, MakesBelow, MakeTurns, RunsBringing, RunsInside, Run, AnswersRun, FramesRun, PlainStream, PlainlyRun}
 use Rattle.node_stream.specs.declared.asked.GuardAsked.{GuardAsked}
 use Rattle.node_stream.specs.declared.faults.LineFault.{LineFault}
 
@@ -61,7 +61,7 @@ module _ (form : Spoken) where
       let is : IsTurn form bytes text t = record { asked = asked; asks = asks; is = refl; tells = tells } in
       (t ∷ [], (new, replies, refl), inr (t, refl, is))
 
-  idle : (old : GuardData) (bytes text : List ℕ) (new : GuardData) → MakesNoTurn form bytes text → new ≡ old → Made old new (MakesRequest form bytes text)
+  idle : (old : GuardData) (bytes text : List ℕ) (new : GuardData) → TellsFault form bytes text → new ≡ old → Made old new (MakesRequest form bytes text)
   idle old bytes text new h e = same old new (MakesRequest form bytes text) e (inl (refl, h))
 
   one_asked : (old : GuardData) (bytes text : List ℕ) (new : GuardData) (asked : Result GuardAsked LineFault) → form.asks bytes ≡ asked

@@ -6,14 +6,15 @@ use Rattle.guard.specs.Guarding.{IsGuardReply}
 use Rattle.guard.specs.Refusing.{IsGuardRefusal, IsAfterGuardRefusal}
 use Rattle.guard.specs.declared.replies.Reply.{Reply}
 use Rattle.node_stream.specs.FrameReading.{many_in}
-use Rattle.node_stream.specs.FrameTelling.{fault_frame}
 use Rattle.node_stream.specs.GuardReading.{guard_request}
-use Rattle.node_stream.specs.GuardTelling.{guard_line, guard_frame, sure_for}
-use Rattle.node_stream.specs.Telling.{fault_line}
+use Rattle.node_stream.specs.GuardTelling.{guard_told, sure_for}
+use Rattle.node_stream.specs.Telling.{fault_text, rendered}
+use Rattle.node_stream.specs.Telling.BodyData.{Text}
 use Rattle.node_stream.specs.declared.asked.GuardAsked.{GuardAsked}
 use Rattle.node_stream.specs.declared.asked.Window.{Window}
 use Rattle.node_stream.specs.declared.faults.LineFault.{LineFault}
 use Rattle.node_stream.specs.declared.faults.LineFault.TheVariants as fault
+use Rattle.node_stream.specs.declared.job.Form.{Form}
 use Rattle.node_stream.specs.declared.job.Form.TheVariants as stream
 
 -- A form of the stream: the bytes of many requests, where those of one hold many; what one request asks; and the texts of replies, of
@@ -27,27 +28,35 @@ pub record Spoken : Type 0 where
   pub long : List ℕ
   pub over : List ℕ
 
-abbrev pub by_lines : Spoken
-by_lines = record {
-  many = λ line. None;
-  asks = guard_request stream.Lines;
-  reply = guard_line;
-  fault = fault_line;
-  memory = codes "memory\n";
-  long = codes "long line\n";
-  over = codes "long\n";
+-- a text that is no reply
+abbrev pub text_in : Form → List ℕ → List ℕ
+text_in form text = rendered form [] (Text text)
+
+-- lines hold no others
+abbrev pub many_by : Form → List ℕ → Option (List ℕ)
+many_by stream.Lines line = None
+many_by stream.Frames frame = many_in frame
+
+abbrev pub over_limit : Form → List ℕ
+over_limit stream.Lines = codes "long line"
+over_limit stream.Frames = codes "long frame"
+
+abbrev pub protocol : Form → Spoken
+protocol form = record {
+  many = many_by form;
+  asks = guard_request form;
+  reply = guard_told form;
+  fault = λ why. text_in form (fault_text form why);
+  memory = text_in form (codes "memory");
+  long = text_in form (over_limit form);
+  over = text_in form (codes "long");
 }
 
+abbrev pub by_lines : Spoken
+by_lines = protocol stream.Lines
+
 abbrev pub by_frames : Spoken
-by_frames = record {
-  many = many_in;
-  asks = guard_request stream.Frames;
-  reply = guard_frame;
-  fault = fault_frame;
-  memory = codes "memory";
-  long = codes "long frame";
-  over = codes "long";
-}
+by_frames = protocol stream.Frames
 
 -- The guard carries out the request, and the text is that of its reply. A refused read may change which images the cache keeps, and any
 -- other refusal changes nothing.
@@ -80,6 +89,10 @@ AnswersAsked form asked old text new = LacksMemory form asked old text new ⊎ R
 -- the text answers the bytes of one request
 abbrev pub AnswersRequest : Spoken → GuardData → List ℕ → List ℕ → GuardData → Type 0
 AnswersRequest form old bytes text new = AnswersAsked form (form.asks bytes) old text new
+
+-- the text says, with no step of the guard, that there was no memory, or why the bytes encode no request
+abbrev pub TellsFault : Spoken → List ℕ → List ℕ → Type 0
+TellsFault form bytes text = (text ≡ form.memory) ⊎ ((fault : LineFault) × (form.asks bytes ≡ Err fault) × (text ≡ form.fault fault))
 
 -- ---- many requests
 -- The text is that of the reply to what was asked, and the guard is as after a refusal of it: asked again, it is answered again.

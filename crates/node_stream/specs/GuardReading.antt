@@ -9,7 +9,7 @@ use Rattle.text.specs.Number.{decimal_value}
 use Rattle.text.specs.Parts.{parts_at}
 use Rattle.text.specs.Fields.{Form, form, of_one, of_five, made_by}
 use Rattle.node_stream.specs.Asking.{guard_asked, plainly, under}
-use Rattle.node_stream.specs.Reading.{◌>>=◌, of_four, request_of}
+use Rattle.node_stream.specs.Reading.{◌>>=◌, of_four, formed, request_of}
 use Rattle.node_stream.specs.FrameReading.{halves, under_limit, request_in}
 use Rattle.node_stream.specs.declared.asked.Asked.{Asked}
 use Rattle.node_stream.specs.declared.asked.GuardAsked.{GuardAsked}
@@ -70,11 +70,6 @@ either_of None other = other
 unfoldable pub admission_of : List (List ℕ) → Option GuardAsked
 admission_of words = either_of (made_by admit_form words) (made_by admit_with_form words)
 
--- it has the form of a request, or not
-abbrev pub well_formed : Option GuardAsked → Result GuardAsked LineFault
-well_formed (Some a) = Ok a
-well_formed None = Err fault.Form
-
 -- ---- requests of a replica
 -- what a line or a frame asks of a replica
 abbrev pub own_asked : Stream → List ℕ → Result Asked LineFault
@@ -114,9 +109,9 @@ unfoldable pub guard_words : Stream → List ℕ → Option (List ℕ × List �
 guard_words s text None = lone_text s text
 guard_words s text (Some (word, rest)) =
     if bytes_eq word (codes "as") then under_text s rest
-    else if bytes_eq word (codes "fence") then well_formed (made_by fence_form (parts_at 32 rest))
-    else if bytes_eq word (codes "propose") then well_formed (made_by propose_form (parts_at 32 rest))
-    else if bytes_eq word (codes "admit") then well_formed (admission_of (parts_at 32 rest))
+    else if bytes_eq word (codes "fence") then formed (made_by fence_form (parts_at 32 rest))
+    else if bytes_eq word (codes "propose") then formed (made_by propose_form (parts_at 32 rest))
+    else if bytes_eq word (codes "admit") then formed (admission_of (parts_at 32 rest))
     else plain_text s text
 
 -- what a line or a frame asks of a guard

@@ -4,11 +4,10 @@ pub mod Carried
 pub mod CommandLine
 pub mod Ending
 pub mod FrameReading
-pub mod FrameTelling
 pub mod Gathering
 pub mod GuardReading
 pub mod GuardTelling
 pub mod Reading
-pub mod Refusing
 pub mod Running
 pub mod Telling
+pub mod Bodies

@@ -20,6 +20,8 @@ use Rattle.node_stream.specs.Asking.{asked, shown}
 use Rattle.node_stream.specs.declared.asked.Asked.{Asked}
 use Rattle.node_stream.specs.declared.faults.LineFault.{LineFault}
 use Rattle.node_stream.specs.declared.faults.LineFault.TheVariants as fault
+use Rattle.node_stream.specs.declared.job.Form.{Form as Stream}
+use Rattle.node_stream.specs.declared.job.Form.TheVariants as stream
 use Rattle.node_stream.specs.declared.faults.LineError.{LineError}
 use Rattle.node_stream.specs.declared.faults.LineError.TheVariants as errors
 
@@ -98,83 +100,68 @@ abbrev pub hexed : Option (List ℕ) → Result (List ℕ) LineFault
 hexed (Some bytes) = Ok bytes
 hexed None = Err fault.Hex
 
--- the bytes of hexadecimal digits of either case
-unfoldable pub bytes_of_digits : List ℕ → Result (List ℕ) LineFault
-bytes_of_digits digits = hexed (decoded (decode_of digits))
+-- the bytes of a field: of hexadecimal digits of either case in a line, and as they are in a frame
+abbrev pub bytes_by : Stream → List ℕ → Result (List ℕ) LineFault
+bytes_by stream.Lines digits = hexed (decoded (decode_of digits))
+bytes_by stream.Frames bytes = Ok bytes
 
 -- the value that bytes encode
 abbrev pub wired : {A : Type 0} → Result A WireFault → Result A LineFault
 wired (Ok x) = Ok x
 wired (Err f) = Err (fault.Wire f)
 
--- the values that bytes encode
-abbrev pub fact_in : List ℕ → Result Fact LineFault
-fact_in bytes = wired (decoded_fact bytes)
+-- the values that fields encode
+abbrev pub fact_by : Stream → List ℕ → Result Fact LineFault
+fact_by s field = bytes_by s field >>= (λ bytes. wired (decoded_fact bytes))
 
-abbrev pub summary_in : List ℕ → Result SummaryData LineFault
-summary_in bytes = wired (decoded_summary bytes)
+abbrev pub summary_by : Stream → List ℕ → Result SummaryData LineFault
+summary_by s field = bytes_by s field >>= (λ bytes. wired (decoded_summary bytes))
 
-abbrev pub delta_in : List ℕ → Result DeltaData LineFault
-delta_in bytes = wired (decoded_delta bytes)
+abbrev pub delta_by : Stream → List ℕ → Result DeltaData LineFault
+delta_by s field = bytes_by s field >>= (λ bytes. wired (decoded_delta bytes))
 
-abbrev pub piece_in : List ℕ → Result PieceData LineFault
-piece_in bytes = wired (decoded_piece bytes)
+abbrev pub piece_by : Stream → List ℕ → Result PieceData LineFault
+piece_by s field = bytes_by s field >>= (λ bytes. wired (decoded_piece bytes))
 
--- the values that digits encode
-unfoldable pub fact_of_digits : List ℕ → Result Fact LineFault
-fact_of_digits digits = bytes_of_digits digits >>= (λ bytes. fact_in bytes)
+abbrev pub asked_take : Stream → List ℕ → Result Asked LineFault
+asked_take s field = fact_by s field >>= (λ f. Ok (asked (request.Take f)))
 
-unfoldable pub summary_of_digits : List ℕ → Result SummaryData LineFault
-summary_of_digits digits = bytes_of_digits digits >>= (λ bytes. summary_in bytes)
-
-unfoldable pub delta_of_digits : List ℕ → Result DeltaData LineFault
-delta_of_digits digits = bytes_of_digits digits >>= (λ bytes. delta_in bytes)
-
-unfoldable pub piece_of_digits : List ℕ → Result PieceData LineFault
-piece_of_digits digits = bytes_of_digits digits >>= (λ bytes. piece_in bytes)
-
-unfoldable pub take_line : List ℕ → Result Asked LineFault
-take_line digits = fact_of_digits digits >>= (λ f. Ok (asked (request.Take f)))
-
-unfoldable pub answer_line : List ℕ → Result Asked LineFault
-answer_line digits = summary_of_digits digits >>= (λ s. Ok (asked (request.Answer s)))
-
--- how many bytes a delta may have
-abbrev pub most_of : List ℕ → Option ℕ
-most_of digits = decimal_value 4294967295 digits
+abbrev pub asked_answer : Stream → List ℕ → Result Asked LineFault
+asked_answer s field = summary_by s field >>= (λ x. Ok (asked (request.Answer x)))
 
 -- a summary to be answered within so many bytes
 abbrev pub answer_within : Option ℕ → Result SummaryData LineFault → Result Asked LineFault
 answer_within None read = Err fault.Form
-answer_within (Some most) read = read >>= (λ s. Ok (asked (request.AnswerWithin s most)))
+answer_within (Some most) read = read >>= (λ x. Ok (asked (request.AnswerWithin x most)))
 
-unfoldable pub within_line : List ℕ → List ℕ → Result Asked LineFault
-within_line digits limit = answer_within (most_of limit) (summary_of_digits digits)
+abbrev pub asked_within : Stream → List ℕ → List ℕ → Result Asked LineFault
+asked_within s limit field = answer_within (decimal_value 4294967295 limit) (summary_by s field)
 
-unfoldable pub add_line : List ℕ → Result Asked LineFault
-add_line digits = piece_of_digits digits >>= (λ p. Ok (asked (request.Add p)))
+abbrev pub asked_add : Stream → List ℕ → Result Asked LineFault
+asked_add s field = piece_by s field >>= (λ p. Ok (asked (request.Add p)))
 
-unfoldable pub absorb_line : List ℕ → List ℕ → Result Asked LineFault
-absorb_line shown answered = summary_of_digits shown >>= (λ s. delta_of_digits answered >>= (λ d. Ok (asked (request.Absorb s d))))
+abbrev pub asked_absorb : Stream → List ℕ → List ℕ → Result Asked LineFault
+asked_absorb s shown answered = summary_by s shown >>= (λ x. delta_by s answered >>= (λ d. Ok (asked (request.Absorb x d))))
 
 -- ---- lines
-abbrev pub formed : Option Asked → Result Asked LineFault
+-- it has the form of a request, or not
+abbrev pub formed : {A : Type 0} → Option A → Result A LineFault
 formed (Some a) = Ok a
 formed None = Err fault.Form
 
 -- a word and one field: bytes, or a number
 unfoldable pub field_line : List ℕ → List ℕ → Result Asked LineFault
 field_line word field =
-    if bytes_eq word (codes "take") then take_line field
-    else if bytes_eq word (codes "answer") then answer_line field
-    else if bytes_eq word (codes "add") then add_line field
+    if bytes_eq word (codes "take") then asked_take stream.Lines field
+    else if bytes_eq word (codes "answer") then asked_answer stream.Lines field
+    else if bytes_eq word (codes "add") then asked_add stream.Lines field
     else formed (numbers_line (word ∷ field ∷ []))
 
 -- a word and two fields: bytes of a summary and of the delta that answers it, or a number; or numbers
 unfoldable pub fields_line : List ℕ → List ℕ → List ℕ → Result Asked LineFault
 fields_line word field next =
-    if bytes_eq word (codes "absorb") then absorb_line field next
-    else if bytes_eq word (codes "answer") then within_line field next
+    if bytes_eq word (codes "absorb") then asked_absorb stream.Lines field next
+    else if bytes_eq word (codes "answer") then asked_within stream.Lines next field
     else formed (numbers_line (word ∷ field ∷ next ∷ []))
 
 -- what the words of a line ask

@@ -1,5 +1,5 @@
 -- The turns of a guard that a stream makes, and those of the replica inside.
-use Rattle.std.specs.Prelude.{◌≡◌, ℕ, ◌+◌, ◌*◌, ◌<◌, ◌≤◌, ◌^◌, ◌⊎◌, List, [], ◌∷◌, ◌++◌, length, Option, Some, None, Ok, Err, IsTrue}
+use Rattle.std.specs.Prelude.{◌≡◌, ℕ, ◌+◌, ◌*◌, ◌<◌, ◌≤◌, ◌^◌, ◌⊎◌, List, [], ◌∷◌, ◌++◌, length, Option, Some, None, Ok, IsTrue}
 use Rattle.std.specs.List.{AllByRecursion}
 use Rattle.redo_core.specs.declared.facts.Fact.{Fact}
 use Rattle.framing.specs.Frames.{AnswersFrames}
@@ -12,10 +12,9 @@ use Rattle.replica.specs.declared.requests.Request.{Request}
 use Rattle.guard.specs.Data.{GuardData}
 use Rattle.guard.specs.Keeping.{GuardTurn, GuardRuns}
 use Rattle.guard.specs.Plainly.{IsPlainTurn, RunsAsReplica}
-use Rattle.node_stream.specs.Answering.{Spoken, by_lines, by_frames, IsHeldBack, IsAnswer, IsFrameAnswer}
+use Rattle.node_stream.specs.Answering.{Spoken, by_lines, by_frames, TellsFault, IsHeldBack, IsAnswer, IsFrameAnswer}
 use Rattle.node_stream.specs.Carried.{AreCarriedOut}
 use Rattle.node_stream.specs.declared.asked.GuardAsked.{GuardAsked}
-use Rattle.node_stream.specs.declared.faults.LineFault.{LineFault}
 use Rattle.node_stream.specs.declared.faults.LineFault.TheVariants as fault
 
 -- what was asked is the turn's request, and the text is that of its reply, or says that there was no memory for that
@@ -25,13 +24,9 @@ pub record IsTurn (form : Spoken) (bytes text : List ℕ) (t : GuardTurn) : Type
   pub is : t.asked ≡ asked.request
   pub tells : (text ≡ form.reply asked.window t.told) ⊎ (text ≡ form.memory)
 
--- no turn: there was no memory, or the bytes encode no request
-abbrev pub MakesNoTurn : Spoken → List ℕ → List ℕ → Type 0
-MakesNoTurn form bytes text = (text ≡ form.memory) ⊎ ((fault : LineFault) × (form.asks bytes ≡ Err fault) × (text ≡ form.fault fault))
-
 -- the turns of one request: its own, or none
 abbrev pub MakesRequest : Spoken → List ℕ → List ℕ → List GuardTurn → Type 0
-MakesRequest form bytes text turns = ((turns ≡ []) × MakesNoTurn form bytes text) ⊎ ((t : GuardTurn) × (turns ≡ t ∷ []) × IsTurn form bytes text t)
+MakesRequest form bytes text turns = ((turns ≡ []) × TellsFault form bytes text) ⊎ ((t : GuardTurn) × (turns ≡ t ∷ []) × IsTurn form bytes text t)
 
 -- The turn of one of many requests, whose reply would exceed the limit of the answer to all, after so many bytes of answers and before so
 -- many answers. The text says so.

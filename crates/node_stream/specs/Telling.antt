@@ -1,5 +1,5 @@
--- The line that answers a reply.
-use Rattle.std.specs.Prelude.{ℕ, Bool, List, ◌++◌, take, drop, codes, if◌then◌else◌}
+-- What a reply says, in lines and in frames.
+use Rattle.std.specs.Prelude.{ℕ, Bool, List, [], ◌∷◌, ◌++◌, length, take, drop, nat_lt, codes, if◌then◌else◌}
 use Rattle.std.specs.Fmt.{decimal}
 use Rattle.hex.specs.Hex.{encode_lower}
 use Rattle.redo_wire.specs.Faults.{fault_number}
@@ -21,106 +21,140 @@ use Rattle.replica.specs.declared.replies.Reply.TheVariants as reply
 use Rattle.replica.specs.declared.replies.Status.{Status}
 use Rattle.node_stream.specs.declared.asked.Window.{Window}
 use Rattle.node_stream.specs.declared.faults.LineFault.{LineFault}
-use Rattle.node_stream.specs.declared.faults.LineFault.TheVariants as line
+use Rattle.node_stream.specs.declared.faults.LineFault.TheVariants as fault
+use Rattle.node_stream.specs.declared.job.Form.{Form}
+use Rattle.node_stream.specs.declared.job.Form.TheVariants.{Lines, Frames}
 
 -- ---- words and numbers
-abbrev pub one_number : List ℕ → ℕ → List ℕ
-one_number words a = words ++ (decimal a ++ codes "\n")
+-- numbers, each after a space
+abbrev pub numbers_behind : List ℕ → List ℕ
+numbers_behind [] = []
+numbers_behind (n ∷ ns) = codes " " ++ (decimal n ++ numbers_behind ns)
 
-abbrev pub two_numbers : List ℕ → ℕ → ℕ → List ℕ
-two_numbers words a b = words ++ (decimal a ++ (codes " " ++ (decimal b ++ codes "\n")))
+abbrev pub numbered : List ℕ → List ℕ → List ℕ
+numbered words ns = words ++ numbers_behind ns
 
-abbrev pub three_numbers : List ℕ → ℕ → ℕ → ℕ → List ℕ
-three_numbers words a b c = words ++ (decimal a ++ (codes " " ++ (decimal b ++ (codes " " ++ (decimal c ++ codes "\n")))))
+-- why a fact or a delta is refused; another truncation of an epoch that has one has a text of its own, apart from that of one which what
+-- came contradicts
+abbrev pub held_text : Held → List ℕ
+held_text (held.Min point) = numbered (codes "refused by least") (point ∷ [])
+held_text (held.Advance a) = numbered (codes "refused by min") (a.epoch ∷ a.point ∷ a.reader ∷ [])
+held_text (held.Cut c) = numbered (codes "refused by cut") (c.epoch ∷ c.lo ∷ c.hi ∷ [])
 
--- ---- refusals
-abbrev pub held_line : Held → List ℕ
-held_line (held.Min point) = one_number (codes "refused by least ") point
-held_line (held.Advance a) = three_numbers (codes "refused by min ") a.epoch a.point a.reader
-held_line (held.Cut c) = three_numbers (codes "refused by cut ") c.epoch c.lo c.hi
+abbrev pub refusal_text : Refusal → List ℕ
+refusal_text (refusal.OtherRoster own shown) = numbered (codes "refused by roster") (own ∷ shown ∷ [])
+refusal_text (refusal.OtherCut c) = numbered (codes "refused by other cut") (c.epoch ∷ c.lo ∷ c.hi ∷ [])
+refusal_text (refusal.Contradiction what) = held_text what
+refusal_text refusal.OtherRecord = codes "refused by record"
+refusal_text refusal.Memory = codes "refused by memory"
 
--- another truncation of an epoch that has one has a line of its own, apart from that of one which what came contradicts
-abbrev pub refusal_line : Refusal → List ℕ
-refusal_line (refusal.OtherRoster own shown) = two_numbers (codes "refused by roster ") own shown
-refusal_line (refusal.OtherCut c) = three_numbers (codes "refused by other cut ") c.epoch c.lo c.hi
-refusal_line (refusal.Contradiction what) = held_line what
-refusal_line refusal.OtherRecord = codes "refused by record\n"
-refusal_line refusal.Memory = codes "refused by memory\n"
-
--- ---- what the complete point waits for
-abbrev pub gap_line : Gap → List ℕ
-gap_line (gap.Record number) = one_number (codes "gap record ") number
-gap_line (gap.Truncation epoch) = one_number (codes "gap truncation ") epoch
+-- what the complete point waits for
+abbrev pub gap_text : Gap → List ℕ
+gap_text (gap.Record number) = numbered (codes "gap record") (number ∷ [])
+gap_text (gap.Truncation epoch) = numbered (codes "gap truncation") (epoch ∷ [])
 
 -- what of a summary is not answered for
-abbrev pub shown_line : Shown → List ℕ
-shown_line (shown.Anchor anchor) = one_number (codes "uncovered anchor ") anchor
-shown_line (shown.Key key) = two_numbers (codes "uncovered key ") key.epoch key.number
+abbrev pub shown_text : Shown → List ℕ
+shown_text (shown.Anchor anchor) = numbered (codes "uncovered anchor") (anchor ∷ [])
+shown_text (shown.Key key) = numbered (codes "uncovered key") (key.epoch ∷ key.number ∷ [])
 
--- ---- bytes
--- a word and the digits of bytes, in lower case
-abbrev pub bytes_line : List ℕ → List ℕ → List ℕ
-bytes_line word bytes = word ++ (codes " " ++ (encode_lower bytes ++ codes "\n"))
-
--- a value of the wire, unless a list of it is longer than its count field holds
-unfoldable pub value_line : List ℕ → Bool → List ℕ → List ℕ
-value_line word is_long bytes = if is_long then word ++ codes " too long\n" else bytes_line word bytes
-
--- the bytes of a page that are shown
-abbrev pub window_of : Window → List ℕ → List ℕ
-window_of w image = take w.len (drop w.offset image)
-
--- ---- what is stored, in numbers
+-- what is stored, in numbers
 abbrev pub status_start : Status → List ℕ
 status_start s = codes "state epoch " ++ (decimal s.epoch ++ (codes " complete " ++ (decimal s.complete
     ++ (codes " min " ++ (decimal s.min ++ (codes " anchor " ++ (decimal s.anchor ++ (codes " base " ++ decimal s.base))))))))
 
 abbrev pub status_end : Status → List ℕ
 status_end s = codes " held " ++ (decimal s.held ++ (codes " kept " ++ (decimal s.kept ++ (codes " images " ++ (decimal s.images
-    ++ (codes " cuts " ++ (decimal s.truncations ++ (codes " waits " ++ (decimal s.waiting ++ codes "\n")))))))))
+    ++ (codes " cuts " ++ (decimal s.truncations ++ (codes " waits " ++ decimal s.waiting))))))))
 
 -- ---- replies
--- the line of a reply, with its LF; a page is shown through the window
-abbrev pub line_of : Window → Reply → List ℕ
-line_of w reply.Opened = codes "opened\n"
-line_of w reply.Changed = codes "changed\n"
-line_of w reply.Unchanged = codes "unchanged\n"
-line_of w (reply.Refused why) = refusal_line why
-line_of w (reply.Front f) = three_numbers (codes "front ") f.epoch f.complete f.min
-line_of w (reply.Gap g) = gap_line g
-line_of w reply.NoGap = codes "no gap\n"
-line_of w (reply.State s) = status_start s ++ status_end s
-line_of w (reply.Page image) = bytes_line (codes "page") (window_of w image)
-line_of w (reply.Below min) = one_number (codes "below ") min
-line_of w (reply.Above complete) = one_number (codes "above ") complete
-line_of w (reply.BrokenBlockChain page number) = two_numbers (codes "broken ") page number
-line_of w (reply.Summary s) = value_line (codes "summary") (is_long_summary s) (summary_bytes s)
-line_of w (reply.Delta d) = value_line (codes "delta") (is_long_delta d) (delta_bytes d)
-line_of w reply.Large = codes "large\n"
-line_of w reply.Absorbed = codes "absorbed\n"
-line_of w (reply.Uncovered s) = shown_line s
-line_of w reply.Folded = codes "folded\n"
-line_of w reply.Discarded = codes "discarded\n"
-line_of w reply.Tidied = codes "tidied\n"
-line_of w (reply.Frozen pieces) = one_number (codes "frozen ") pieces
-line_of w reply.TooMany = codes "too many\n"
-line_of w (reply.Piece p) = value_line (codes "piece") (is_long_piece p) (piece_bytes p)
-line_of w reply.NoSnapshot = codes "no snapshot\n"
-line_of w reply.NoPiece = codes "no piece\n"
-line_of w reply.Staged = codes "staged\n"
-line_of w reply.Added = codes "added\n"
-line_of w reply.Stranger = codes "stranger\n"
-line_of w (reply.Double index) = one_number (codes "double ") index
-line_of w reply.NoStaging = codes "no staging\n"
-line_of w reply.Restored = codes "restored\n"
-line_of w reply.United = codes "united\n"
-line_of w (reply.Missing index) = one_number (codes "missing ") index
-line_of w (reply.Malformed index) = one_number (codes "malformed ") index
-line_of w (reply.Next r) = bytes_line (codes "record") (fact_bytes (fact.Record r))
-line_of w reply.NoNext = codes "none\n"
-line_of w reply.Memory = codes "memory\n"
+-- The body of a reply: a text, or a word and bytes.
+pub data BodyData : Type 0 where
+  Text : List ℕ → BodyData
+  Raw : List ℕ → List ℕ → BodyData
 
--- The replies whose line takes memory. None of them is to a request that has changed more than a refusal does.
+-- a value of the wire, unless a list of it is longer than its count field holds
+unfoldable pub value_body : List ℕ → Bool → List ℕ → BodyData
+value_body word is_long bytes = if is_long then Text (word ++ codes " too long") else Raw word bytes
+
+-- the bytes of a page that are shown
+abbrev pub window_of : Window → List ℕ → List ℕ
+window_of w image = take w.len (drop w.offset image)
+
+-- the body of a reply; a page is shown through the window
+abbrev pub body_of : Window → Reply → BodyData
+body_of w reply.Opened = Text (codes "opened")
+body_of w reply.Changed = Text (codes "changed")
+body_of w reply.Unchanged = Text (codes "unchanged")
+body_of w (reply.Refused why) = Text (refusal_text why)
+body_of w (reply.Front f) = Text (numbered (codes "front") (f.epoch ∷ f.complete ∷ f.min ∷ []))
+body_of w (reply.Gap g) = Text (gap_text g)
+body_of w reply.NoGap = Text (codes "no gap")
+body_of w (reply.State s) = Text (status_start s ++ status_end s)
+body_of w (reply.Page image) = Raw (codes "page") (window_of w image)
+body_of w (reply.Below min) = Text (numbered (codes "below") (min ∷ []))
+body_of w (reply.Above complete) = Text (numbered (codes "above") (complete ∷ []))
+body_of w (reply.BrokenBlockChain page number) = Text (numbered (codes "broken") (page ∷ number ∷ []))
+body_of w (reply.Summary s) = value_body (codes "summary") (is_long_summary s) (summary_bytes s)
+body_of w (reply.Delta d) = value_body (codes "delta") (is_long_delta d) (delta_bytes d)
+body_of w reply.Large = Text (codes "large")
+body_of w reply.Absorbed = Text (codes "absorbed")
+body_of w (reply.Uncovered s) = Text (shown_text s)
+body_of w reply.Folded = Text (codes "folded")
+body_of w reply.Discarded = Text (codes "discarded")
+body_of w reply.Tidied = Text (codes "tidied")
+body_of w (reply.Frozen pieces) = Text (numbered (codes "frozen") (pieces ∷ []))
+body_of w reply.TooMany = Text (codes "too many")
+body_of w (reply.Piece p) = value_body (codes "piece") (is_long_piece p) (piece_bytes p)
+body_of w reply.NoSnapshot = Text (codes "no snapshot")
+body_of w reply.NoPiece = Text (codes "no piece")
+body_of w reply.Staged = Text (codes "staged")
+body_of w reply.Added = Text (codes "added")
+body_of w reply.Stranger = Text (codes "stranger")
+body_of w (reply.Double index) = Text (numbered (codes "double") (index ∷ []))
+body_of w reply.NoStaging = Text (codes "no staging")
+body_of w reply.Restored = Text (codes "restored")
+body_of w reply.United = Text (codes "united")
+body_of w (reply.Missing index) = Text (numbered (codes "missing") (index ∷ []))
+body_of w (reply.Malformed index) = Text (numbered (codes "malformed") (index ∷ []))
+body_of w (reply.Next r) = Raw (codes "record") (fact_bytes (fact.Record r))
+body_of w reply.NoNext = Text (codes "none")
+body_of w reply.Memory = Text (codes "memory")
+
+-- ---- two renderings
+-- a line, with its LF: bytes are digits, in lower case
+abbrev pub line : BodyData → List ℕ
+line (Text text) = text ++ codes "\n"
+line (Raw word bytes) = word ++ (codes " " ++ (encode_lower bytes ++ codes "\n"))
+
+-- bytes, or a text in their place where they are more than a frame has room for
+unfoldable pub fitted : List ℕ → List ℕ → List ℕ
+fitted long bytes = if nat_lt 4294967295 (length bytes) then long else bytes
+
+-- a frame: bytes are as they are
+abbrev pub frame : BodyData → List ℕ
+frame (Text text) = text
+frame (Raw word bytes) = fitted (word ++ codes " too long") (word ++ (codes " " ++ bytes))
+
+-- a frame behind a head
+abbrev pub frame_behind : List ℕ → List ℕ → List ℕ
+frame_behind [] text = text
+frame_behind (b ∷ bs) text = fitted (codes "too long") ((b ∷ bs) ++ text)
+
+-- the line or the frame of a body behind a head
+abbrev pub rendered : Form → List ℕ → BodyData → List ℕ
+rendered Lines head said = head ++ line said
+rendered Frames head said = frame_behind head (frame said)
+
+-- the line of a reply, with its LF, and its frame
+abbrev pub line_of : Window → Reply → List ℕ
+line_of w told = line (body_of w told)
+
+abbrev pub frame_of : Window → Reply → List ℕ
+frame_of w told = frame (body_of w told)
+
+-- ---- memory
+-- The replies whose answer takes memory. None of them is to a request that has changed more than a refusal does.
 abbrev pub TakesMemory : Reply → Type 0
 TakesMemory (reply.Refused why) = Unit {0}
 TakesMemory (reply.Front f) = Unit {0}
@@ -140,9 +174,10 @@ TakesMemory (reply.Malformed index) = Unit {0}
 TakesMemory (reply.Next r) = Unit {0}
 TakesMemory told = ⊥
 
--- ---- lines that encode no request
--- a value's fault goes by its number
-abbrev pub fault_line : LineFault → List ℕ
-fault_line line.Form = codes "bad line\n"
-fault_line line.Hex = codes "bad hex\n"
-fault_line (line.Wire f) = one_number (codes "wire ") (fault_number f)
+-- ---- what encodes no request
+-- why a line or a frame does not; a value's fault goes by its number
+abbrev pub fault_text : Form → LineFault → List ℕ
+fault_text form (fault.Wire f) = numbered (codes "wire") (fault_number f ∷ [])
+fault_text Lines fault.Form = codes "bad line"
+fault_text Lines fault.Hex = codes "bad hex"
+fault_text Frames why = codes "bad request"

@@ -3,17 +3,16 @@
 ghost use Rattle.std.specs.Prelude.{◌≡◌, ◌<◌, ◌==◌, length, position, option_map, IfOk, IfSome};
 ghost use Rattle.node_stream.specs.Asking.{IsInside};
 ghost use Rattle.node_stream.specs.Reading.{Gives};
-ghost use Rattle.node_stream.specs.FrameReading.{halves, absorbed, limited, take_frame, answer_frame, within_frame, add_frame, absorb_frame};
-ghost use Rattle.node_stream.specs.FrameReading.{request_in};
+ghost use Rattle.node_stream.specs.FrameReading.{halves, absorbed, within_frame, absorb_frame, request_in};
 
 use crate::asked::Asked;
 use crate::faults::{LineError, LineFault};
-use crate::numbered::LONG;
+use crate::fielded::{absorb, add, answer, answer_within, take};
+use crate::job::Form;
 use crate::requests::read_line;
-use crate::values::{delta_in, fact_in, piece_in, summary_in};
 use memchr::memchr;
-use replica::Request;
 use std::alloc::Global;
+use text::limits::LONG;
 use text::{is_word, read_number};
 
 /// The place of the first space.
@@ -34,48 +33,15 @@ pub fn halves(text: &[u8]) -> Option<(&[u8], &[u8])>
     Some((front, behind))
 }
 
-fn take(alloc: Global, bytes: &[u8]) -> Result<Asked, LineError>
-    ensures asks { Gives (λ x. x) result (take_frame bytes.now) }
-    ensures inside { IfOk result (λ a. IsInside a.window) }
-{
-    let fact = fact_in(alloc, bytes)?;
-    Ok(Asked::new(Request::Take { fact }))
-}
-
-fn answer(alloc: Global, bytes: &[u8]) -> Result<Asked, LineError>
-    ensures asks { Gives (λ x. x) result (answer_frame bytes.now) }
-    ensures inside { IfOk result (λ a. IsInside a.window) }
-{
-    let summary = summary_in(alloc, bytes)?;
-    Ok(Asked::new(Request::Answer { summary }))
-}
-
-#[tactic(auto, unfolding(crate::specs::FrameReading::within_frame))]
-fn answer_within(alloc: Global, text: &[u8]) -> Result<Asked, LineError>
+/// A number of bytes, and the bytes of a summary.
+fn within(alloc: Global, text: &[u8]) -> Result<Asked, LineError>
     ensures asks { Gives (λ x. x) result (within_frame text.now) }
     ensures inside { IfOk result (λ a. IsInside a.window) }
 {
-    let Some((most, bytes)) = limited(text) else {
-        return Err(LineError::Fault(LineFault::Form));
-    };
-    let summary = summary_in(alloc, bytes)?;
-    Ok(Asked::new(Request::AnswerWithin { summary, most }))
-}
-
-/// A number of bytes, and the bytes after it and a space.
-fn limited(text: &[u8]) -> Option<(u64, &[u8])>
-    ensures { option_map (λ p. (p.0, p.1.now)) result ≡ limited text.now }
-{
-    let (digits, behind) = halves(text)?;
-    Some((read_number(digits, LONG)?, behind))
-}
-
-fn add(alloc: Global, bytes: &[u8]) -> Result<Asked, LineError>
-    ensures asks { Gives (λ x. x) result (add_frame bytes.now) }
-    ensures inside { IfOk result (λ a. IsInside a.window) }
-{
-    let piece = piece_in(alloc, bytes)?;
-    Ok(Asked::new(Request::Add { piece }))
+    match halves(text) {
+        Some((limit, field)) => answer_within(alloc, Form::Frames, limit, field),
+        None => Err(LineError::Fault(LineFault::Form)),
+    }
 }
 
 /// The bytes of a summary, which follow their number, and those of a delta.
@@ -90,17 +56,14 @@ fn absorbed(text: &[u8]) -> Option<(&[u8], &[u8])>
     Some(behind.split_at(count))
 }
 
-#[tactic(auto, unfolding(crate::specs::FrameReading::absorb_frame))]
-fn absorb(alloc: Global, text: &[u8]) -> Result<Asked, LineError>
+fn absorb_text(alloc: Global, text: &[u8]) -> Result<Asked, LineError>
     ensures asks { Gives (λ x. x) result (absorb_frame text.now) }
     ensures inside { IfOk result (λ a. IsInside a.window) }
 {
-    let Some((shown, answered)) = absorbed(text) else {
-        return Err(LineError::Fault(LineFault::Form));
-    };
-    let summary = summary_in(alloc, shown)?;
-    let delta = delta_in(alloc, answered)?;
-    Ok(Asked::new(Request::Absorb { summary, delta }))
+    match absorbed(text) {
+        Some((shown, answered)) => absorb(alloc, Form::Frames, shown, answered),
+        None => Err(LineError::Fault(LineFault::Form)),
+    }
 }
 
 /// What a frame asks: after a word that takes bytes these follow as they are; any other frame asks what the line of its bytes asks.
@@ -115,15 +78,15 @@ pub fn read_frame(alloc: Global, frame: &[u8]) -> Result<Asked, LineError>
         return read_line(alloc, frame);
     };
     if is_word(word, b"take".as_slice()) {
-        take(alloc, rest)
+        take(alloc, Form::Frames, rest)
     } else if is_word(word, b"answer".as_slice()) {
-        answer(alloc, rest)
+        answer(alloc, Form::Frames, rest)
     } else if is_word(word, b"within".as_slice()) {
-        answer_within(alloc, rest)
+        within(alloc, rest)
     } else if is_word(word, b"add".as_slice()) {
-        add(alloc, rest)
+        add(alloc, Form::Frames, rest)
     } else if is_word(word, b"absorb".as_slice()) {
-        absorb(alloc, rest)
+        absorb_text(alloc, rest)
     } else {
         read_line(alloc, frame)
     }

@@ -5,10 +5,8 @@ ghost use Rattle.framing.specs.Frames.{IsShort, framed};
 ghost use Rattle.framing.specs.Inside.{FitsFrame, bytes_with};
 ghost use Rattle.node_stream.specs.Gathering.{HasPlaceFor, Gathers, gathered_bytes, gathered_room};
 
+use crate::program::LIMIT;
 use std::alloc::{AllocError, Global};
-
-/// The most bytes of all answers together, with their lengths: 64 MiB.
-const LIMIT: usize = 67_108_864;
 
 /// The most bytes of a short answer, for which there is always room, with its length in front.
 const SHORT_FRAME: usize = 21;

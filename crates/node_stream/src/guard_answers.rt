@@ -1,13 +1,18 @@
-//! From a guard's reply to an answer line.
+//! The line or the frame that answers a guard's reply.
 
-ghost use Rattle.std.specs.Prelude.{◌≡◌, ◌++◌, ◌+◌, ◌*◌, ◌≤◌, Some, None, IfOk, OnErr, length};
+ghost use Rattle.std.specs.Prelude.{◌≡◌, ◌+◌, ◌*◌, ◌≤◌, ◌<◌, [], IfOk, OnErr, length};
 ghost use Rattle.framing.specs.AnswerText.{text_of};
+ghost use Rattle.framing.specs.Frames.{IsShort};
 ghost use Rattle.node_stream.specs.Asking.{IsInside};
-ghost use Rattle.node_stream.specs.GuardTelling.{pair_numbers, guard_numbers, numbers_behind, status_numbers, heading, guard_line, NeedsMemory, IsOwn};
+ghost use Rattle.node_stream.specs.GuardTelling.{guard_numbers, status_numbers, heading, guard_told, NeedsMemory, sure_of};
+ghost use Rattle.node_stream.specs.Telling.{rendered};
+ghost use Rattle.node_stream.specs.declared.job.Form.TheVariants as stream;
 
-use crate::answers::{headed, line};
+use crate::answers::body;
 use crate::asked::Window;
-use crate::short::{put, put_numbers};
+use crate::bodies::{ended, render};
+use crate::job::Form;
+use crate::short::{put, put_numbers, worded};
 use framing::Short;
 use framing::lines::Answer;
 use guard::{AcceptedCut, Reply};
@@ -15,53 +20,30 @@ use segment_core::Front;
 use std::alloc::{AllocError, Global};
 
 /// What precedes the reply of a replica that was asked under a generation.
-pub fn head(generation: u64, birth: u64) -> Short
+fn head(generation: u64, birth: u64) -> Short
     ensures bytes { result.items ≡ heading generation birth }
     ensures few { length result.items ≤ 45 }
 {
-    let mut text = Short::new();
-    put(&mut text, "as".as_bytes());
-    put_numbers(&mut text, &[generation, birth]);
+    let mut text = worded("as", &[generation, birth]);
     put(&mut text, " ".as_bytes());
     text
 }
 
-/// The numbers of an accepted truncation, each after a space.
-fn put_pair(text: &mut Short, pair: AcceptedCut)
-    requires { length text.old.items + 84 ≤ 256 }
-    ensures items { text.new.items ≡ text.old.items ++ numbers_behind (pair_numbers (Some pair)) }
-    ensures len { length text.new.items ≤ length text.old.items + 84 }
-{
-    let epoch = u64::from(pair.cut.epoch());
-    put_numbers(
-        text,
-        &[pair.generation, epoch, pair.cut.lo(), pair.cut.hi()],
-    );
-}
-
 /// A word and numbers, with those of an accepted truncation.
-fn worded(word: &str, numbers: &[u64], pair: Option<AcceptedCut>) -> Answer
+fn paired(form: Form, word: &str, numbers: &[u64], pair: Option<AcceptedCut>) -> Answer
     requires { length word.now + 21 * length numbers.now ≤ 132 }
-    ensures line { text_of result ≡ guard_numbers word.now numbers.now pair }
+    ensures text { text_of result ≡ rendered form [] (guard_numbers word.now numbers.now pair) }
     ensures few { length (text_of result) ≤ 220 }
 {
-    let mut text = Short::new();
-    put(&mut text, word.as_bytes());
-    put_numbers(&mut text, numbers);
+    let mut text = worded(word, numbers);
     if let Some(pair) = pair {
-        put_pair(&mut text, pair);
+        let cut = pair.cut;
+        put_numbers(
+            &mut text,
+            &[pair.generation, u64::from(cut.epoch()), cut.lo(), cut.hi()],
+        );
     }
-    put(&mut text, "\n".as_bytes());
-    Answer::Short(text)
-}
-
-/// A word and numbers.
-fn numbered(word: &str, numbers: &[u64]) -> Answer
-    requires { length word.now + 21 * length numbers.now ≤ 132 }
-    ensures line { text_of result ≡ guard_numbers word.now numbers.now None }
-    ensures few { length (text_of result) ≤ 220 }
-{
-    worded(word, numbers, None)
+    ended(form, text)
 }
 
 /// The numbers of a node's status; its membership is 1 for a member.
@@ -73,11 +55,17 @@ fn status_numbers(generation: u64, birth: u64, is_member: bool, front: Front) ->
     [generation, birth, member, epoch, front.complete, front.min]
 }
 
-/// The answer line of a guard's reply. It fails only if memory runs out, and not for a reply to a request that has changed something.
-pub fn answer(alloc: Global, window: Window, reply: &Reply) -> Result<Answer, AllocError>
+/// The answer to a guard's reply. It fails only if memory runs out, and not for a reply to a request that has changed something.
+pub fn answer(
+    alloc: Global,
+    form: Form,
+    window: Window,
+    reply: &Reply,
+) -> Result<Answer, AllocError>
     requires { IsInside window }
-    ensures line { IfOk result (λ a. text_of a ≡ guard_line window reply.now) }
-    ensures few { IfOk result (λ a. IsOwn reply.now → length (text_of a) ≤ 220) }
+    ensures text { IfOk result (λ a. text_of a ≡ guard_told form window reply.now) }
+    ensures short { form ≡ stream.Frames → IfOk result (λ a. IsShort (text_of a)) }
+    ensures long { form ≡ stream.Frames → IfOk result (λ a. sure_of reply.now < length (text_of a) → NeedsMemory reply.now) }
     ensures memory { OnErr result (NeedsMemory reply.now) }
 {
     match reply {
@@ -89,33 +77,42 @@ pub fn answer(alloc: Global, window: Window, reply: &Reply) -> Result<Answer, Al
             accepted,
         } => {
             let numbers = status_numbers(*generation, *birth, *is_member, *front);
-            Ok(worded("status", &numbers, *accepted))
+            Ok(paired(form, "status", &numbers, *accepted))
         }
         Reply::Fenced {
             generation,
             birth,
             accepted,
-        } => Ok(worded("fenced", &[*generation, *birth], *accepted)),
-        Reply::Stale(generation) => Ok(numbered("stale", &[*generation])),
-        Reply::Fresh(birth) => Ok(numbered("fresh", &[*birth])),
+        } => Ok(paired(form, "fenced", &[*generation, *birth], *accepted)),
+        Reply::Stale(generation) => Ok(ended(form, worded("stale", &[*generation]))),
+        Reply::Fresh(birth) => Ok(ended(form, worded("fresh", &[*birth]))),
         Reply::Headed {
             generation,
             birth,
             reply: own,
-        } => headed(alloc, window, head(*generation, *birth), own),
+        } => render(
+            alloc,
+            form,
+            head(*generation, *birth),
+            body(alloc, window, own)?,
+        ),
         Reply::Accepted {
             generation,
             birth,
             epoch,
-        } => Ok(numbered("accepted", &[*generation, *birth, u64::from(*epoch)])),
-        Reply::Admitted { generation, birth } => Ok(numbered("admitted", &[*generation, *birth])),
-        Reply::Member => Ok(Answer::Fixed("member\n")),
-        Reply::Stranger(birth) => Ok(numbered("stranger", &[*birth])),
-        Reply::Behind { epoch, complete } => Ok(numbered(
-            "behind",
-            &[u64::from(*epoch), *complete],
+        } => Ok(ended(
+            form,
+            worded("accepted", &[*generation, *birth, u64::from(*epoch)]),
         )),
-        Reply::Unguarded => Ok(Answer::Fixed("unguarded\n")),
-        Reply::Plain(own) => line(alloc, window, own),
+        Reply::Admitted { generation, birth } => {
+            Ok(ended(form, worded("admitted", &[*generation, *birth])))
+        }
+        Reply::Member => Ok(ended(form, worded("member", &[]))),
+        Reply::Stranger(birth) => Ok(ended(form, worded("stranger", &[*birth]))),
+        Reply::Behind { epoch, complete } => {
+            Ok(ended(form, worded("behind", &[u64::from(*epoch), *complete])))
+        }
+        Reply::Unguarded => Ok(ended(form, worded("unguarded", &[]))),
+        Reply::Plain(own) => render(alloc, form, Short::new(), body(alloc, window, own)?),
     }
 }

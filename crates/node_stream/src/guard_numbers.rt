@@ -8,10 +8,10 @@ ghost use Rattle.node_stream.specs.Asking.{IsInside};
 ghost use Rattle.node_stream.specs.GuardReading.{faultless, fence_form, propose_form, admit_form, admit_with_form, admission_of};
 
 use crate::asked::GuardAsked;
-use crate::numbered::SHORT;
 use crate::wide::{WIDE, wide_numbers};
 use guard::{AcceptedCut, Admission, Request};
 use redo_core::{Cut, MAX_NUMBER};
+use text::limits::SHORT;
 
 /// The truncation of three numbers, unless its shape has a fault.
 fn cut_from(epoch: u64, lo: u64, hi: u64) -> Option<Cut>

@@ -4,8 +4,8 @@ ghost use Rattle.std.specs.Prelude.{◌≡◌, IfOk, IfSome, option_map};
 ghost use Rattle.text.specs.Fields.{made_by};
 ghost use Rattle.text.specs.Parts.{parts_at};
 ghost use Rattle.node_stream.specs.Asking.{IsInside};
-ghost use Rattle.node_stream.specs.Reading.{Gives};
-ghost use Rattle.node_stream.specs.GuardReading.{well_formed, fence_form, propose_form, admission_of, own_asked, plain_text};
+ghost use Rattle.node_stream.specs.Reading.{Gives, formed as formed_of};
+ghost use Rattle.node_stream.specs.GuardReading.{fence_form, propose_form, admission_of, own_asked, plain_text};
 ghost use Rattle.node_stream.specs.GuardReading.{wide_front, under_text, lone_text, guard_request};
 
 use crate::asked::{Asked, GuardAsked};
@@ -13,7 +13,7 @@ use crate::faults::{LineError, LineFault};
 use crate::frame_requests::{halves, read_frame};
 use crate::guard_numbers::{admit, fence, propose};
 use crate::job::Form;
-use crate::requests::read_line;
+use crate::requests::{formed, read_line};
 use crate::wide::{WIDE, wide_number};
 use guard::Request;
 use std::alloc::Global;
@@ -64,20 +64,9 @@ fn read_under(alloc: Global, form: Form, text: &[u8]) -> Result<GuardAsked, Line
     Ok(GuardAsked::under(generation, birth, asked))
 }
 
-fn formed(asked: Option<GuardAsked>) -> Result<GuardAsked, LineError>
-    requires { IfSome asked (λ a. IsInside a.window) }
-    ensures asks { Gives (λ x. x) result (well_formed asked) }
-    ensures inside { IfOk result (λ a. IsInside a.window) }
-{
-    match asked {
-        Some(asked) => Ok(asked),
-        None => Err(LineError::Fault(LineFault::Form)),
-    }
-}
-
 #[tactic(auto, using(crate::proofs::GuardFields::fence_fields))]
 fn read_fence(alloc: Global, text: &[u8]) -> Result<GuardAsked, LineError>
-    ensures asks { Gives (λ x. x) result (well_formed (made_by fence_form (parts_at 32 text.now))) }
+    ensures asks { Gives (λ x. x) result (formed_of (made_by fence_form (parts_at 32 text.now))) }
     ensures inside { IfOk result (λ a. IsInside a.window) }
 {
     let fields = first_parts(alloc, text, b' ')?;
@@ -86,7 +75,7 @@ fn read_fence(alloc: Global, text: &[u8]) -> Result<GuardAsked, LineError>
 
 #[tactic(auto, using(crate::proofs::GuardFields::propose_fields))]
 fn read_propose(alloc: Global, text: &[u8]) -> Result<GuardAsked, LineError>
-    ensures asks { Gives (λ x. x) result (well_formed (made_by propose_form (parts_at 32 text.now))) }
+    ensures asks { Gives (λ x. x) result (formed_of (made_by propose_form (parts_at 32 text.now))) }
     ensures inside { IfOk result (λ a. IsInside a.window) }
 {
     let fields = first_parts(alloc, text, b' ')?;
@@ -95,7 +84,7 @@ fn read_propose(alloc: Global, text: &[u8]) -> Result<GuardAsked, LineError>
 
 #[tactic(auto, using(crate::proofs::GuardFields::admission_fields))]
 fn read_admit(alloc: Global, text: &[u8]) -> Result<GuardAsked, LineError>
-    ensures asks { Gives (λ x. x) result (well_formed (admission_of (parts_at 32 text.now))) }
+    ensures asks { Gives (λ x. x) result (formed_of (admission_of (parts_at 32 text.now))) }
     ensures inside { IfOk result (λ a. IsInside a.window) }
 {
     let fields = first_parts(alloc, text, b' ')?;

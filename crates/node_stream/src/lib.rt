@@ -1,16 +1,16 @@
 //! One guarded replica on a stream of lines or of frames: each request is answered by one line or frame, before the next one is read.
 #![tactic(auto)]
 
+mod answering;
 mod answers;
 mod asked;
+mod bodies;
 mod ending;
 mod faults;
-mod frame_node;
+mod fielded;
 mod frame_requests;
-mod frame_telling;
 mod gathered;
 mod guard_answers;
-mod guard_frames;
 mod guard_numbers;
 mod guard_requests;
 mod help;
@@ -36,7 +36,7 @@ pub use guard_requests::read_request;
 pub use job::{Form, Job, job_of};
 pub use many::answer_frame;
 pub use node::{Node, answer_line};
-pub use program::run_program;
+pub use program::{LIMIT, PAGES, run_program};
 pub use requests::read_line;
 pub use stream::{serve, serve_frames};
 pub use wide::{WIDE, wide_number, wide_numbers};

@@ -2,6 +2,7 @@
 
 ghost use Rattle.std.specs.Prelude.{◌≡◌, ◌++◌, ◌+◌, ◌*◌, ◌≤◌, ◌^◌, ℕ, List, [], Ok, length, option_map};
 ghost use Rattle.framing.specs.AnswerBytes.{bytes_of};
+ghost use Rattle.framing.specs.AnswerText.{text_of};
 ghost use Rattle.framing.specs.Frames.{IsShort, framed};
 ghost use Rattle.framing.specs.Inside.{AreInside};
 ghost use Rattle.node_stream.specs.Answering.{AnswersAll, AnswersMany, AnswersOneOf, IsFrameAnswer, by_frames};
@@ -12,11 +13,13 @@ ghost use Rattle.node_stream.specs.GuardReading.{guard_request};
 ghost use Rattle.node_stream.specs.GuardTelling.{sure_for};
 ghost use Rattle.node_stream.specs.declared.job.Form.TheVariants as stream;
 
+use crate::answering::{answer_one, answer_request, memory, read_asked};
 use crate::asked::GuardAsked;
-use crate::frame_node::{answer_one, answer_request, memory, read_asked};
 use crate::frame_requests::halves;
 use crate::gathered::Gathered;
+use crate::job::Form;
 use framing::frames::{FrameAnswer, count_frames, split_frame};
+use framing::lines::Answer;
 use guard::{Guard, Request};
 use std::alloc::Global;
 use text::is_word;
@@ -69,7 +72,7 @@ fn put_reply(
     } else if !answers.make_room(sure, others) {
         answers.put_short("memory".as_bytes(), others);
     } else {
-        let answer = answer_request(alloc, guard, asked);
+        let answer = answer_request(alloc, Form::Frames, guard, asked);
         answers.put(answer.as_bytes(), others);
     }
 }
@@ -81,7 +84,7 @@ fn put_answer(alloc: Global, guard: &mut Guard, frame: &[u8], answers: &mut Gath
         × (gathered_bytes answers.new ≡ gathered_bytes answers.old ++ framed told) × IsShort told }
     ensures room { HasPlaceFor answers.new others }
 {
-    match read_asked(alloc, frame) {
+    match read_asked(alloc, Form::Frames, frame) {
         Ok(asked) => put_reply(alloc, guard, asked, answers, others),
         Err(answer) => answers.put_short(answer.as_bytes(), others),
     }
@@ -111,6 +114,17 @@ fn answer_each(
     answers
 }
 
+/// The bytes of an answer, as those of a frame.
+fn frame_of(answer: Answer) -> FrameAnswer
+    ensures { bytes_of result ≡ text_of answer }
+{
+    match answer {
+        Answer::Fixed(text) => FrameAnswer::Fixed(text.as_bytes()),
+        Answer::Short(text) => FrameAnswer::Short(text),
+        Answer::Made(text) => FrameAnswer::Made(text),
+    }
+}
+
 /// Answers the frames in the bytes, by frames; where they are no frames or too many, or there is no room for as many short answers, by one
 /// that says so, and then none is carried out.
 fn answer_many(alloc: Global, guard: &mut Guard, bytes: &[u8]) -> FrameAnswer
@@ -128,7 +142,7 @@ fn answer_many(alloc: Global, guard: &mut Guard, bytes: &[u8]) -> FrameAnswer
             let answers = answer_each(alloc, guard, bytes, count, answers);
             FrameAnswer::Made(answers.into_bytes())
         }
-        Err(_) => memory(),
+        Err(_) => frame_of(memory(Form::Frames)),
     }
 }
 
@@ -144,6 +158,6 @@ pub fn answer_frame(alloc: Global, guard: &mut Guard, frame: &[u8]) -> FrameAnsw
 {
     match frames_in(frame) {
         Some(frames) => answer_many(alloc, guard, frames),
-        None => answer_one(alloc, guard, frame),
+        None => frame_of(answer_one(alloc, Form::Frames, guard, frame)),
     }
 }

@@ -1,51 +1,21 @@
 //! A guarded replica that answers lines, and frames.
 
-ghost use Rattle.std.specs.Prelude.{◌≡◌, ◌⊎◌, IfOk, codes};
+ghost use Rattle.std.specs.Prelude.{◌≡◌, IfOk};
 ghost use Rattle.replica.specs.Parts.{empty_replica};
 ghost use Rattle.guard.specs.Data.{fresh_guard};
 ghost use Rattle.framing.specs.AnswerText.{text_of};
-ghost use Rattle.node_stream.specs.Answering.{AnswersAsked, IsAnswer, by_lines};
-ghost use Rattle.node_stream.specs.Asking.{IsInside};
-ghost use Rattle.node_stream.specs.GuardTelling.{guard_line, NeedsMemory};
+ghost use Rattle.node_stream.specs.Answering.{IsAnswer};
 
-use crate::asked::{GuardAsked, Window};
-use crate::faults::LineError;
-use crate::guard_answers::answer;
-use crate::guard_requests::read_request;
+use crate::answering::answer_one;
 use crate::job::Form;
 use crate::many::answer_frame;
-use crate::wording::fault as fault_answer;
 use framing::frames::{FrameAnswer, FrameMachine};
 use framing::lines::{Answer, LineMachine};
-use guard::{Guard, Reply};
+use guard::Guard;
 use redo_core::Roster;
 use replica::Replica;
 use std::alloc::{AllocError, Global};
 use std::marker::Model;
-
-/// The answer where memory ran out.
-const MEMORY: &str = "memory\n";
-
-/// The answer line of a reply, or where there is no memory for it, the one that says so.
-fn answer_reply(alloc: Global, window: Window, reply: &Reply) -> Answer
-    requires { IsInside window }
-    ensures { (text_of result ≡ guard_line window reply.now) ⊎ ((text_of result ≡ codes "memory\n") × NeedsMemory reply.now) }
-{
-    match answer(alloc, window, reply) {
-        Ok(answer) => answer,
-        Err(_) => Answer::Fixed(MEMORY),
-    }
-}
-
-/// Carries out a request, and answers with the reply.
-fn answer_request(alloc: Global, guard: &mut Guard, asked: GuardAsked) -> Answer
-    requires { IsInside asked.window }
-    ensures { AnswersAsked by_lines (Ok asked) guard.old (text_of result) guard.new }
-{
-    let window = asked.window;
-    let reply = guard.step(asked.request);
-    answer_reply(alloc, window, &reply)
-}
 
 /// Answers a request line, which is given without its LF, by a line: that of the reply where it encodes a request, else why it encodes
 /// none, and then nothing has changed.
@@ -55,11 +25,7 @@ fn answer_request(alloc: Global, guard: &mut Guard, asked: GuardAsked) -> Answer
 pub fn answer_line(alloc: Global, guard: &mut Guard, line: &[u8]) -> Answer
     ensures { IsAnswer guard.old line.now (text_of result) guard.new }
 {
-    match read_request(alloc, Form::Lines, line) {
-        Ok(asked) => answer_request(alloc, guard, asked),
-        Err(LineError::Fault(fault)) => fault_answer(fault),
-        Err(LineError::Memory) => Answer::Fixed(MEMORY),
-    }
+    answer_one(alloc, Form::Lines, guard, line)
 }
 
 /// A guarded replica that answers lines and frames, with answers in memory of this allocator.

@@ -9,16 +9,8 @@ ghost use Rattle.node_stream.specs.Reading.{piece_form, stage_form, next_form, n
 use crate::asked::{Asked, Window};
 use redo_core::{Key, MAX_NUMBER, MAX_READERS, Roster};
 use replica::Request;
+use text::limits::{LONG, PAGE, SHORT};
 use text::{is_word, read_numbers};
-
-/// An epoch or a page.
-pub const SHORT: u64 = 65535;
-
-/// The index of a piece, a number of pieces, or a number of bytes in a message.
-pub const LONG: u64 = 4294967295;
-
-/// The bytes of a page.
-const PAGE: u64 = 4096;
 
 /// The request that is a word alone.
 #[tactic(auto, unfolding(crate::specs::Reading::lone_word))]

@@ -7,6 +7,7 @@ use crate::node::Node;
 use crate::stream::{serve, serve_frames};
 use framing::Named;
 use framing::devices::{RunFault, Watched};
+use framing::statuses::{BAD, DEVICE, MEMORY};
 use redo_core::Roster;
 use std::alloc::{AllocError, Global};
 use std::process::ExitCode;
@@ -16,19 +17,11 @@ use std::{env, io};
 /// The program's name, whatever path it was called by.
 const NAME: &[u8] = b"fleet-node";
 
-/// A bad command line.
-const BAD: u8 = 2;
-
-/// The output of the help failed.
-const DEVICE: u8 = 4;
-
-const MEMORY: u8 = 5;
-
-/// The most bytes of a line or of a frame: enough for the digits of 8,000 pages.
-const LIMIT: usize = 67_108_864;
+/// The most bytes of a line or of a frame, and of the answers in one frame: enough for the digits of 8,000 pages.
+pub const LIMIT: usize = 67_108_864;
 
 /// The images of pages that the cache keeps at most.
-const PAGES: usize = 64;
+pub const PAGES: usize = 64;
 
 /// Says why on standard error, and gives the status.
 fn failed(rt: &impl Eprint, why: &str, status: u8) -> ExitCode {

@@ -2,70 +2,20 @@
 
 ghost use Rattle.std.specs.Prelude.{◌≡◌, ◌∷◌, [], map, IfOk, IfSome};
 ghost use Rattle.node_stream.specs.Asking.{IsInside};
-ghost use Rattle.node_stream.specs.Reading.{Gives, formed as formed_of, take_line, answer_line, within_line, add_line, absorb_line};
-ghost use Rattle.node_stream.specs.Reading.{field_line, fields_line, words_line, request_of};
+ghost use Rattle.node_stream.specs.Reading.{Gives, formed as formed_of, field_line, fields_line, words_line, request_of};
 
 use crate::asked::Asked;
 use crate::faults::{LineError, LineFault};
-use crate::numbered::{LONG, numbers, word};
-use crate::values::{delta, fact, piece, summary};
-use replica::Request;
+use crate::fielded::{absorb, add, answer, answer_within, take};
+use crate::job::Form;
+use crate::numbered::{numbers, word};
 use std::alloc::Global;
-use text::{first_parts, is_word, read_number};
+use text::{first_parts, is_word};
 
-#[tactic(auto, unfolding(crate::specs::Reading::take_line))]
-fn take(alloc: Global, digits: &[u8]) -> Result<Asked, LineError>
-    ensures asks { Gives (λ x. x) result (take_line digits.now) }
-    ensures inside { IfOk result (λ a. IsInside a.window) }
-{
-    let fact = fact(alloc, digits)?;
-    Ok(Asked::new(Request::Take { fact }))
-}
-
-#[tactic(auto, unfolding(crate::specs::Reading::answer_line))]
-fn answer(alloc: Global, digits: &[u8]) -> Result<Asked, LineError>
-    ensures asks { Gives (λ x. x) result (answer_line digits.now) }
-    ensures inside { IfOk result (λ a. IsInside a.window) }
-{
-    let summary = summary(alloc, digits)?;
-    Ok(Asked::new(Request::Answer { summary }))
-}
-
-#[tactic(auto, unfolding(crate::specs::Reading::within_line))]
-fn answer_within(alloc: Global, digits: &[u8], limit: &[u8]) -> Result<Asked, LineError>
-    ensures asks { Gives (λ x. x) result (within_line digits.now limit.now) }
-    ensures inside { IfOk result (λ a. IsInside a.window) }
-{
-    let Some(most) = read_number(limit, LONG) else {
-        return Err(LineError::Fault(LineFault::Form));
-    };
-    let summary = summary(alloc, digits)?;
-    Ok(Asked::new(Request::AnswerWithin { summary, most }))
-}
-
-#[tactic(auto, unfolding(crate::specs::Reading::add_line))]
-fn add(alloc: Global, digits: &[u8]) -> Result<Asked, LineError>
-    ensures asks { Gives (λ x. x) result (add_line digits.now) }
-    ensures inside { IfOk result (λ a. IsInside a.window) }
-{
-    let piece = piece(alloc, digits)?;
-    Ok(Asked::new(Request::Add { piece }))
-}
-
-#[tactic(auto, unfolding(crate::specs::Reading::absorb_line))]
-fn absorb(alloc: Global, shown: &[u8], answered: &[u8]) -> Result<Asked, LineError>
-    ensures asks { Gives (λ x. x) result (absorb_line shown.now answered.now) }
-    ensures inside { IfOk result (λ a. IsInside a.window) }
-{
-    let summary = summary(alloc, shown)?;
-    let delta = delta(alloc, answered)?;
-    Ok(Asked::new(Request::Absorb { summary, delta }))
-}
-
-fn formed(asked: Option<Asked>) -> Result<Asked, LineError>
-    requires { IfSome asked (λ a. IsInside a.window) }
+/// What has the form of a request.
+pub fn formed<T: Drop>(asked: Option<T>) -> Result<T, LineError>
     ensures asks { Gives (λ x. x) result (formed_of asked) }
-    ensures inside { IfOk result (λ a. IsInside a.window) }
+    ensures same { IfOk result (λ a. asked ≡ Some a) }
 {
     match asked {
         Some(asked) => Ok(asked),
@@ -80,11 +30,11 @@ fn with_field(alloc: Global, words: &[&[u8]], word: &[u8], field: &[u8]) -> Resu
     ensures inside { IfOk result (λ a. IsInside a.window) }
 {
     if is_word(word, b"take".as_slice()) {
-        take(alloc, field)
+        take(alloc, Form::Lines, field)
     } else if is_word(word, b"answer".as_slice()) {
-        answer(alloc, field)
+        answer(alloc, Form::Lines, field)
     } else if is_word(word, b"add".as_slice()) {
-        add(alloc, field)
+        add(alloc, Form::Lines, field)
     } else {
         formed(numbers(words))
     }
@@ -103,9 +53,9 @@ fn with_fields(
     ensures inside { IfOk result (λ a. IsInside a.window) }
 {
     if is_word(word, b"absorb".as_slice()) {
-        absorb(alloc, field, next)
+        absorb(alloc, Form::Lines, field, next)
     } else if is_word(word, b"answer".as_slice()) {
-        answer_within(alloc, field, next)
+        answer_within(alloc, Form::Lines, next, field)
     } else {
         formed(numbers(words))
     }

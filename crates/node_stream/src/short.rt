@@ -1,12 +1,10 @@
-//! Short answers: words and numbers, which take no memory.
+//! Short texts: words and numbers, which take no memory.
 
-ghost use Rattle.std.specs.Prelude.{◌≡◌, ◌++◌, ◌+◌, ◌*◌, ◌≤◌, ◌<◌, codes, length};
+ghost use Rattle.std.specs.Prelude.{◌≡◌, ◌++◌, ◌+◌, ◌*◌, ◌≤◌, [], ◌∷◌, codes, length};
 ghost use Rattle.std.specs.Fmt.{decimal};
-ghost use Rattle.framing.specs.AnswerText.{text_of};
-ghost use Rattle.node_stream.specs.GuardTelling.{numbers_behind};
+ghost use Rattle.node_stream.specs.Telling.{numbers_behind, numbered};
 
 use framing::Short;
-use framing::lines::Answer;
 use itoa::Buffer;
 
 /// Appends bytes for which there is room.
@@ -40,23 +38,27 @@ pub fn put_numbers(text: &mut Short, numbers: &[u64])
     }
 }
 
-/// How many pieces the kept snapshot has, after what is in the text.
-pub fn frozen(mut text: Short, pieces: u32) -> Short
-    requires { length text.items ≤ 45 }
-    ensures words { result.items ≡ text.items ++ (codes "frozen " ++ decimal pieces) }
-    ensures few { length result.items ≤ length text.items + 17 }
+/// Words, and numbers after them.
+pub fn worded(words: &str, numbers: &[u64]) -> Short
+    requires { length words.now + 21 * length numbers.now ≤ 256 }
+    ensures text { result.items ≡ numbered words.now numbers.now }
+    ensures few { length result.items ≤ length words.now + 21 * length numbers.now }
 {
-    let mut buffer = Buffer::new();
-    put(&mut text, "frozen ".as_bytes());
-    put(&mut text, buffer.format(pieces).as_bytes());
+    let mut text = Short::new();
+    put(&mut text, words.as_bytes());
+    put_numbers(&mut text, numbers);
     text
 }
 
-/// A text as a line, with its LF.
-pub fn ended(mut text: Short) -> Answer
-    requires { length text.items < 256 }
-    ensures { text_of result ≡ text.items ++ codes "\n" }
+/// Words, and a number of ten digits at most after them.
+pub fn counted(words: &str, number: u32) -> Short
+    requires { length words.now ≤ 100 }
+    ensures text { result.items ≡ numbered words.now (number ∷ []) }
+    ensures few { length result.items ≤ length words.now + 11 }
 {
-    put(&mut text, "\n".as_bytes());
-    Answer::Short(text)
+    let mut text = worded(words, &[]);
+    let mut buffer = Buffer::new();
+    put(&mut text, " ".as_bytes());
+    put(&mut text, buffer.format(number).as_bytes());
+    text
 }

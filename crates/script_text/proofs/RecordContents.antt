@@ -110,9 +110,6 @@ fill_is text place digits offset len e star = colon text place digits e
 
 -- ---- too many patches are those of no record
 
-no_fact : (o : Option ShapeFault) (f : Fact) → (o ≡ None → ⊥) → unless o f ≡ None
-no_fact o f h = search rules
-
 many_patches : (r : RecordData) → max_patches < length r.patches → shaped (Record r) ≡ None
 unfolding shaped
 many_patches r lt = search rules
@@ -124,9 +121,6 @@ no_record head init o fit = search (rules, many_patches)
 
 pub no_dash : (text front : List ℕ) (rest : List (List ℕ)) → parts_at 44 text ≡ front ∷ rest → 0 < length rest → bytes_eq text (codes "-") ≡ false
 no_dash text front rest e some = search rules
-
-of_patches : (head : RecordHead) (init : Bool) (o : Option (List Patch)) → record_of_contents head (o >>= (λ ps. here (contents init ps))) ≡ record_of_patches head init o
-of_patches head init o = search rules
 
 pub anew_with : (head : RecordHead) (text front behind : List ℕ) → parts_at 44 text ≡ front ∷ parts_at 44 behind → bytes_eq front (codes "init") ≡ true
     → record_of_contents head (contents_of text) ≡ record_of_patches head true (each_patch (parts_at 44 behind))

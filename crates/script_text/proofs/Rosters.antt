@@ -9,7 +9,7 @@ use Rattle.script_steps.specs.declared.steps.Step.{Step}
 use Rattle.text.specs.Parts.{parts_at}
 use Rattle.script_text.specs.FactLine.{fact_line, fact_of}
 use Rattle.script_text.specs.StepLine.{IsInRange}
-use Rattle.script_text.specs.Script.{ScriptData, Rostered, rostered, within, roster_in_line, lines_from, script_from, Opening, opening_with, opening_of, below, opened}
+use Rattle.script_text.specs.Script.{ScriptData, Rostered, rostered, within, roster_in_line, lines_from, script_from, Preamble, opening_with, opening_of, below, opened}
 use Rattle.script_text.specs.Laws.{ScriptsAreEncoded, LogsAreEncoded}
 use Rattle.text.specs.Wording.{worded}
 use Rattle.script_text.specs.Encoded.{EncodesFact, EncodesStep, EncodesRoster, IsRostered, AreFacts, AsksSteps}
@@ -109,15 +109,15 @@ opening_last last = refl
 
 pub opened_plain : {A : Type 0} (read : ℕ → List (List ℕ) → Result A ℕ) (line : List ℕ) (rest : List (List ℕ)) → roster_in_line line ≡ None
     → opened read (line ∷ rest) ≡ within (rostered 1) (read 1 (line ∷ rest))
-opened_plain read line rest e = ap (λ (o : Opening). below read o (line ∷ rest)) (opening_plain line rest e)
+opened_plain read line rest e = ap (λ (o : Preamble). below read o (line ∷ rest)) (opening_plain line rest e)
 
 pub opened_named : {A : Type 0} (read : ℕ → List (List ℕ) → Result A ℕ) (line : List ℕ) (rest : List (List ℕ)) (roster : ℕ) → 0 < length rest
     → roster_in_line line ≡ Some roster
     → opened read (line ∷ rest) ≡ within (rostered roster) (read 2 rest)
-opened_named read line rest roster some e = ap (λ (o : Opening). below read o (line ∷ rest)) (opening_named line rest roster some e)
+opened_named read line rest roster some e = ap (λ (o : Preamble). below read o (line ∷ rest)) (opening_named line rest roster some e)
 
 pub opened_last : {A : Type 0} (read : ℕ → List (List ℕ) → Result A ℕ) (last : List ℕ) → opened read (last ∷ []) ≡ within (rostered 1) (read 1 (last ∷ []))
-opened_last read last = ap (λ (o : Opening). below read o (last ∷ [])) (opening_last last)
+opened_last read last = ap (λ (o : Preamble). below read o (last ∷ [])) (opening_last last)
 
 -- what a reader reads is read with no line of a roster
 pub opened_read : {A : Type 0} (Is : List (List ℕ) → A → Type 0) (read : ℕ → List (List ℕ) → Result A ℕ) → Reader Is read → (parts : List (List ℕ)) (x : A)

@@ -2,16 +2,16 @@
 use Rattle.std.specs.Prelude.{◌≡◌, ℕ, List, Result, Ok, Err}
 use Rattle.redo_core.specs.declared.facts.Fact.{Fact}
 use Rattle.script_text.specs.Script.{ScriptData, Rostered, rostered}
-use Rattle.script_text.specs.declared.script.Asked.{Asked}
-use Rattle.script_text.specs.declared.script.Log.{Log}
+use Rattle.script_text.specs.declared.script.ScriptBody.{ScriptBody}
+use Rattle.script_text.specs.declared.script.FactLog.{FactLog}
 use Rattle.script_text.specs.declared.script.Script.{Script}
 use Rattle.script_text.specs.declared.script.ScriptError.{ScriptError}
 use Rattle.script_text.specs.declared.script.ScriptError.TheVariants.{Memory, BadLine}
 
-abbrev pub log_data : Log → Rostered (List Fact)
+abbrev pub log_data : FactLog → Rostered (List Fact)
 log_data l = rostered l.roster l.facts.items
 
-abbrev pub asked_data : Asked → ScriptData
+abbrev pub asked_data : ScriptBody → ScriptData
 asked_data a = record { facts = a.facts.items; nodes = a.nodes; steps = a.steps.items }
 
 abbrev pub script_data : Script → Rostered ScriptData

@@ -94,26 +94,26 @@ script_from count at (line ∷ rest) =
     else or_bad at (fact_of line) (λ f. within (with_fact f) (script_from (count + 1) (at + 1) rest))
 
 -- the roster of a text, and how many lines name it
-pub record Opening : Type 0 where
+pub record Preamble : Type 0 where
   pub roster : ℕ
   pub lines : ℕ
 
-abbrev pub opening_with : ℕ → ℕ → Opening
+abbrev pub opening_with : ℕ → ℕ → Preamble
 opening_with roster lines = record { roster = roster; lines = lines }
 
 -- the roster that the first line names, or else the roster 1
-abbrev pub opening_by : Option ℕ → Opening
+abbrev pub opening_by : Option ℕ → Preamble
 opening_by (Some roster) = opening_with roster 1
 opening_by None = opening_with 1 0
 
 -- a line that is not ended names none
-unfoldable pub opening_of : List (List ℕ) → Opening
+unfoldable pub opening_of : List (List ℕ) → Preamble
 opening_of [] = opening_with 1 0
 opening_of (last ∷ []) = opening_with 1 0
 opening_of (line ∷ next ∷ rest) = opening_by (roster_in_line line)
 
 -- what the lines below the opening say
-abbrev pub below : {A : Type 0} → (ℕ → List (List ℕ) → Result A ℕ) → Opening → List (List ℕ) → Result (Rostered A) ℕ
+abbrev pub below : {A : Type 0} → (ℕ → List (List ℕ) → Result A ℕ) → Preamble → List (List ℕ) → Result (Rostered A) ℕ
 below read o lines = within (rostered o.roster) (read (o.lines + 1) (drop o.lines lines))
 
 abbrev pub opened : {A : Type 0} → (ℕ → List (List ℕ) → Result A ℕ) → List (List ℕ) → Result (Rostered A) ℕ

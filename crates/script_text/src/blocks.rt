@@ -14,7 +14,9 @@ ghost use Rattle.script_text.specs.declared.reasons.TextReason.TheVariants.{Many
 
 use crate::opening::read_opening;
 use crate::reasons::TextReason;
-use crate::script::{Asked, Log, MOST, Script, ScriptError, after_go, facts, script_lines};
+use crate::script::{
+    FactLog, MOST, Script, ScriptBody, ScriptError, after_go, facts, script_lines,
+};
 use rayon::{current_num_threads, join};
 use redo_core::Fact;
 use std::alloc::Global;
@@ -131,14 +133,14 @@ pub fn read_facts_by<R: Threads + Sync>(
     rt: &R,
     alloc: Global,
     text: &[u8],
-) -> Result<Log, ScriptError>
+) -> Result<FactLog, ScriptError>
     ensures log { Gives log_data result (facts_of text.now) }
     ensures reason { IfErr result (IsExplained (ExplainsLog text.now)) }
 {
     let opening = read_opening(text);
     let threads = threads_for(rt, opening.rest);
     let facts = facts_in_blocks(rt, alloc, opening.rest, threads, opening.lines + 1)?;
-    Ok(Log {
+    Ok(FactLog {
         roster: opening.roster,
         facts,
     })
@@ -183,7 +185,7 @@ fn script_in_blocks<R: Threads + Sync>(
     alloc: Global,
     text: &[u8],
     at: usize,
-) -> Result<Asked, ScriptError>
+) -> Result<ScriptBody, ScriptError>
     requires { at ≤ 2 }
     ensures asked { Gives asked_data result (script_from 0 at (parts_at 10 text.now)) }
     ensures reason { IfErr result (IsExplained (IsScriptReason 0 at (parts_at 10 text.now))) }
@@ -214,7 +216,7 @@ pub fn read_script_by<R: Threads + Sync>(
     ensures reason { IfErr result (IsExplained (ExplainsScript text.now)) }
 {
     let opening = read_opening(text);
-    let Asked {
+    let ScriptBody {
         facts,
         nodes,
         steps,

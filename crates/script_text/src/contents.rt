@@ -11,11 +11,11 @@ ghost use Rattle.script_text.specs.FactReasons.{IsShape, fault_with, IsPatchesRe
 ghost use Rattle.script_text.specs.LineReasons.{IfBad};
 
 use crate::field_reasons::count_parts;
-use crate::limits::{PAGE, SHORT};
 use crate::patch_reasons::patch_fault;
 use crate::reasons::{FactError, LineReason};
 use redo_core::{Fact, MAX_PATCHES, Patch, Record, RecordFault, RecordHead, Write};
 use std::alloc::{AllocError, Global};
+use text::limits::{PAGE, SHORT};
 use text::{decoded, first_part, is_word, number_before, put_bytes, read_number};
 
 /// So many bytes stand in a write itself, with no memory of their own.
@@ -253,7 +253,7 @@ fn of_word(alloc: Global, head: RecordHead, text: &[u8]) -> Result<Fact, FactErr
 
 /// The record of these numbers and contents: a dash for no patches, and else patches between commas, after the word `init` or without
 /// it. Or why the contents, or the record's shape, are wrong.
-pub fn record_of(alloc: Global, head: RecordHead, text: &[u8]) -> Result<Fact, FactError>
+pub(crate) fn record_of(alloc: Global, head: RecordHead, text: &[u8]) -> Result<Fact, FactError>
     ensures fact { IfOk result (λ f. record_of_contents head (contents_of text.now) ≡ Some f) }
     ensures reason { IfErr result (IfBad (IsBodyReason head text.now)) }
 {

@@ -12,10 +12,10 @@ ghost use Rattle.script_text.specs.LineReasons.{IfBad};
 use crate::contents::record_of;
 use crate::field_reasons::{count_parts, wrong_field};
 use crate::forms::three;
-use crate::limits::SHORT;
 use crate::reasons::{FactError, LineReason};
 use redo_core::{Advance, Cut, Fact, MAX_NUMBER, MAX_READERS, RecordHead};
 use std::alloc::{AllocError, Global};
+use text::limits::SHORT;
 use text::{field, first_part, is_word, three_fields, two_fields};
 
 /// The numbers of the fields behind `rec`, and the text behind them, which has the contents where it is one field.

@@ -48,7 +48,7 @@ fn number_fault(word: &[u8], limit: u64) -> NumberFault
 
 /// How many parts the text has between separators.
 #[tactic(auto, using(crate::proofs::Faults::many_parts))]
-pub fn count_parts(text: &[u8], separator: u8) -> usize
+pub(crate) fn count_parts(text: &[u8], separator: u8) -> usize
     ensures { result ≡ length (parts_at separator text.now) }
 {
     let mut count = 1;
@@ -72,7 +72,7 @@ fn next_field(text: &[u8]) -> (&[u8], &[u8])
 }
 
 /// The first field that is no number up to its limit, where one is.
-pub fn wrong_field(limits: &[u64], text: &[u8]) -> LineReason
+pub(crate) fn wrong_field(limits: &[u64], text: &[u8]) -> LineReason
     requires limits { All (λ limit. limit < 2 ^ 60) limits.now }
     requires wrong { HasWrongField limits.now (parts_at 32 text.now) }
     ensures { IsWrongField limits.now (parts_at 32 text.now) result }
@@ -93,7 +93,7 @@ pub fn wrong_field(limits: &[u64], text: &[u8]) -> LineReason
 }
 
 /// Why the fields are not as many numbers as there are limits, each at most its limit: they are more or fewer, or one is wrong.
-pub fn fields_reason(limits: &[u64], fields: Option<&[u8]>) -> LineReason
+pub(crate) fn fields_reason(limits: &[u64], fields: Option<&[u8]>) -> LineReason
     requires limits { All (λ limit. limit < 2 ^ 60) limits.now }
     requires none { numbers_of limits.now (fields_in fields) ≡ None }
     ensures { IsFieldReason limits.now (fields_in fields.entry) result }

@@ -11,7 +11,7 @@ use text::{last_field, three_fields, two_fields};
 
 /// The number of the one field, if it is at most `limit`.
 #[inline]
-pub fn one(fields: Option<&[u8]>, limit: u64) -> Result<u64, LineReason>
+pub(crate) fn one(fields: Option<&[u8]>, limit: u64) -> Result<u64, LineReason>
     requires { limit < 2 ^ 60 }
     ensures value { IfOk result (λ n. numbers_of (limit ∷ []) (fields_in fields.entry) ≡ Some (n ∷ [])) }
     ensures bound { IfOk result (λ n. n ≤ limit) }
@@ -28,7 +28,7 @@ pub fn one(fields: Option<&[u8]>, limit: u64) -> Result<u64, LineReason>
 
 /// The numbers of two fields, each at most its limit.
 #[inline]
-pub fn two(fields: Option<&[u8]>, first: u64, second: u64) -> Result<[u64; 2], LineReason>
+pub(crate) fn two(fields: Option<&[u8]>, first: u64, second: u64) -> Result<[u64; 2], LineReason>
     requires first { first < 2 ^ 60 }
     requires second { second < 2 ^ 60 }
     ensures value { IfOk result (λ ns. numbers_of (first ∷ second ∷ []) (fields_in fields.entry) ≡ Some ns) }
@@ -46,7 +46,7 @@ pub fn two(fields: Option<&[u8]>, first: u64, second: u64) -> Result<[u64; 2], L
 
 /// The numbers of three fields, each at most its limit.
 #[inline]
-pub fn three(
+pub(crate) fn three(
     fields: Option<&[u8]>,
     first: u64,
     second: u64,

@@ -15,7 +15,6 @@ mod fact_line;
 mod field_reasons;
 mod forms;
 mod laws;
-mod limits;
 mod opening;
 mod patch_reasons;
 mod reasons;
@@ -29,4 +28,4 @@ pub use laws::{
     bad_lines_are_least, lines_are_encoded, reasons_are_of_bad_lines, scripts_are_encoded,
 };
 pub use reasons::{FactError, LineReason, NumberFault, PatchFault, TextReason};
-pub use script::{Log, Script, ScriptError, read_facts, read_script};
+pub use script::{FactLog, Script, ScriptError, read_facts, read_script};

@@ -10,7 +10,7 @@ use text::{first_part, is_word, last_field};
 
 /// The roster of a text, how many lines name it, one or none, and the text after it.
 #[derive(Drop)]
-pub struct Opening<'a> {
+pub struct Preamble<'a> {
     pub roster: Roster,
     pub lines: usize,
     pub rest: &'a [u8],
@@ -38,14 +38,14 @@ fn roster(line: &[u8]) -> Option<Roster>
 }
 
 /// The roster that the first line names, or else the roster 1. A line that is not ended names none.
-pub fn read_opening(text: &[u8]) -> Opening<'_>
+pub(crate) fn read_opening(text: &[u8]) -> Preamble<'_>
     ensures opens { opening_with result.roster result.lines ≡ opening_of (parts_at 10 text.now) }
     ensures some { result.lines ≤ 1 }
     ensures below { parts_at 10 result.rest.now ≡ drop result.lines (parts_at 10 text.now) }
 {
     if let Some((first, rest)) = first_part(text, b'\n') {
         if let Some(roster) = roster(first) {
-            return Opening {
+            return Preamble {
                 roster,
                 lines: 1,
                 rest,
@@ -53,7 +53,7 @@ pub fn read_opening(text: &[u8]) -> Opening<'_>
         }
     }
     let roster = Roster::new(1).unwrap();
-    Opening {
+    Preamble {
         roster,
         lines: 0,
         rest: text,

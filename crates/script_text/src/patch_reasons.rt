@@ -5,9 +5,9 @@ ghost use Rattle.text.specs.Parts.{parts_at};
 ghost use Rattle.script_text.specs.FactLine.{patch_of};
 ghost use Rattle.script_text.specs.PatchFaults.{IsPatchPlace, IsNoPatchPlace, IsPatchFault};
 
-use crate::limits::{PAGE, SHORT};
 use crate::reasons::PatchFault;
 use std::alloc::{AllocError, Global};
+use text::limits::{PAGE, SHORT};
 use text::{decoded, first_part, read_number};
 
 /// Whether the word is a place: an offset, or an offset and a length round a star.
@@ -34,7 +34,7 @@ fn round_colon(word: &[u8]) -> Option<(&[u8], &[u8])>
 }
 
 /// Why a word that is no patch is none.
-pub fn patch_fault(alloc: Global, word: &[u8]) -> Result<PatchFault, AllocError>
+pub(crate) fn patch_fault(alloc: Global, word: &[u8]) -> Result<PatchFault, AllocError>
     requires { patch_of word.now ≡ None }
     ensures { IfOk result (λ fault. IsPatchFault word.now fault) }
 {

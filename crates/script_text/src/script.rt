@@ -27,7 +27,7 @@ use text::{first_part, is_word};
 
 /// The facts of a log, in the order of their lines, and its roster.
 #[derive(Drop)]
-pub struct Log {
+pub struct FactLog {
     pub roster: Roster,
     pub facts: Vec<Fact>,
 }
@@ -43,7 +43,7 @@ pub struct Script {
 
 /// What a script says below its roster.
 #[derive(Drop)]
-pub struct Asked {
+pub struct ScriptBody {
     pub facts: Vec<Fact>,
     pub nodes: u16,
     pub steps: Vec<Step<usize>>,
@@ -74,7 +74,7 @@ impl<T: Drop> From<AllocFailed<T>> for ScriptError {
 }
 
 /// How many fact lines, and how many step lines, there may be.
-pub const MOST: usize = 1000000;
+pub(crate) const MOST: usize = 1000000;
 
 /// How many nodes there may be.
 const MOST_NODES: u64 = 64;
@@ -221,12 +221,12 @@ fn nodes_at(at: usize, line: &[u8]) -> Result<u16, ScriptError>
 }
 
 /// What follows the line `go`: the nodes and the steps.
-pub fn after_go(
+pub(crate) fn after_go(
     alloc: Global,
     text: &[u8],
     facts: Vec<Fact>,
     at: usize,
-) -> Result<Asked, ScriptError>
+) -> Result<ScriptBody, ScriptError>
     requires facts { length facts.items ≤ most }
     requires at { at ≤ most + 3 }
     ensures asked { Gives asked_data result (within (with_facts facts.items) (nodes_from (length facts.items) at (parts_at 10 text.now))) }
@@ -240,7 +240,7 @@ pub fn after_go(
         Err(error) => return Err(error),
     };
     let steps = steps(alloc, rest, facts.len(), at + 1)?;
-    Ok(Asked {
+    Ok(ScriptBody {
         facts,
         nodes,
         steps,
@@ -248,7 +248,7 @@ pub fn after_go(
 }
 
 /// Fact lines up to `go`, and what follows. The first has the number `at`.
-pub fn script_lines(alloc: Global, text: &[u8], at: usize) -> Result<Asked, ScriptError>
+pub(crate) fn script_lines(alloc: Global, text: &[u8], at: usize) -> Result<ScriptBody, ScriptError>
     requires { at ≤ 2 }
     ensures asked { Gives asked_data result (script_from 0 at (parts_at 10 text.now)) }
     ensures reason { IfErr result (IsExplained (IsScriptReason 0 at (parts_at 10 text.now))) }
@@ -276,7 +276,7 @@ pub fn script_lines(alloc: Global, text: &[u8], at: usize) -> Result<Asked, Scri
 }
 
 /// The facts of lines to the end of the text. The first line has the number `at`.
-pub fn facts(alloc: Global, text: &[u8], at: usize) -> Result<Vec<Fact>, ScriptError>
+pub(crate) fn facts(alloc: Global, text: &[u8], at: usize) -> Result<Vec<Fact>, ScriptError>
     requires { at ≤ 2 }
     ensures facts { Gives (λ v. v.items) result (lines_from fact_of 0 at (parts_at 10 text.now)) }
     ensures reason { IfErr result (IsExplained (IsReasonFrom ExplainsFact ManyFacts 0 at (parts_at 10 text.now))) }
@@ -315,7 +315,7 @@ pub fn read_script(alloc: Global, text: &[u8]) -> Result<Script, ScriptError>
     ensures reason { IfErr result (IsExplained (ExplainsScript text.now)) }
 {
     let opening = read_opening(text);
-    let Asked {
+    let ScriptBody {
         facts,
         nodes,
         steps,
@@ -331,13 +331,13 @@ pub fn read_script(alloc: Global, text: &[u8]) -> Result<Script, ScriptError>
 /// The log that the text encodes: a roster or none, and fact lines.
 ///
 /// Errors: as for `read_script`.
-pub fn read_facts(alloc: Global, text: &[u8]) -> Result<Log, ScriptError>
+pub fn read_facts(alloc: Global, text: &[u8]) -> Result<FactLog, ScriptError>
     ensures log { Gives log_data result (facts_of text.now) }
     ensures reason { IfErr result (IsExplained (ExplainsLog text.now)) }
 {
     let opening = read_opening(text);
     let facts = facts(alloc, opening.rest, opening.lines + 1)?;
-    Ok(Log {
+    Ok(FactLog {
         roster: opening.roster,
         facts,
     })

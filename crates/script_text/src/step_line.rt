@@ -12,10 +12,10 @@ ghost use Rattle.script_text.specs.FormReasons.{IsFormReason, IsReasonBy};
 
 use crate::field_reasons::fields_reason;
 use crate::forms::{one, two};
-use crate::limits::{MESSAGE, PAGE, SHORT};
 use crate::reasons::LineReason;
 use redo_core::MAX_NUMBER;
 use script_steps::Step;
+use text::limits::{LONG, PAGE, SHORT};
 use text::{field, first_part, is_word, three_fields};
 
 fn take(facts: usize, fields: Option<&[u8]>) -> Result<Step<usize>, LineReason>
@@ -161,7 +161,7 @@ fn answer(fields: Option<&[u8]>) -> Result<Step<usize>, LineReason>
     ensures step { IfOk result (λ s. made_by answer_form (fields_in fields.entry) ≡ Some s) }
     ensures reason { IfErr result (IsFormReason answer_form (fields_in fields.entry)) }
 {
-    let [node, message] = two(fields, SHORT, MESSAGE)?;
+    let [node, message] = two(fields, SHORT, LONG)?;
     Ok(Step::Answer {
         node: node as u16,
         message: message as usize,
@@ -172,7 +172,7 @@ fn absorb(fields: Option<&[u8]>) -> Result<Step<usize>, LineReason>
     ensures step { IfOk result (λ s. made_by absorb_form (fields_in fields.entry) ≡ Some s) }
     ensures reason { IfErr result (IsFormReason absorb_form (fields_in fields.entry)) }
 {
-    let [node, message] = two(fields, SHORT, MESSAGE)?;
+    let [node, message] = two(fields, SHORT, LONG)?;
     Ok(Step::Absorb {
         node: node as u16,
         message: message as usize,
@@ -248,7 +248,7 @@ fn behind_take(line: &[u8]) -> Option<&[u8]>
 
 /// The step of a line, for so many facts; or why it encodes none.
 #[tactic(auto, using(crate::proofs::Words::take_parts))]
-pub fn step(facts: usize, line: &[u8]) -> Result<Step<usize>, LineReason>
+pub(crate) fn step(facts: usize, line: &[u8]) -> Result<Step<usize>, LineReason>
     requires { facts ≤ most }
     ensures step { IfOk result (λ s. step_of facts line.now ≡ Some s) }
     ensures reason { IfErr result (IsReasonBy (step_forms facts) (parts_at 32 line.now)) }

@@ -1,9 +1,9 @@
 //! The parts of a text between separators: lines, fields, patches.
 
-ghost use Rattle.std.specs.Prelude.{bytes_eq, ◌≡◌, ◌↔◌, ◌<◌, ◌≤◌, ◌==◌, [], ◌∷◌, IfOk, IfSome, IfNone, IsTrue, drop, length, map, position};
+ghost use Rattle.std.specs.Prelude.{bytes_eq, ◌≡◌, ◌<◌, ◌≤◌, ◌==◌, [], ◌∷◌, IfOk, IfSome, IfNone, drop, length, map, position};
 ghost use Rattle.text.specs.Parts.{parts_at, first_parts, IsCutBehind};
 
-use memchr::{memchr, memchr2};
+use memchr::memchr;
 use std::alloc::{AllocError, Global};
 
 /// How many parts of a text are looked at: more than any line has.
@@ -54,13 +54,6 @@ pub fn split_after(text: &[u8], separator: u8, from: usize) -> Option<(&[u8], &[
         None => None,
         Some(at) => Some(text.split_at(from + at + 1)),
     }
-}
-
-/// Whether the text has neither separator, by one search for both.
-pub fn is_one_part(text: &[u8], separator: u8, other: u8) -> bool
-    ensures { IsTrue result ↔ (parts_at separator text.now ≡ text.now ∷ []) × (parts_at other text.now ≡ text.now ∷ []) }
-{
-    memchr2(separator, other, text).is_none()
 }
 
 /// Whether the text is that word.

@@ -9,14 +9,15 @@
 mod fields;
 mod hexed;
 mod laws;
+pub mod limits;
 mod number;
 mod wording;
 
-pub use fields::{first_part, first_parts, is_one_part, is_word, split_after};
+pub use fields::{first_part, first_parts, is_word, split_after};
 pub use hexed::{decoded, put_bytes};
 pub use laws::numbers_are_decimals;
 pub use number::{
-    field, first_field, last_field, number as read_number, number_before, numbers as read_numbers,
-    three_fields, two_fields,
+    field, last_field, number as read_number, number_before, numbers as read_numbers, three_fields,
+    two_fields,
 };
 pub use wording::{labelled, worded, worded_line};

@@ -101,7 +101,7 @@ pub fn number_before(text: &[u8], limit: u64) -> Option<(u64, &[u8])>
 /// The number of the field up to the first space, if it is at most `limit`; and the text after the space, where there is one.
 #[inline]
 #[tactic(auto, using(crate::proofs::Cursor::front_is_first))]
-pub fn first_field(text: &[u8], limit: u64) -> Option<(u64, Option<&[u8]>)>
+pub(crate) fn first_field(text: &[u8], limit: u64) -> Option<(u64, Option<&[u8]>)>
     requires { limit < 2 ^ 60 }
     ensures value { option_map (λ p. (p.0, fields_in p.1)) result ≡ first_of limit (parts_at 32 text.now) }
     ensures bound { IfSome result (λ p. p.0 ≤ limit) }

@@ -10,7 +10,8 @@ use Rattle.guard.specs.declared.replies.Reply.{Reply}
 use Rattle.volume.specs.declared.events.Event.TheVariants as event
 use Rattle.text.proofs.Numbers.{lacks_decimal, decimal_is_read}
 use Rattle.node_stream.specs.FrameReading.{under_limit}
-use Rattle.node_stream.specs.GuardTelling.{numbers_behind, guard_frame}
+use Rattle.node_stream.specs.GuardTelling.{guard_frame}
+use Rattle.node_stream.specs.Telling.{numbers_behind}
 use Rattle.node_stream.specs.declared.asked.Window.{Window}
 use Rattle.volume_stream.specs.Words.{followed}
 use Rattle.volume_stream.specs.EventFrames.{or_unknown, open_form, advance_form, failed_form, numbered_event, write_in, told_by, answered_by, node_before, answered_event, lone_event, event_words, event_in}

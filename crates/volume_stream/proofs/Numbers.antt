@@ -13,7 +13,7 @@ use Rattle.text.proofs.Numbers.{lacks_decimal, decimal_is_read}
 use Rattle.text.proofs.Forms.{AreWithin, numbers_apart}
 use Rattle.node_stream.specs.FrameReading.{halves}
 use Rattle.node_stream.specs.GuardReading.{max_wide, wide_before, wide_front}
-use Rattle.node_stream.specs.GuardTelling.{numbers_behind}
+use Rattle.node_stream.specs.Telling.{numbers_behind}
 use Rattle.volume_stream.specs.Words.{made_of}
 
 -- ---- a word, and what is behind it and a space

@@ -1,8 +1,7 @@
 -- An engine reads in the frame of a node's reply that reply, where it listens to it.
-use Rattle.std.proofs.Common.{◌≡◌, ℕ, ◌+◌, ◌-◌, ◌≤◌, Bool, true, false, eqb, List, [], ◌∷◌, ◌++◌, length, take, Option, Some, None, refl, sym, ap, ◌∙◌, append_assoc, length-append, arith}
+use Rattle.std.proofs.Common.{◌≡◌, ℕ, ◌+◌, ◌≤◌, Bool, true, false, eqb, List, [], ◌∷◌, ◌++◌, length, Option, Some, None, refl, sym, ap, ◌∙◌, append_assoc, length-append, arith}
 use Rattle.std.proofs.lemmas.Bool.{false≢true}
 use Rattle.std.proofs.lemmas.Fmt.{length-decimal-le}
-use Rattle.std.proofs.Math.Seq.{take-append_seam}
 use Rattle.std.specs.Prelude.{codes}
 use Rattle.std.specs.Fmt.{decimal}
 use Rattle.segment_core.specs.declared.answers.Front.{Front}
@@ -18,41 +17,26 @@ use Rattle.guard.specs.declared.replies.Reply.TheVariants as reply
 use Rattle.text.specs.Parts.{◌>>=◌}
 use Rattle.text.proofs.Forms.{AreWithin}
 use Rattle.text.proofs.Split.{lacks}
-use Rattle.node_stream.specs.FrameTelling.{unended, frame_of}
-use Rattle.node_stream.specs.Telling.{three_numbers}
+use Rattle.node_stream.specs.Telling.{numbers_behind, frame, frame_of}
 use Rattle.node_stream.specs.GuardReading.{max_wide, either_of}
-use Rattle.node_stream.specs.GuardTelling.{numbers_behind, pair_numbers, guard_numbers, member_number, status_numbers, heading, guard_frame}
+use Rattle.node_stream.specs.GuardTelling.{pair_numbers, guard_numbers, member_number, status_numbers, heading, guard_frame}
 use Rattle.node_stream.specs.declared.asked.Window.{Window}
-use Rattle.node_stream.proofs.Headed.{fits_whole}
-use Rattle.node_stream.proofs.Long.{frame_of_bytes}
+use Rattle.node_stream.proofs.Long.{value_of_bytes}
+use Rattle.node_stream.proofs.Rendered.{fits_whole}
 use Rattle.volume_stream.specs.Words.{made_of}
 use Rattle.volume_stream.specs.ReplyFrames.{status_form, status_with_form, fenced_form, fenced_with_form, stale_form, fresh_form, stranger_form, admitted_form, behind_form, accepted_form, front_form, status_reply, fenced_reply, short_reply, numbered_reply, lone_segment_reply, segment_words, segment_reply, under_birth, under_generation, headed_reply, lone_reply, reply_words, reply_in}
 use Rattle.volume_stream.specs.Carried.{AreWide, IsWireFront, IsWirePair, IsHeardSegment, RepliesAreRead}
 use Rattle.volume_stream.proofs.Numbers.{AreLimits, halves_at, no_halves, made, not_made, wide_front_at, in_a_row}
 use Rattle.volume_stream.proofs.Encoded.{summary_decoded, delta_decoded, summary_fits, delta_fits, cut_limits}
 
--- ---- lines without their ends
-
-unended_at : (xs : List ℕ) → unended (xs ++ 10 ∷ []) ≡ xs
-unended_at xs =
-    let all : length (xs ++ 10 ∷ []) - 1 ≡ length xs = omega (arith, length-append xs (10 ∷ [])) in
-    ap (λ (n : ℕ). take n (xs ++ 10 ∷ [])) all ∙ take-append_seam xs (10 ∷ [])
-
 -- ---- replies of a segment
-
-front_line : (a b c : ℕ) → three_numbers (codes "front ") a b c ≡ (codes "front" ++ numbers_behind (a ∷ b ∷ c ∷ [])) ++ 10 ∷ []
-front_line a b c = simp append_assoc
-
-front_text : (w : Window) (f : Front) → frame_of w (segment.Front f) ≡ codes "front" ++ numbers_behind (f.epoch ∷ f.complete ∷ f.min ∷ [])
-front_text w f =
-    ap unended (front_line f.epoch f.complete f.min) ∙ unended_at (codes "front" ++ numbers_behind (f.epoch ∷ f.complete ∷ f.min ∷ []))
 
 front_read : (w : Window) (f : Front) → IsWireFront f → segment_reply (frame_of w (segment.Front f)) ≡ Some (segment.Front f)
 unfolding segment_words
 front_read w f wire =
     let others : List ℕ = f.complete ∷ f.min ∷ [] in
     let rest : List ℕ = decimal f.epoch ++ numbers_behind others in
-    ap segment_reply (front_text w f) ∙ ap (segment_words (codes "front" ++ 32 ∷ rest)) (halves_at (codes "front") rest refl)
+    ap (segment_words (codes "front" ++ 32 ∷ rest)) (halves_at (codes "front") rest refl)
     ∙ made front_form f.epoch others (omega arith, (omega arith, (omega arith, tt))) (wire.0.0, (wire.0.1, (wire.1, tt))) (omega arith)
 
 not_long : (b : Bool) → b ≡ false → b ≡ true → ⊥
@@ -60,12 +44,12 @@ not_long b f t = false≢true (sym f ∙ t)
 
 summary_text : (w : Window) (s : SummaryData) → IsHeardSegment (segment.Summary s) → frame_of w (segment.Summary s) ≡ codes "summary" ++ 32 ∷ summary_bytes s
 summary_text w s heard =
-    frame_of_bytes (codes "summary") (summary_bytes s) (is_long_summary s) (not_long (is_long_summary s) (summary_fits s heard.0))
+    ap frame (value_of_bytes (codes "summary") (summary_bytes s) (is_long_summary s) (not_long (is_long_summary s) (summary_fits s heard.0)))
     ∙ fits_whole (codes "summary too long") (codes "summary" ++ 32 ∷ summary_bytes s) (omega (arith, heard.1))
 
 delta_text : (w : Window) (d : DeltaData) → IsHeardSegment (segment.Delta d) → frame_of w (segment.Delta d) ≡ codes "delta" ++ 32 ∷ delta_bytes d
 delta_text w d heard =
-    frame_of_bytes (codes "delta") (delta_bytes d) (is_long_delta d) (not_long (is_long_delta d) (delta_fits d heard.0))
+    ap frame (value_of_bytes (codes "delta") (delta_bytes d) (is_long_delta d) (not_long (is_long_delta d) (delta_fits d heard.0)))
     ∙ fits_whole (codes "delta too long") (codes "delta" ++ 32 ∷ delta_bytes d) (omega (arith, heard.1))
 
 segment_read : (w : Window) (r : SegmentReply) → IsHeardSegment r → segment_reply (frame_of w r) ≡ Some r
@@ -108,7 +92,7 @@ segment_len : (w : Window) (r : SegmentReply) → IsHeardSegment r → length (f
 segment_len w segment.Changed heard = omega arith
 segment_len w segment.Unchanged heard = omega arith
 segment_len w segment.Absorbed heard = omega arith
-segment_len w (segment.Front f) heard = omega (arith, ap length (front_text w f), front_len f heard)
+segment_len w (segment.Front f) heard = omega (arith, front_len f heard)
 segment_len w (segment.Summary s) heard = omega (arith, ap length (summary_text w s heard), heard.1)
 segment_len w (segment.Delta d) heard = omega (arith, ap length (delta_text w d heard), heard.1)
 segment_len w other heard = absurd heard
@@ -148,17 +132,9 @@ headed_read w generation birth own g b heard =
 
 -- ---- a word and numbers
 
-numbers_line : (word ns : List ℕ) (accepted : Option AcceptedCut)
-    → guard_numbers word ns accepted ≡ (word ++ numbers_behind (ns ++ pair_numbers accepted)) ++ 10 ∷ []
-numbers_line word ns accepted =
-    let end : List ℕ = 10 ∷ [] in
-    ap (λ (l : List ℕ). word ++ l)
-    (sym (append_assoc (numbers_behind ns) (numbers_behind (pair_numbers accepted)) end)
-    ∙ ap (λ (l : List ℕ). l ++ end) (in_a_row ns (pair_numbers accepted))) ∙ sym (append_assoc word (numbers_behind (ns ++ pair_numbers accepted)) end)
-
 numbers_text : (word ns : List ℕ) (accepted : Option AcceptedCut)
-    → unended (guard_numbers word ns accepted) ≡ word ++ numbers_behind (ns ++ pair_numbers accepted)
-numbers_text word ns accepted = ap unended (numbers_line word ns accepted) ∙ unended_at (word ++ numbers_behind (ns ++ pair_numbers accepted))
+    → frame (guard_numbers word ns accepted) ≡ word ++ numbers_behind (ns ++ pair_numbers accepted)
+numbers_text word ns accepted = ap (λ (l : List ℕ). word ++ l) (in_a_row ns (pair_numbers accepted))
 
 -- a reply of numbers by what its word and numbers say
 worded : (word : List ℕ) (n : ℕ) (ns : List ℕ) → lacks 32 word ≡ true → reply_in (word ++ numbers_behind (n ∷ ns))
@@ -229,24 +205,23 @@ replies_are_read w (reply.Fenced generation birth accepted) heard =
     ap reply_in (numbers_text (codes "fenced") (generation ∷ birth ∷ []) accepted)
     ∙ worded (codes "fenced") generation (birth ∷ pair_numbers accepted) refl ∙ fenced_read generation birth accepted heard.0 heard.1
 replies_are_read w (reply.Stale generation) heard =
-    ap reply_in (numbers_text (codes "stale") (generation ∷ []) None) ∙ worded (codes "stale") generation [] refl
+    worded (codes "stale") generation [] refl
     ∙ made stale_form generation [] (omega arith, tt) (heard, tt) (omega arith)
 replies_are_read w (reply.Fresh birth) heard =
-    ap reply_in (numbers_text (codes "fresh") (birth ∷ []) None) ∙ worded (codes "fresh") birth [] refl
+    worded (codes "fresh") birth [] refl
     ∙ made fresh_form birth [] (omega arith, tt) (heard, tt) (omega arith)
 replies_are_read w (reply.Headed generation birth own) heard = headed_read w generation birth own heard.0.0 heard.0.1 heard.1
 replies_are_read w (reply.Accepted generation birth epoch) heard =
-    ap reply_in (numbers_text (codes "accepted") (generation ∷ birth ∷ epoch ∷ []) None)
-    ∙ worded (codes "accepted") generation (birth ∷ epoch ∷ []) refl
+    worded (codes "accepted") generation (birth ∷ epoch ∷ []) refl
     ∙ made accepted_form generation (birth ∷ epoch ∷ []) (omega arith, (omega arith, (omega arith, tt))) (heard.0.0, (heard.0.1, (heard.1, tt))) (omega arith)
 replies_are_read w (reply.Admitted generation birth) heard =
-    ap reply_in (numbers_text (codes "admitted") (generation ∷ birth ∷ []) None) ∙ worded (codes "admitted") generation (birth ∷ []) refl
+    worded (codes "admitted") generation (birth ∷ []) refl
     ∙ made admitted_form generation (birth ∷ []) (omega arith, (omega arith, tt)) (heard.0, (heard.1, tt)) (omega arith)
 replies_are_read w reply.Member heard = ap (reply_words (codes "member")) (no_halves (codes "member") refl)
 replies_are_read w (reply.Stranger birth) heard =
-    ap reply_in (numbers_text (codes "stranger") (birth ∷ []) None) ∙ worded (codes "stranger") birth [] refl
+    worded (codes "stranger") birth [] refl
     ∙ made stranger_form birth [] (omega arith, tt) (heard, tt) (omega arith)
 replies_are_read w (reply.Behind epoch complete) heard =
-    ap reply_in (numbers_text (codes "behind") (epoch ∷ complete ∷ []) None) ∙ worded (codes "behind") epoch (complete ∷ []) refl
+    worded (codes "behind") epoch (complete ∷ []) refl
     ∙ made behind_form epoch (complete ∷ []) (omega arith, (omega arith, tt)) (heard.0, (heard.1, tt)) (omega arith)
 replies_are_read w other heard = absurd heard

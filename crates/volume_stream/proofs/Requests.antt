@@ -20,10 +20,11 @@ use Rattle.text.specs.Parts.{parts_at}
 use Rattle.text.specs.Fields.{made_by}
 use Rattle.text.proofs.Numbers.{lacks_decimal, decimal_is_read}
 use Rattle.node_stream.specs.Asking.{asked, guard_asked, under, plainly}
-use Rattle.node_stream.specs.FrameReading.{halves, split_by, sized, absorb_both, absorb_frame, halves_frame, request_in}
-use Rattle.node_stream.specs.Reading.{◌>>=◌, words_line, lone_word}
-use Rattle.node_stream.specs.GuardReading.{max_wide, fence_form, propose_form, admit_form, admit_with_form, admission_of, either_of, well_formed, under_generation, under_birth, under_text, lone_text, plain_text, guard_words, guard_request}
-use Rattle.node_stream.specs.GuardTelling.{numbers_behind, pair_numbers}
+use Rattle.node_stream.specs.FrameReading.{halves, split_by, sized, absorb_both, halves_frame, request_in}
+use Rattle.node_stream.specs.Reading.{◌>>=◌, formed, words_line, lone_word}
+use Rattle.node_stream.specs.GuardReading.{max_wide, fence_form, propose_form, admit_form, admit_with_form, admission_of, either_of, under_generation, under_birth, under_text, lone_text, plain_text, guard_words, guard_request}
+use Rattle.node_stream.specs.GuardTelling.{pair_numbers}
+use Rattle.node_stream.specs.Telling.{numbers_behind}
 use Rattle.node_stream.specs.declared.asked.Asked.{Asked}
 use Rattle.node_stream.specs.declared.asked.GuardAsked.{GuardAsked}
 use Rattle.node_stream.specs.declared.faults.LineFault.{LineFault}
@@ -70,7 +71,7 @@ absorbed_at shown answered few =
 
 absorb_read : (s : SummaryData) (d : DeltaData) → IsWireSummary s → IsWireDelta d → length (summary_bytes s) ≤ 4294967295
     → request_in (codes "absorb" ++ 32 ∷ absorb_text (summary_bytes s) (delta_bytes d)) ≡ Ok (asked (segment.Absorb s d))
-unfolding halves_frame absorb_frame
+unfolding halves_frame
 absorb_read s d ws wd few =
     let text : List ℕ = absorb_text (summary_bytes s) (delta_bytes d) in
     ap (halves_frame (codes "absorb" ++ 32 ∷ text)) (halves_at (codes "absorb") text refl)
@@ -130,7 +131,7 @@ unfolding guard_words
 fence_read generation le =
     let rest : List ℕ = decimal generation ++ numbers_behind [] in
     ap (guard_words stream.Frames (codes "fence" ++ 32 ∷ rest)) (halves_at (codes "fence") rest refl)
-    ∙ ap well_formed (made_at fence_form generation [] (omega arith, tt) (le, tt))
+    ∙ ap formed (made_at fence_form generation [] (omega arith, tt) (le, tt))
 
 propose_read : (generation birth : ℕ) (cut : CutData) → generation ≤ max_wide → birth ≤ max_wide → IsWireCut cut
     → guard_request stream.Frames (request_frame (guard.Propose generation birth cut)) ≡ Ok (guard_asked (guard.Propose generation birth cut))
@@ -140,7 +141,7 @@ propose_read generation birth cut g b wire =
     let others : List ℕ = birth ∷ cut.epoch ∷ cut.lo ∷ cut.hi ∷ [] in
     let rest : List ℕ = decimal generation ++ numbers_behind others in
     ap (guard_words stream.Frames (codes "propose" ++ 32 ∷ rest)) (halves_at (codes "propose") rest refl)
-    ∙ ap well_formed (made_at propose_form generation others (omega arith, (omega arith, (omega arith, (omega arith, (omega arith, tt)))))
+    ∙ ap formed (made_at propose_form generation others (omega arith, (omega arith, (omega arith, (omega arith, (omega arith, tt)))))
     (g, (b, (limits.epoch, (limits.lo, (limits.hi, tt)))))) ∙ rw wire.shape refl
 
 -- ---- admissions
@@ -153,7 +154,7 @@ abbrev four : ℕ → ℕ → ℕ → ℕ → List ℕ
 four a b c d = a ∷ b ∷ c ∷ d ∷ []
 
 admit_words : (rest : List ℕ)
-    → guard_request stream.Frames (codes "admit" ++ 32 ∷ rest) ≡ well_formed (either_of (made_by admit_form (parts_at 32 rest)) (made_by admit_with_form (parts_at 32 rest)))
+    → guard_request stream.Frames (codes "admit" ++ 32 ∷ rest) ≡ formed (either_of (made_by admit_form (parts_at 32 rest)) (made_by admit_with_form (parts_at 32 rest)))
 unfolding guard_words admission_of
 admit_words rest = ap (guard_words stream.Frames (codes "admit" ++ 32 ∷ rest)) (halves_at (codes "admit") rest refl)
 
@@ -164,7 +165,7 @@ admission_at generation birth epoch complete None carried =
     let others : List ℕ = birth ∷ epoch ∷ complete ∷ [] in
     let rest : List ℕ = decimal generation ++ numbers_behind others in
     ap (guard_request stream.Frames) (append-nil (codes "admit" ++ 32 ∷ rest)) ∙ admit_words rest
-    ∙ ap (λ (o : Option GuardAsked). well_formed (either_of o (made_by admit_with_form (parts_at 32 rest))))
+    ∙ ap (λ (o : Option GuardAsked). formed (either_of o (made_by admit_with_form (parts_at 32 rest))))
     (made_at admit_form generation others (omega arith, (omega arith, (omega arith, (omega arith, tt))))
     (carried.0.0, (carried.0.1, (carried.1.0, (carried.1.1, tt)))))
 admission_at generation birth epoch complete (Some pair) carried =
@@ -179,9 +180,9 @@ admission_at generation birth epoch complete (Some pair) carried =
     ap (guard_request stream.Frames)
     (append_assoc (codes "admit") (numbers_behind (four generation birth epoch complete)) (numbers_behind pairs)
     ∙ ap (λ (l : List ℕ). codes "admit" ++ l) (in_a_row (four generation birth epoch complete) pairs)) ∙ admit_words rest
-    ∙ ap (λ (o : Option GuardAsked). well_formed (either_of o (made_by admit_with_form (parts_at 32 rest))))
+    ∙ ap (λ (o : Option GuardAsked). formed (either_of o (made_by admit_with_form (parts_at 32 rest))))
     (made_none admit_form admit_with_form.limits generation others small within (λ e. omega (arith, e)))
-    ∙ ap well_formed (made_at admit_with_form generation others small within) ∙ rw carried.2.1.shape refl
+    ∙ ap formed (made_at admit_with_form generation others small within) ∙ rw carried.2.1.shape refl
 
 -- ---- any request
 

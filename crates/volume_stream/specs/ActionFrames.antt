@@ -6,7 +6,8 @@ use Rattle.volume.specs.declared.actions.Action.{Action}
 use Rattle.volume.specs.declared.actions.Action.TheVariants as action
 use Rattle.volume.specs.declared.actions.Fault.{Fault}
 use Rattle.volume.specs.declared.actions.Fault.TheVariants as fault
-use Rattle.volume_stream.specs.Words.{numbered, followed}
+use Rattle.volume_stream.specs.Words.{followed}
+use Rattle.node_stream.specs.Telling.{numbered}
 use Rattle.volume_stream.specs.RequestFrames.{request_frame}
 
 abbrev pub fault_frame : Fault → List ℕ

@@ -11,7 +11,8 @@ use Rattle.volume.specs.declared.events.Event.TheVariants as event
 use Rattle.node_stream.specs.GuardReading.{max_wide}
 use Rattle.node_stream.specs.GuardTelling.{guard_frame}
 use Rattle.node_stream.specs.declared.asked.Window.{Window}
-use Rattle.volume_stream.specs.Words.{numbered, followed}
+use Rattle.volume_stream.specs.Words.{followed}
+use Rattle.node_stream.specs.Telling.{numbered}
 use Rattle.volume_stream.specs.EventFrames.{said_by, event_in}
 use Rattle.volume_stream.specs.Carried.{IsHeardReply}
 use Rattle.volume_stream.specs.declared.heard.Heard.TheVariants as heard

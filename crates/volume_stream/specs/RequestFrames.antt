@@ -10,8 +10,9 @@ use Rattle.replica.specs.declared.requests.Request.TheVariants as segment
 use Rattle.guard.specs.declared.requests.Admission.{Admission}
 use Rattle.guard.specs.declared.requests.Request.{Request}
 use Rattle.guard.specs.declared.requests.Request.TheVariants as guard
-use Rattle.node_stream.specs.GuardTelling.{numbers_behind, pair_numbers}
-use Rattle.volume_stream.specs.Words.{numbered, followed}
+use Rattle.node_stream.specs.GuardTelling.{pair_numbers}
+use Rattle.volume_stream.specs.Words.{followed}
+use Rattle.node_stream.specs.Telling.{numbers_behind, numbered}
 
 -- what a node answers `bad request`: it stands for a request that no engine makes, and for a value that has no bytes
 abbrev pub no_request : List ℕ

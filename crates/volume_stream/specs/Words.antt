@@ -2,13 +2,9 @@
 use Rattle.std.specs.Prelude.{ℕ, List, [], ◌∷◌, ◌++◌, Option, None}
 use Rattle.text.specs.Parts.{first_parts}
 use Rattle.text.specs.Fields.{Form, made_by}
-use Rattle.node_stream.specs.GuardTelling.{numbers_behind}
+use Rattle.node_stream.specs.Telling.{numbered}
 
--- a word and numbers, each after a space
-abbrev pub numbered : List ℕ → List ℕ → List ℕ
-numbered word numbers = word ++ numbers_behind numbers
-
--- the same, and bytes after a space
+-- a word and numbers, each after a space, and bytes after another one
 abbrev pub followed : List ℕ → List ℕ → List ℕ → List ℕ
 followed word numbers bytes = numbered word numbers ++ (32 ∷ bytes)
 

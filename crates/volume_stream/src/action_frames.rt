@@ -15,7 +15,7 @@ use volume::{Action, Fault};
 const LONGEST: usize = 4_294_967_295;
 
 /// The frames of actions, one after another. It fails if memory runs out, or if they would have 2^32 bytes.
-pub fn actions_frame(alloc: Global, actions: &[Action]) -> Result<Vec<u8>, AllocError>
+pub(crate) fn actions_frame(alloc: Global, actions: &[Action]) -> Result<Vec<u8>, AllocError>
     ensures frames { IfOk result (λ v. v.items ≡ actions_frame actions.now) }
     ensures short { IfOk result (λ v. length v.items < 2 ^ 32) }
 {

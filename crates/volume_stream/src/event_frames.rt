@@ -14,7 +14,7 @@ use volume::Event;
 
 /// What the bytes of a frame say. It fails only if memory runs out.
 #[tactic(auto, unfolding(crate::specs::EventFrames::event_words))]
-pub fn read_event(alloc: Global, frame: &[u8]) -> Result<Heard, AllocError>
+pub(crate) fn read_event(alloc: Global, frame: &[u8]) -> Result<Heard, AllocError>
     ensures { IfOk result (λ h. said_by h ≡ event_in frame.now) }
 {
     let Some((word, rest)) = halves(frame) else {

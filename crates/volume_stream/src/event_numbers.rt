@@ -13,7 +13,7 @@ use text::is_word;
 use volume::Event;
 
 /// The greatest number of a node.
-pub const NODE: u64 = 255;
+pub(crate) const NODE: u64 = 255;
 
 fn open(alloc: Global, rest: &[u8]) -> Result<Heard, AllocError>
     ensures { IfOk result (λ h. said_by h ≡ or_unknown (made_of open_form rest.now)) }
@@ -50,7 +50,7 @@ fn failed(alloc: Global, rest: &[u8]) -> Result<Heard, AllocError>
 
 /// What a word and numbers say. It fails only if memory runs out.
 #[tactic(auto, unfolding(crate::specs::EventFrames::numbered_event))]
-pub fn numbered_event(alloc: Global, word: &[u8], rest: &[u8]) -> Result<Heard, AllocError>
+pub(crate) fn numbered_event(alloc: Global, word: &[u8], rest: &[u8]) -> Result<Heard, AllocError>
     ensures { IfOk result (λ h. said_by h ≡ numbered_event word.now rest.now) }
 {
     if is_word(word, b"open".as_slice()) {

@@ -8,6 +8,7 @@ use crate::machine::Engine;
 use crate::stream::serve;
 use framing::Named;
 use framing::devices::{RunFault, Watched};
+use framing::statuses::{BAD, MEMORY};
 use node_stream::{status_of, wide_number};
 use redo_core::Roster;
 use std::alloc::{AllocError, Global};
@@ -19,11 +20,6 @@ use volume::Settings;
 
 /// The program's name, whatever path it was called by.
 const NAME: &[u8] = b"volume-node";
-
-/// A bad command line.
-const BAD: u8 = 2;
-
-const MEMORY: u8 = 5;
 
 /// The most bytes of a frame.
 pub const LIMIT: usize = 4_294_967_295;

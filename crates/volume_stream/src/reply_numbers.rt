@@ -9,13 +9,14 @@ ghost use Rattle.volume_stream.specs.ReplyFrames.{pair_of, front_of, status_form
 ghost use Rattle.volume_stream.specs.ReplyFrames.{stale_form, fresh_form, stranger_form, admitted_form, behind_form, accepted_form};
 ghost use Rattle.volume_stream.specs.ReplyFrames.{status_reply, fenced_reply, short_reply, numbered_reply};
 
-use crate::words::{SHORT, read_numbers};
+use crate::words::read_numbers;
 use guard::{AcceptedCut, Reply};
 use node_stream::WIDE;
 use redo_core::{Cut, MAX_NUMBER};
 use segment_core::Front;
 use std::alloc::{AllocError, Global};
 use text::is_word;
+use text::limits::SHORT;
 
 /// An accepted truncation by its numbers; None where its shape has a fault.
 fn pair_of(generation: u64, epoch: u64, lo: u64, hi: u64) -> Option<AcceptedCut>
@@ -232,7 +233,11 @@ fn short(alloc: Global, word: &[u8], rest: &[u8]) -> Result<Option<Reply>, Alloc
 
 /// The reply of a word and numbers. It fails only if memory runs out.
 #[tactic(auto, unfolding(crate::specs::ReplyFrames::numbered_reply))]
-pub fn numbered_reply(alloc: Global, word: &[u8], rest: &[u8]) -> Result<Option<Reply>, AllocError>
+pub(crate) fn numbered_reply(
+    alloc: Global,
+    word: &[u8],
+    rest: &[u8],
+) -> Result<Option<Reply>, AllocError>
     ensures { IfOk result (λ o. o ≡ numbered_reply word.now rest.now) }
 {
     if is_word(word, b"status".as_slice()) {

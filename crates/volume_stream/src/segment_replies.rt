@@ -7,7 +7,7 @@ ghost use Rattle.replica.specs.declared.replies.Reply.TheVariants as segment;
 ghost use Rattle.volume_stream.specs.Words.{made_of};
 ghost use Rattle.volume_stream.specs.ReplyFrames.{decoded_as, front_form, lone_segment_reply, segment_reply};
 
-use crate::words::{SHORT, read_numbers};
+use crate::words::read_numbers;
 use node_stream::halves;
 use redo_core::MAX_NUMBER;
 use redo_wire::{WireError, decode_delta, decode_summary};
@@ -15,10 +15,11 @@ use replica::{Boxed, Reply};
 use segment_core::Front;
 use std::alloc::{AllocError, Global};
 use text::is_word;
+use text::limits::SHORT;
 
 /// The reply that the bytes encode, where an engine listens to it; None for any other. It fails only if memory runs out.
 #[tactic(auto, unfolding(crate::specs::ReplyFrames::segment_words))]
-pub fn segment_reply(alloc: Global, text: &[u8]) -> Result<Option<Reply>, AllocError>
+pub(crate) fn segment_reply(alloc: Global, text: &[u8]) -> Result<Option<Reply>, AllocError>
     ensures { IfOk result (λ o. o ≡ segment_reply text.now) }
 {
     let Some((word, rest)) = halves(text) else {

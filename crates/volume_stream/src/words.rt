@@ -4,8 +4,7 @@ ghost use Rattle.std.specs.Prelude.{◌≡◌, ◌≤◌, ◌++◌, IfOk, IfSome
 ghost use Rattle.std.specs.List.{AllZip};
 ghost use Rattle.text.specs.Fields.{numbers_of};
 ghost use Rattle.text.specs.Parts.{first_parts};
-ghost use Rattle.node_stream.specs.GuardTelling.{numbers_behind};
-ghost use Rattle.volume_stream.specs.Words.{numbered};
+ghost use Rattle.node_stream.specs.Telling.{numbers_behind, numbered};
 
 use bytes::BytesMut;
 use itoa::Buffer;
@@ -13,11 +12,8 @@ use node_stream::wide_numbers;
 use std::alloc::{AllocError, Global};
 use text::first_parts;
 
-/// An epoch or a page.
-pub const SHORT: u64 = 65535;
-
 /// A word and numbers, each after a space. It fails only if memory runs out.
-pub fn numbered(alloc: Global, word: &str, numbers: &[u64]) -> Result<BytesMut, AllocError>
+pub(crate) fn numbered(alloc: Global, word: &str, numbers: &[u64]) -> Result<BytesMut, AllocError>
     ensures { IfOk result (λ b. b.items ≡ numbered word.now numbers.now) }
 {
     let mut out = BytesMut::new(alloc);
@@ -27,7 +23,7 @@ pub fn numbered(alloc: Global, word: &str, numbers: &[u64]) -> Result<BytesMut, 
 }
 
 /// Appends numbers, each after a space. It fails only if memory runs out.
-pub fn put_numbered(out: &mut BytesMut, numbers: &[u64]) -> Result<(), AllocError>
+pub(crate) fn put_numbered(out: &mut BytesMut, numbers: &[u64]) -> Result<(), AllocError>
     ensures { OnOk result (out.new.items ≡ out.old.items ++ numbers_behind numbers.now) }
 {
     for number in numbers {
@@ -39,7 +35,7 @@ pub fn put_numbered(out: &mut BytesMut, numbers: &[u64]) -> Result<(), AllocErro
 }
 
 /// The numbers between single spaces: as many as there are limits, each at most its limit. It fails only if memory runs out.
-pub fn read_numbers<const N: usize>(
+pub(crate) fn read_numbers<const N: usize>(
     alloc: Global,
     limits: [u64; N],
     text: &[u8],

@@ -13,7 +13,7 @@ use std::alloc::{AllocError, Global};
 use volume::Event;
 
 /// What the bytes after `write` say: those of a record with number 1, no backlinks and epoch 0. It fails only if memory runs out.
-pub fn write_event(alloc: Global, bytes: &[u8]) -> Result<Heard, AllocError>
+pub(crate) fn write_event(alloc: Global, bytes: &[u8]) -> Result<Heard, AllocError>
     ensures { IfOk result (λ h. said_by h ≡ write_in (decoded_fact bytes.now)) }
 {
     match decode_fact(alloc, bytes) {

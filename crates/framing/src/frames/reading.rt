@@ -12,7 +12,7 @@ use crate::frames::incoming::Incoming;
 use std::io::Read;
 
 /// The size in bytes of the buffer that frames are read and written through.
-pub const ROOM: usize = 8192;
+pub(crate) const ROOM: usize = 8192;
 
 /// Reads until the buffer is full or the input ends, and returns the number of bytes read.
 fn fill<R: Read>(reader: &mut Watched<R>, buffer: &mut [u8]) -> Result<usize, RunFault>
@@ -34,7 +34,7 @@ fn fill<R: Read>(reader: &mut Watched<R>, buffer: &mut [u8]) -> Result<usize, Ru
 }
 
 /// The length in a header.
-pub fn length_of(head: &[u8; 4]) -> usize
+pub(crate) fn length_of(head: &[u8; 4]) -> usize
     ensures short { result < 2 ^ 32 }
     ensures head { header result ≡ head.now }
 {
@@ -65,7 +65,7 @@ fn read_bytes<R: Read>(
 }
 
 /// Reads a frame; false where the input ends before its last byte.
-pub fn read_frame<R: Read>(
+pub(crate) fn read_frame<R: Read>(
     reader: &mut Watched<R>,
     incoming: &mut Incoming,
     chunk: &mut [u8; ROOM],

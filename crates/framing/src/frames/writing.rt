@@ -22,7 +22,7 @@ fn put(chunk: &mut [u8; ROOM], count: u32, front: &[u8]) -> usize
 }
 
 /// Writes a frame, or a beginning of it: in one write where the buffer has room for it.
-pub fn write_frame<W: Write>(
+pub(crate) fn write_frame<W: Write>(
     writer: &mut Watched<W>,
     chunk: &mut [u8; ROOM],
     bytes: &[u8],

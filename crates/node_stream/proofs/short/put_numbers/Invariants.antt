@@ -1,5 +1,5 @@
 use Rattle.std.proofs.Common.{◌≡◌, ◌+◌, ◌*◌, ◌-◌, ◌≤◌, ◌++◌, length, drop}
-use Rattle.node_stream.specs.GuardTelling.{numbers_behind}
+use Rattle.node_stream.specs.Telling.{numbers_behind}
 use Rattle.node_stream.proofs.short.put_numbers.Given as goal
 
 -- what is written, and then the other numbers

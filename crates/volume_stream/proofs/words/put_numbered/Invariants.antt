@@ -1,5 +1,5 @@
 use Rattle.std.proofs.Common.{◌≡◌, ◌++◌, drop}
-use Rattle.node_stream.specs.GuardTelling.{numbers_behind}
+use Rattle.node_stream.specs.Telling.{numbers_behind}
 use Rattle.volume_stream.proofs.words.put_numbered.Given as goal
 
 -- what is written, and then the other numbers
