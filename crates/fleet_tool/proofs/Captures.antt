@@ -1,9 +1,11 @@
 -- The lines of a capture, one after another.
-use Rattle.std.proofs.Common.{◌≡◌, ℕ, ◌<◌, eqb, List, [], ◌∷◌, ◌++◌, length, refl, sym, ap, ◌∙◌, append_assoc, length-append, arith}
+use Rattle.std.proofs.Common.{◌≡◌, ℕ, ◌<◌, eqb, List, [], ◌∷◌, ◌++◌, length, refl, sym, ap, ◌∙◌, append_assoc, length-append, arith, String, string_bytes}
+use Rattle.std.specs.Global.{Global}
+use Rattle.std.proofs.lemmas.List.{append-nil}
 use Rattle.std.proofs.lemmas.List.Splits.{length-slice_split}
 use Rattle.text.specs.Parts.{parts_at, IsCutBehind}
 use Rattle.text.proofs.Cuts.{parts_around}
-use Rattle.fleet_tool.specs.Inspect.{line_text, parts_text, inspected}
+use Rattle.fleet_tool.specs.Inspect.{line_text, parts_text, inspected, texts_bytes}
 
 before_others : (line : List ℕ) (others : List (List ℕ)) → 0 < length others → parts_text (line ∷ others) ≡ line_text line ++ parts_text others
 before_others line [] some = absurd (omega arith)
@@ -51,8 +53,15 @@ cut_told text front behind cut =
     cut.whole ∙ (ap (λ (t : List ℕ). t ++ behind) cut.ends ∙ append_assoc cut.before (10 ∷ []) behind) in
     ap inspected shape ∙ (around cut.before behind ∙ ap (λ (t : List ℕ). inspected t ++ inspected behind) (sym cut.ends))
 
--- the text of the two parts, one behind the other
-pub joined_told : (text front behind old new more : List ℕ) → IsCutBehind 10 text front behind → old ≡ inspected front → more ≡ inspected behind
-    → new ≡ old ++ more → new ≡ inspected text
-joined_told text front behind old new more cut first second joined =
-    joined ∙ (ap (λ (t : List ℕ). t ++ more) first ∙ (ap (λ (t : List ℕ). inspected front ++ t) second ∙ sym (cut_told text front behind cut)))
+-- ---- texts one after another
+
+pub one_more : (texts : List (String Global)) (last : String Global) → texts_bytes (texts ++ last ∷ []) ≡ texts_bytes texts ++ string_bytes last
+one_more [] last = append-nil (string_bytes last)
+one_more (text ∷ texts) last = ap (λ (t : List ℕ). string_bytes text ++ t) (one_more texts last) ∙ sym (append_assoc (string_bytes text) (texts_bytes texts) (string_bytes last))
+
+-- the texts of the first part, and then that of the second
+pub joined_told : (text front behind : List ℕ) (texts all : List (String Global)) (last : String Global) → IsCutBehind 10 text front behind → texts_bytes texts ≡ inspected front
+    → string_bytes last ≡ inspected behind → all ≡ texts ++ last ∷ [] → texts_bytes all ≡ inspected text
+joined_told text front behind texts all last cut first second put =
+    ap texts_bytes put ∙ (one_more texts last ∙ (ap (λ (t : List ℕ). t ++ string_bytes last) first ∙ (ap (λ (t : List ℕ). inspected front ++ t) second
+    ∙ sym (cut_told text front behind cut))))

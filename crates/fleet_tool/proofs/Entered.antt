@@ -12,7 +12,7 @@ use Rattle.clap.proofs.OnLiterals.{clap_on_literals}
 use Rattle.clap.proofs.WalkLemmas.{list_any-map}
 use Rattle.fleet_tool.specs.CommandLine.{AsksDrill, NameTask, NameExplained, fleet_app, line_faults, subcommand_in}
 use Rattle.fleet_tool.specs.DrillLine.{IsDrillTask, EncodesDrill}
-use Rattle.fleet_tool.specs.declared.job.LineFault.{LineFault}
+use Rattle.fleet_tool.specs.declared.job.CommandFault.{CommandFault}
 use Rattle.fleet_tool.specs.declared.job.Task.{Task}
 use Rattle.fleet_tool.specs.declared.job.Task.TheVariants.{Drill}
 use Rattle.fleet_tool.specs.declared.drill_line.DrillTask.{DrillTask}
@@ -123,7 +123,7 @@ drill_asked m words found task options entered name rows encodes right whole sam
   whole = whole;
 }
 
-pub same_drill : (found task : DrillTask) → ◌≡◌ {A = Result Task LineFault} (Ok (Drill found)) (Ok (Drill task)) → found ≡ task
+pub same_drill : (found task : DrillTask) → ◌≡◌ {A = Result Task CommandFault} (Ok (Drill found)) (Ok (Drill task)) → found ≡ task
 same_drill found task is = cc
 
 pub true_is_false : (b : Bool) → b ≡ true → b ≡ false → ⊥

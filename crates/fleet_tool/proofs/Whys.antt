@@ -5,8 +5,8 @@ use Rattle.clap.specs.declared.error.Error.{Error}
 use Rattle.clap.specs.declared.error.kind.ErrorKind.TheVariants.{OutOfMemory}
 use Rattle.clap.proofs.OnLiterals.{clap_on_literals}
 use Rattle.fleet_tool.specs.CommandLine.{fleet_app, line_faults, IsWhy}
-use Rattle.fleet_tool.specs.declared.job.LineFault.{LineFault}
-use Rattle.fleet_tool.specs.declared.job.LineFault.TheVariants.{Bad}
+use Rattle.fleet_tool.specs.declared.job.CommandFault.{CommandFault}
+use Rattle.fleet_tool.specs.declared.job.CommandFault.TheVariants.{Bad}
 
 -- the faults of this command are known
 simple : is_simple_and_free fleet_app ≡ true
@@ -19,7 +19,7 @@ unfolding line_faults
 line_fails {T} app words r e h = subst (λ (a : App). is_simple_and_free a ≡ true → FailsBy (fault_of a words) r) e h simple
 
 -- arguments that clap accepts are bad where they are no task's
-pub bad_why : {T : Type 0} (kinds : Kinds) (r : Result T LineFault) → kinds ≡ [] → IfErr r (λ e. e ≡ Bad) → IfErr r (IsWhy kinds)
+pub bad_why : {T : Type 0} (kinds : Kinds) (r : Result T CommandFault) → kinds ≡ [] → IfErr r (λ e. e ≡ Bad) → IfErr r (IsWhy kinds)
 bad_why kinds (Ok task) none is = tt
 bad_why kinds (Err fault) none is = subst (IsWhy kinds) (sym is) (inl none)
 

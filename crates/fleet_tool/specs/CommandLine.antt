@@ -6,8 +6,8 @@ use Rattle.clap.specs.Words.{App, Kinds, IsAmong, Row, Rule, Shape, new_app, new
 use Rattle.clap.specs.declared.builder.action.ArgAction.TheVariants.{SetTrue}
 use Rattle.clap.specs.declared.error.kind.ErrorKind.{ErrorKind}
 use Rattle.clap.specs.declared.error.kind.ErrorKind.TheVariants.{DisplayHelp, DisplayVersion}
-use Rattle.fleet_tool.specs.declared.job.LineFault.{LineFault}
-use Rattle.fleet_tool.specs.declared.job.LineFault.TheVariants.{Help, Bad, Memory}
+use Rattle.fleet_tool.specs.declared.job.CommandFault.{CommandFault}
+use Rattle.fleet_tool.specs.declared.job.CommandFault.TheVariants.{Help, Bad, Memory}
 use Rattle.fleet_tool.specs.declared.job.TextTask.{TextTask}
 use Rattle.fleet_tool.specs.declared.drill_line.DrillTask.{DrillTask}
 use Rattle.fleet_tool.specs.TaskName.{name_of, as_text_task}
@@ -71,7 +71,7 @@ IsAsking kind = (kind ≡ DisplayHelp) ⊎ (kind ≡ DisplayVersion)
 
 -- Why arguments that may have the faults of these kinds name no task: help is given where they ask for it, and they are bad where they
 -- have another fault, or none but are those of no task.
-abbrev pub IsWhy : Kinds → LineFault → Type 0
+abbrev pub IsWhy : Kinds → CommandFault → Type 0
 IsWhy kinds (Help text) = (kind : ErrorKind) × IsAmong kind kinds × IsAsking kind
 IsWhy kinds Bad = (kinds ≡ []) ⊎ ((kind : ErrorKind) × IsAmong kind kinds × (IsAsking kind → ⊥))
 IsWhy kinds Memory = Unit {0}

@@ -1,5 +1,6 @@
 -- The description of a capture: one line for each line of hexadecimal digits.
-use Rattle.std.specs.Prelude.{ℕ, List, [], ◌∷◌, ◌++◌, length, ◌==◌, if◌then◌else◌, Option, Some, None, Result, Ok, Err, codes}
+use Rattle.std.specs.Prelude.{ℕ, List, [], ◌∷◌, ◌++◌, length, ◌==◌, if◌then◌else◌, Option, Some, None, Result, Ok, Err, codes, String, string_bytes}
+use Rattle.std.specs.Global.{Global}
 use Rattle.std.specs.Fmt.{decimal}
 use Rattle.hex.specs.Hex.{decode_of}
 use Rattle.redo_wire.specs.declared.faults.WireFault.{WireFault}
@@ -73,3 +74,8 @@ parts_text (line ∷ next ∷ rest) = line_text line ++ parts_text (next ∷ res
 -- the description of a text
 abbrev pub inspected : List ℕ → List ℕ
 inspected text = parts_text (parts_at 10 text)
+
+-- texts one after another
+abbrev pub texts_bytes : List (String Global) → List ℕ
+texts_bytes [] = []
+texts_bytes (text ∷ texts) = string_bytes text ++ texts_bytes texts

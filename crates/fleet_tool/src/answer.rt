@@ -20,7 +20,7 @@ use crate::placed_steps::answers;
 use fleet_core::Fleet;
 use log_law::{CheckFault, check_log};
 use redo_core::LawFault;
-use script_text::{Log, Script, ScriptError, TextReason, read_facts_by, read_script_by};
+use script_text::{FactLog, Script, ScriptError, TextReason, read_facts_by, read_script_by};
 use std::alloc::{AllocError, Global};
 use std::mem::forget;
 use std::thread::Threads;
@@ -114,7 +114,7 @@ fn script_in<R: Threads + Sync>(rt: &R, alloc: Global, text: Vec<u8>) -> Result<
 }
 
 // The log that a text encodes. Drops the text too.
-fn log_in<R: Threads + Sync>(rt: &R, alloc: Global, text: Vec<u8>) -> Result<Log, ScriptError>
+fn log_in<R: Threads + Sync>(rt: &R, alloc: Global, text: Vec<u8>) -> Result<FactLog, ScriptError>
     ensures log { Gives log_data result (facts_of text.items) }
     ensures reason { IfErr result (IsExplained (ExplainsLog text.items)) }
 {
@@ -205,7 +205,7 @@ pub fn answer<R: Threads + Sync>(
 }
 
 /// The task's output for an input, where the program ends with it. Fails only if memory runs out.
-pub fn last_answer<R: Threads + Sync>(
+pub(crate) fn last_answer<R: Threads + Sync>(
     rt: &R,
     alloc: Global,
     task: LinesTask,

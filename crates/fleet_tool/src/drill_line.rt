@@ -60,7 +60,7 @@ fn size_arg<'a>(alloc: Global) -> Arg<'a>
 }
 
 /// The subcommand `drill`, with its options.
-pub fn drill_command<'a>(alloc: Global) -> Result<Command<'a>, AllocError>
+pub(crate) fn drill_command<'a>(alloc: Global) -> Result<Command<'a>, AllocError>
     ensures { IfOk result (λ c. shape_of c ≡ drill_shape) }
 {
     Command::new(alloc, "drill")
@@ -100,7 +100,7 @@ fn size_in(options: &ArgMatches<'_>) -> Option<Size>
 }
 
 /// The drill that the options encode, which may be out of range; None where they encode none.
-pub fn drill_in(options: &ArgMatches<'_>) -> Option<DrillTask>
+pub(crate) fn drill_in(options: &ArgMatches<'_>) -> Option<DrillTask>
     ensures encoded { IfSome result (EncodesDrill (rows_of (found_of options.now))) }
     ensures known { (task : DrillTask) → IsDrillTask task → EncodesDrill (rows_of (found_of options.now)) task → result ≡ Some task }
 {

@@ -8,7 +8,7 @@ use framing::devices::RunFault;
 
 /// The exit status for the result of a text call: 0 done, 2 a bad line, 3 a log that is not sound, 4 a device that failed,
 /// 5 out of memory.
-pub fn status_of(ended: Result<Verdict, RunFault>) -> u8
+pub(crate) fn status_of(ended: Result<Verdict, RunFault>) -> u8
     ensures { result ≡ status_of ended }
 {
     match ended {
@@ -22,7 +22,7 @@ pub fn status_of(ended: Result<Verdict, RunFault>) -> u8
 }
 
 /// The message for standard error; empty where there is an answer, whatever it says.
-pub fn words_of(ended: Result<Verdict, RunFault>) -> &'static str
+pub(crate) fn words_of(ended: Result<Verdict, RunFault>) -> &'static str
     ensures { result.now ≡ words_of ended }
 {
     match ended {

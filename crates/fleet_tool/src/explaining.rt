@@ -24,7 +24,7 @@ pub enum Reason {
 }
 
 /// The evidence of how the log's first fault breaks its law, where a reason is sought. Fails only if memory runs out.
-pub fn fault_reason(
+pub(crate) fn fault_reason(
     alloc: Global,
     explains: bool,
     facts: &[Fact],

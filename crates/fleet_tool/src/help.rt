@@ -1,12 +1,12 @@
 //! The help texts of the program.
 
-pub const VERSION: &str = "1.0";
+pub(crate) const VERSION: &str = "1.0";
 
-pub const STATUSES: &str =
+pub(crate) const STATUSES: &str =
     "Statuses: 0 answered, 2 a bad line or a bad command line, 3 a log that is not sound, 4 a device that failed, 5 no memory.
 The forms of lines stand in docs/FORMATS.md.";
 
-pub const RUN: &str = "Input, a line each; fields stand between single spaces:
+pub(crate) const RUN: &str = "Input, a line each; fields stand between single spaces:
   roster R                 the readers of the log, 1 to 15; may be left out for 1
   rec E N P G B W          epoch, number, segment backlink, page, block backlink; W is -, or init, writes OFF:HEX and fills OFF*LEN:HH between commas
   cut E LO HI              a truncation
@@ -28,10 +28,10 @@ Statuses: 0 answered, 2 a bad line, 3 a log that is not sound, 4 a device that f
 All forms and answers stand in docs/FORMATS.md.";
 
 /// The help of the option of `run` and `check`.
-pub const EXPLAIN: &str =
+pub(crate) const EXPLAIN: &str =
     "Also says on standard error why a line is bad, or with which fact a law is broken";
 
-pub const CHECK: &str =
+pub(crate) const CHECK: &str =
     "Input, a line each: the lines roster, rec, cut and min of a script (see fleet run --help).
 Output: sound and the number of facts, or the first fact that breaks a law, or the first bad line.
 
@@ -39,16 +39,16 @@ Statuses: 0 sound, 2 a bad line, 3 a log that is not sound, 4 a device that fail
 The laws stand in docs/RULES.md, the forms in docs/FORMATS.md.";
 
 /// The drill's line in the list of tasks.
-pub const DRILL_IN_A_LINE: &str =
+pub(crate) const DRILL_IN_A_LINE: &str =
     "Runs nodes of one log in threads: --nodes 1 to 6, --workers 1 to 16, --size small or large";
 
-pub const NODES: &str = "How many nodes, 1 to 6";
+pub(crate) const NODES: &str = "How many nodes, 1 to 6";
 
-pub const WORKERS: &str = "How many folders, and how many gossipers, 1 to 16";
+pub(crate) const WORKERS: &str = "How many folders, and how many gossipers, 1 to 16";
 
-pub const SIZE: &str = "The log, small (130 facts) or large (2050)";
+pub(crate) const SIZE: &str = "The log, small (130 facts) or large (2050)";
 
-pub const DRILL: &str =
+pub(crate) const DRILL: &str =
     "Feeders and drainers deliver the facts of a log to the nodes, folders fold and discard, gossipers exchange messages, all in threads.
 Then each node is joined with all the others. Nothing is read, and the text is the same whatever the threads did.
 
@@ -61,7 +61,7 @@ Output, a line each:
 Statuses: 0 done, 2 a bad command line, 4 a device that failed, 5 no memory, or no thread for a worker.
 The log and the text stand in docs/FORMATS.md.";
 
-pub const INSPECT: &str =
+pub(crate) const INSPECT: &str =
     "Input, a line each: the bytes of a fact, summary, delta or piece of a snapshot, in hexadecimal digits of either case.
 Output, a line each: the fact's line, or what the other values hold, or wire and the number of the fault, or bad hex.
 

@@ -5,7 +5,7 @@ ghost use Rattle.std.specs.Fmt.{decimal};
 ghost use Rattle.std.specs.Thread.{IsSync};
 ghost use Rattle.redo_wire.specs.Faults.{fault_number};
 ghost use Rattle.redo_wire.specs.Values.{decoded_value};
-ghost use Rattle.fleet_tool.specs.Inspect.{summary_text, delta_text, content_text, piece_text, told, value_text, line_text, inspected};
+ghost use Rattle.fleet_tool.specs.Inspect.{summary_text, delta_text, content_text, piece_text, told, value_text, line_text, inspected, texts_bytes};
 
 use rayon::{current_num_threads, join};
 use redo_wire::{
@@ -19,7 +19,7 @@ use text::{decoded, first_part, labelled, split_after, worded};
 /// How many bytes of a capture are a thread's at least: fewer are described sooner than a thread is started.
 const LEAST_BLOCK: usize = 65536;
 
-/// How many blocks there are for each thread: two texts are joined at a time, so short blocks take less memory beside the whole text.
+/// How many blocks there are for each thread, so that one that has ended begins another.
 const BLOCKS: usize = 2;
 
 fn fault_text(alloc: Global, fault: WireFault) -> Result<String, AllocError>
@@ -119,7 +119,7 @@ fn put_line(alloc: Global, text: &mut String, digits: &[u8]) -> Result<(), Alloc
 fn lines_text(alloc: Global, input: &[u8]) -> Result<String, AllocError>
     ensures { IfOk result (λ s. string_bytes s ≡ inspected input.now) }
 {
-    let mut text = String::new(alloc);
+    let mut text = String::with_capacity(alloc, input.len() / 3)?;
     let mut rest = input;
     while let Some((line, after)) = first_part(rest, b'\n') {
         put_line(alloc, &mut text, line)?;
@@ -131,49 +131,70 @@ fn lines_text(alloc: Global, input: &[u8]) -> Result<String, AllocError>
     Ok(text)
 }
 
-// The description of lines in so many blocks of whole lines, which threads describe.
+// The description of lines as the only text of a list.
+fn one_text(alloc: Global, input: &[u8]) -> Result<Vec<String>, AllocError>
+    ensures { IfOk result (λ v. texts_bytes v.items ≡ inspected input.now) }
+{
+    let text = lines_text(alloc, input)?;
+    let mut texts = Vec::new(alloc);
+    texts.push(text)?;
+    Ok(texts)
+}
+
+// The descriptions of so many blocks of whole lines, in their order, which threads describe.
 #[cycle(blocks)]
-fn blocks_text<R: Threads + Sync>(
+fn block_texts<R: Threads + Sync>(
     rt: &R,
     alloc: Global,
     input: &[u8],
     blocks: usize,
-) -> Result<String, AllocError>
-    ensures { IfOk result (λ s. string_bytes s ≡ inspected input.now) }
+) -> Result<Vec<String>, AllocError>
+    ensures { IfOk result (λ v. texts_bytes v.items ≡ inspected input.now) }
 {
     if blocks < 2 {
-        return lines_text(alloc, input);
+        return one_text(alloc, input);
     }
-    // The last block alone is the second text: the shorter the text that is joined last, the less memory both texts take.
     let others = blocks - 1;
     let Some((first, second)) = split_after(input, b'\n', input.len() / blocks * others) else {
-        return lines_text(alloc, input);
+        return one_text(alloc, input);
     };
-    let front = || -> Result<String, AllocError>
+    let front = || -> Result<Vec<String>, AllocError>
         requires { IsSync R.row }
-        ensures { IfOk result (λ s. string_bytes s ≡ inspected first.entry.now) }
-    { blocks_text(rt, alloc, first, others) };
+        ensures { IfOk result (λ v. texts_bytes v.items ≡ inspected first.entry.now) }
+    { block_texts(rt, alloc, first, others) };
     let back = || -> Result<String, AllocError>
         ensures { IfOk result (λ s. string_bytes s ≡ inspected second.entry.now) }
     { lines_text(alloc, second) };
-    let (text, more) = join(rt, front, back);
-    let mut text = text?;
-    text.push_str(&more?)?;
-    Ok(text)
+    let (texts, last) = join(rt, front, back);
+    let mut texts = texts?;
+    texts.push(last?)?;
+    Ok(texts)
 }
 
-/// The description of a capture, a line for each of its lines, by as many threads as there are processors where it is long. Fails only
-/// if memory runs out.
-pub fn inspected<R: Threads + Sync>(
+/// The description of a capture in texts, a line for each of its lines, by as many threads as there are processors where it is long.
+/// Fails only if memory runs out.
+pub fn described<R: Threads + Sync>(
     rt: &R,
     alloc: Global,
     input: &[u8],
-) -> Result<String, AllocError>
-    ensures { IfOk result (λ s. string_bytes s ≡ inspected input.now) }
+) -> Result<Vec<String>, AllocError>
+    ensures { IfOk result (λ v. texts_bytes v.items ≡ inspected input.now) }
 {
     let threads = current_num_threads(rt).min(input.len() / LEAST_BLOCK);
     if threads < 2 {
-        return lines_text(alloc, input);
+        return one_text(alloc, input);
     }
-    blocks_text(rt, alloc, input, BLOCKS * threads)
+    block_texts(rt, alloc, input, BLOCKS * threads)
+}
+
+/// Texts one after another. Fails only if memory runs out.
+#[tactic(auto, using(crate::proofs::Captures::one_more))]
+pub fn joined(alloc: Global, texts: Vec<String>) -> Result<String, AllocError>
+    ensures { IfOk result (λ s. string_bytes s ≡ texts_bytes texts.items) }
+{
+    let mut all = String::new(alloc);
+    for text in texts {
+        all.push_str(&text)?;
+    }
+    Ok(all)
 }

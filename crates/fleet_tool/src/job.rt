@@ -54,19 +54,19 @@ pub enum Task {
 
 /// Why the command line names no task.
 #[derive(Debug, Drop, ErrorTraits)]
-pub enum LineFault {
+pub enum CommandFault {
     /// The text of the help, or of the version.
     Help(String),
     Bad,
     Memory,
 }
 
-impl fmt::Display for LineFault {
+impl fmt::Display for CommandFault {
     fn fmt<W: fmt::Write>(&self, f: &mut fmt::Formatter<W>) -> fmt::Result {
         f.write_str(match self {
-            LineFault::Help(text) => text.as_str(),
-            LineFault::Bad => "bad command line",
-            LineFault::Memory => "out of memory",
+            CommandFault::Help(text) => text.as_str(),
+            CommandFault::Bad => "bad command line",
+            CommandFault::Memory => "out of memory",
         })
     }
 }
@@ -145,17 +145,17 @@ fn command<'a>(alloc: Global) -> Result<Command<'a>, AllocError>
     texts_command(alloc)?.subcommand(drill_command(alloc)?)
 }
 
-fn fault_of(alloc: Global, error: Error) -> LineFault
-    ensures memory { kind_of error ≡ ErrorKind.OutOfMemory → result ≡ LineFault.Memory }
+fn fault_of(alloc: Global, error: Error) -> CommandFault
+    ensures memory { kind_of error ≡ ErrorKind.OutOfMemory → result ≡ CommandFault.Memory }
     ensures why { (kinds : Kinds) → HasKind kinds error → IsWhy kinds result }
 {
     match error.kind() {
         ErrorKind::DisplayHelp | ErrorKind::DisplayVersion => match error.to_string(alloc) {
-            Ok(text) => LineFault::Help(text),
-            Err(_) => LineFault::Memory,
+            Ok(text) => CommandFault::Help(text),
+            Err(_) => CommandFault::Memory,
         },
-        ErrorKind::OutOfMemory => LineFault::Memory,
-        _ => LineFault::Bad,
+        ErrorKind::OutOfMemory => CommandFault::Memory,
+        _ => CommandFault::Bad,
     }
 }
 
@@ -168,42 +168,42 @@ pub(crate) fn complaint<S: AsStr>(alloc: Global, words: &[S]) -> Option<String> 
 }
 
 /// The task with this name; `Bad` where there is none.
-fn task_of(name: &str) -> Result<TextTask, LineFault>
+fn task_of(name: &str) -> Result<TextTask, CommandFault>
     ensures named { IfOk result (λ task. name.now ≡ name_of task) }
     ensures known { (task : TextTask) → name.now ≡ name_of task → result ≡ Ok task }
-    ensures bad { IfErr result (λ e. e ≡ LineFault.Bad) }
+    ensures bad { IfErr result (λ e. e ≡ CommandFault.Bad) }
 {
     match name {
         "run" => Ok(TextTask::Run),
         "check" => Ok(TextTask::Check),
         "inspect" => Ok(TextTask::Inspect),
-        _ => Err(LineFault::Bad),
+        _ => Err(CommandFault::Bad),
     }
 }
 
 // The task with this name and this option; `Bad` where no task has both.
-fn explained_of(name: &str, option: &str) -> Result<LinesTask, LineFault>
+fn explained_of(name: &str, option: &str) -> Result<LinesTask, CommandFault>
     ensures named { IfOk result (λ task. name.now ≡ name_of (as_text_task task)) }
     ensures option { IfOk result (λ _. option.now ≡ codes "--explain") }
     ensures known { (task : LinesTask) → name.now ≡ name_of (as_text_task task) → option.now ≡ codes "--explain" → result ≡ Ok task }
-    ensures bad { IfErr result (λ e. e ≡ LineFault.Bad) }
+    ensures bad { IfErr result (λ e. e ≡ CommandFault.Bad) }
 {
     match (task_of(name), option) {
         (Ok(TextTask::Run), "--explain") => Ok(LinesTask::Run),
         (Ok(TextTask::Check), "--explain") => Ok(LinesTask::Check),
-        _ => Err(LineFault::Bad),
+        _ => Err(CommandFault::Bad),
     }
 }
 
 // The task over standard input that the arguments name, alone or with the option.
-fn text_task_of<S: AsStr>(words: &[S]) -> Result<Task, LineFault>
+fn text_task_of<S: AsStr>(words: &[S]) -> Result<Task, CommandFault>
     ensures text { (task : TextTask) → result ≡ Ok (Task.Text task) → (program word : S) × (words.now ≡ program ∷ word ∷ []) × (S.text word ≡ name_of task) }
     ensures explained { (task : LinesTask) → result ≡ Ok (Task.Explained task) → (program word option : S) × (words.now ≡ program ∷ word ∷ option ∷ [])
         × (S.text word ≡ name_of (as_text_task task)) × (S.text option ≡ codes "--explain") }
     ensures drill { (task : DrillTask) → result ≡ Ok (Task.Drill task) → ⊥ }
     ensures taken { (task : TextTask) → NameTask (map S.text words.now) task → result ≡ Ok (Task.Text task) }
     ensures explained_taken { (task : LinesTask) → NameExplained (map S.text words.now) task → result ≡ Ok (Task.Explained task) }
-    ensures bad { IfErr result (λ e. e ≡ LineFault.Bad) }
+    ensures bad { IfErr result (λ e. e ≡ CommandFault.Bad) }
 {
     match words {
         [_, name] => match task_of(name.as_str()) {
@@ -214,7 +214,7 @@ fn text_task_of<S: AsStr>(words: &[S]) -> Result<Task, LineFault>
             Ok(task) => Ok(Task::Explained(task)),
             Err(fault) => Err(fault),
         },
-        _ => Err(LineFault::Bad),
+        _ => Err(CommandFault::Bad),
     }
 }
 
@@ -230,20 +230,20 @@ fn has_mark<S: AsStr>(words: &[S]) -> bool
 /// `--explain` is accepted only after `run` or `check`.
 ///
 /// Errors: `Help` where the arguments ask for it or for the version, `Bad` where they are not those of a task, `Memory`.
-pub fn job_of<S: AsStr>(alloc: Global, words: &[S]) -> Result<Task, LineFault>
+pub fn job_of<S: AsStr>(alloc: Global, words: &[S]) -> Result<Task, CommandFault>
     ensures text { (task : TextTask) → result ≡ Ok (Task.Text task) → (program word : S) × (words.now ≡ program ∷ word ∷ []) × (S.text word ≡ name_of task) }
     ensures explained { (task : LinesTask) → result ≡ Ok (Task.Explained task) → (program word option : S) × (words.now ≡ program ∷ word ∷ option ∷ [])
         × (S.text word ≡ name_of (as_text_task task)) × (S.text option ≡ codes "--explain") }
     ensures drill { (task : DrillTask) → result ≡ Ok (Task.Drill task) → AsksDrill (map S.text words.now) task }
     ensures range { (task : DrillTask) → result ≡ Ok (Task.Drill task) → IsDrillTask task }
-    ensures taken { (task : TextTask) → NameTask (map S.text words.now) task → IfErr result (λ e. e ≡ LineFault.Memory) }
-    ensures explained_taken { (task : LinesTask) → NameExplained (map S.text words.now) task → IfErr result (λ e. e ≡ LineFault.Memory) }
-    ensures drilled { (task : DrillTask) → AsksDrill (map S.text words.now) task → IsDrillTask task → IfErr result (λ e. e ≡ LineFault.Memory) }
+    ensures taken { (task : TextTask) → NameTask (map S.text words.now) task → IfErr result (λ e. e ≡ CommandFault.Memory) }
+    ensures explained_taken { (task : LinesTask) → NameExplained (map S.text words.now) task → IfErr result (λ e. e ≡ CommandFault.Memory) }
+    ensures drilled { (task : DrillTask) → AsksDrill (map S.text words.now) task → IsDrillTask task → IfErr result (λ e. e ≡ CommandFault.Memory) }
     ensures why { IfErr result (IsWhy (line_faults (map S.text words.now))) }
 {
     let command = match command(alloc) {
         Ok(command) => command,
-        Err(_) => return Err(LineFault::Memory),
+        Err(_) => return Err(CommandFault::Memory),
     };
     let matches = match command.try_get_matches_from(words) {
         Ok(matches) => matches,
@@ -251,10 +251,10 @@ pub fn job_of<S: AsStr>(alloc: Global, words: &[S]) -> Result<Task, LineFault>
     };
     if let Some(options) = matches.subcommand_matches("drill") {
         let Some(task) = drill_in(options) else {
-            return Err(LineFault::Bad);
+            return Err(CommandFault::Bad);
         };
         if !task.is_in_range() || has_mark(words) {
-            return Err(LineFault::Bad);
+            return Err(CommandFault::Bad);
         }
         return Ok(Task::Drill(task));
     }

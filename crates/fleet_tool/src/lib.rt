@@ -34,6 +34,6 @@ pub use drilling::drill_text;
 pub use explaining::Reason;
 pub use fleet_drill::Size;
 pub use framing::devices::{RunFault, Watched};
-pub use job::{LineFault, LinesTask, Task, TextTask, job_of};
+pub use job::{CommandFault, LinesTask, Task, TextTask, job_of};
 pub use program::run_program;
 pub use run::{Explained, check_text, explain_text, inspect_text, run_text};

@@ -87,7 +87,7 @@ fn put_uncovered(alloc: Global, shown: Shown, text: &mut String) -> Result<(), A
 }
 
 /// Appends the answer line of a reply to a step. Fails where memory runs out, here or in the step.
-pub fn put_line(
+pub(crate) fn put_line(
     alloc: Global,
     step: Step<usize>,
     reply: &Reply,

@@ -47,7 +47,7 @@ fn put_answer(
 
 /// The answer lines of a fleet to steps that take their facts from the list. Keeps no page for an answer: it writes each step's line
 /// before the next step. Fails only if memory runs out.
-pub fn answers(
+pub(crate) fn answers(
     alloc: Global,
     fleet: &mut Fleet,
     facts: &[Fact],

@@ -6,10 +6,11 @@ use crate::answer::Verdict;
 use crate::drill_line::DrillTask;
 use crate::drilling::drill_text;
 use crate::ending::{status_of, words_of};
-use crate::job::{LineFault, LinesTask, Task, TextTask, complaint, job_of};
+use crate::job::{CommandFault, LinesTask, Task, TextTask, complaint, job_of};
 use crate::run::{explain_text, inspect_text, last_text};
 use framing::Named;
 use framing::devices::{RunFault, Watched};
+use framing::statuses::{BAD, DEVICE, MEMORY};
 use std::alloc::AllocError;
 use std::process::ExitCode;
 use std::rt::Env;
@@ -19,14 +20,6 @@ use std::{env, io};
 
 /// The program's name in its help, whatever path it was started by.
 const NAME: &[u8] = b"fleet";
-
-/// The status for a bad command line.
-const BAD: u8 = 2;
-
-/// The status where the output of the help failed.
-const DEVICE: u8 = 4;
-
-const MEMORY: u8 = 5;
 
 /// Prints the reason on standard error, and returns the status.
 fn failed(rt: &impl Eprint, why: &str, status: u8) -> ExitCode {
@@ -128,11 +121,11 @@ pub fn run_program<R: Env + Input + Print + Eprint + AllocGlobal + Threads + Wai
         Ok(Task::Text(task)) => answer_input(rt, task),
         Ok(Task::Explained(task)) => explain_input(rt, task),
         Ok(Task::Drill(task)) => run_drill(rt, task),
-        Err(LineFault::Help(text)) => match print!(rt; "{text}") {
+        Err(CommandFault::Help(text)) => match print!(rt; "{text}") {
             Ok(_) => ExitCode::SUCCESS,
             Err(_) => failed(rt, "output failed", DEVICE),
         },
-        Err(LineFault::Bad) => failed_line(rt, words.as_slice()),
-        Err(LineFault::Memory) => failed(rt, "out of memory", MEMORY),
+        Err(CommandFault::Bad) => failed_line(rt, words.as_slice()),
+        Err(CommandFault::Memory) => failed(rt, "out of memory", MEMORY),
     }
 }

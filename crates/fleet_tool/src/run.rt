@@ -11,7 +11,7 @@ ghost use Rattle.framing.specs.Watching.{has_failed};
 
 use crate::answer::{Answered, Verdict, answer, last_answer};
 use crate::explaining::Reason;
-use crate::inspect::inspected;
+use crate::inspect::{described, joined};
 use crate::job::LinesTask;
 use framing::devices::{RunFault, Watched, read_all, write_all};
 use std::alloc::{AllocError, Global};
@@ -147,6 +147,9 @@ pub fn inspect_text<T: Threads + Sync, R: Read, W: Write>(
     ensures { IsTextCall R.remaining W.contents (λ input text done. text ≡ inspected input) reader.old reader.new writer.old writer.new result }
 {
     let input = read_all(alloc, reader)?;
-    let text = inspected(rt, alloc, &input)?;
+    let texts = described(rt, alloc, &input)?;
+    // Without the input there is room to join them.
+    drop(input);
+    let text = joined(alloc, texts)?;
     write_all(writer, text.as_bytes())
 }
