@@ -105,14 +105,6 @@ rising_push Before (z ∷ zs) (suc i) x r low = (
   rising_push Before zs i x r.1 (λ y h. low y (there z (take i zs) y h)),
 )
 
--- nothing cuts up to epoch 0
-pub no_lows : (cs : List CutData) → All (λ c. cut_fault c ≡ None) cs → AreLows cs 0 []
-no_lows cs shaped = record {
-  rising = tt;
-  held = λ i d l. absurd (omega (arith, l));
-  least = λ c h le. let p : 0 < c.epoch = (shaped_cut c (All-contains (λ x. cut_fault x ≡ None) cs c shaped h)).0 in absurd (omega arith);
-}
-
 -- the truncation of the next epoch, after those that cut no higher
 pub next_lows : (cs : List CutData) (k stay : ℕ) (x : CutData) (lows : List CutData) → IsRising CutBefore cs → Contains cs x → x.epoch ≡ k + 1 → AreLows cs k lows
     → IsPartitionPoint (λ c. c.lo ≤ x.lo) (λ c. x.lo < c.lo) lows stay → AreLows cs (k + 1) (take stay lows ++ x ∷ [])

@@ -54,9 +54,6 @@ epoch_absent cs e (Err i) rise l h =
 abbrev pub advance_cmp : AdvanceData → AdvanceData → Ordering
 advance_cmp a b = ordering_then (ordering_then (nat_cmp a.epoch b.epoch) (nat_cmp a.reader b.reader)) (nat_cmp a.point b.point)
 
-pub turned : (o : Ordering) (P Q R P' Q' R' : Type 0) → (P → P') → (Q → Q') → (R → R') → MatchOrdering o P Q R → MatchOrdering o P' Q' R'
-turned o P Q R P' Q' R' f g h x = search rules
-
 advance_ranked : (a b : AdvanceData) → MatchOrdering (advance_cmp a b) (AdvanceBefore a b) (((a.epoch ≡ b.epoch) × (a.reader ≡ b.reader)) × (a.point ≡ b.point))
     (AdvanceBefore b a)
 advance_ranked a b = search rules

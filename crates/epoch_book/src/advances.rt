@@ -7,7 +7,7 @@ ghost use Rattle.epoch_book.specs.Refusing.{Contradict, IsFirst};
 use redo_core::{Advance, Cut};
 
 /// The index of an advance, or where it would be inserted.
-pub fn place_of_advance(waits: &[Advance], advance: Advance) -> Result<usize, usize>
+pub(crate) fn place_of_advance(waits: &[Advance], advance: Advance) -> Result<usize, usize>
     requires { IsRising AdvanceBefore waits.now }
     ensures found { IfOk result (λ _. Contains waits.now advance) }
     ensures place { IfOk result (λ i. (i < length waits.now) × HoldsAt (λ a. a ≡ advance) waits.now i) }
@@ -19,7 +19,7 @@ pub fn place_of_advance(waits: &[Advance], advance: Advance) -> Result<usize, us
 }
 
 /// The least advance, by epoch, reader and point, that the truncation cuts below.
-pub fn first_against(waits: &[Advance], cut: Cut) -> Option<Advance>
+pub(crate) fn first_against(waits: &[Advance], cut: Cut) -> Option<Advance>
     requires { IsRising AdvanceBefore waits.now }
     ensures first { IfSome result (IsFirst AdvanceBefore (λ a. Contains waits.now a × Contradict cut a)) }
     ensures none { IsNone result → All (λ a. Contradict cut a → ⊥) waits.now }
@@ -33,7 +33,7 @@ pub fn first_against(waits: &[Advance], cut: Cut) -> Option<Advance>
 }
 
 /// Keeps only the advances of epochs above the complete one.
-pub fn keep_later(waits: &mut Vec<Advance>, complete: u16)
+pub(crate) fn keep_later(waits: &mut Vec<Advance>, complete: u16)
     ensures { waits.new.items ≡ filter (λ a. nat_lt complete a.epoch) waits.old.items }
 {
     waits.retain(|wait| complete < wait.epoch());

@@ -12,7 +12,7 @@ use crate::points::others_past;
 use redo_core::{Advance, Cut, ReadPoints};
 
 /// The index of the truncation of an epoch, or where one would be inserted.
-pub fn place_of_epoch(cuts: &[Cut], epoch: u16) -> Result<usize, usize>
+pub(crate) fn place_of_epoch(cuts: &[Cut], epoch: u16) -> Result<usize, usize>
     requires { IsRising CutBefore cuts.now }
     ensures found { IfOk result (λ i. (i < length cuts.now) × HoldsAt (λ c. c.epoch ≡ epoch) cuts.now i) }
     ensures absent { IfErr result (λ i. (i ≤ length cuts.now)
@@ -34,7 +34,7 @@ fn has_epoch(cuts: &[Cut], epoch: u32) -> bool
 }
 
 /// The complete epoch, where all truncations up to `from` are known.
-pub fn complete_epoch_from(cuts: &[Cut], from: u16) -> u16
+pub(crate) fn complete_epoch_from(cuts: &[Cut], from: u16) -> u16
     requires rising { IsRising CutBefore cuts.now }
     requires fits { All (λ c. c.epoch < epoch_count) cuts.now }
     requires known { HasCutsTo cuts.now from }
@@ -64,7 +64,7 @@ fn cuts_below(
 }
 
 /// The truncation of the least epoch that cuts below the advance where nobody is left who reads there, or None.
-pub fn first_against(
+pub(crate) fn first_against(
     cuts: &[Cut],
     advance: Advance,
     points: &ReadPoints,
@@ -84,7 +84,7 @@ pub fn first_against(
 }
 
 /// Whether an LSN is above the `hi` of its epoch's truncation, where all up to the epoch are known.
-pub fn is_begun(cuts: &[Cut], epoch: u16, number: u64) -> bool
+pub(crate) fn is_begun(cuts: &[Cut], epoch: u16, number: u64) -> bool
     requires rising { IsRising CutBefore cuts.now }
     requires shaped { All (λ c. cut_fault c ≡ None) cuts.now }
     requires known { HasCutsTo cuts.now epoch }

@@ -14,7 +14,12 @@ use redo_core::Cut;
 use std::alloc::AllocError;
 
 /// Updates the list from one epoch to a complete one. The only error is an allocation failure, which leaves the list unchanged.
-pub fn raise(lows: &mut Vec<Cut>, cuts: &[Cut], from: u16, complete: u16) -> Result<(), AllocError>
+pub(crate) fn raise(
+    lows: &mut Vec<Cut>,
+    cuts: &[Cut],
+    from: u16,
+    complete: u16,
+) -> Result<(), AllocError>
     requires rising { IsRising CutBefore cuts.now }
     requires shaped { All (λ c. cut_fault c ≡ None) cuts.now }
     requires known { HasCutsTo cuts.now complete }
@@ -66,7 +71,7 @@ fn count_to(lows: &[Cut], epoch: u16) -> usize
 }
 
 /// The least `lo` of the list above an epoch, or None where none is above it.
-pub fn low_above(lows: &[Cut], epoch: u16) -> Option<u64>
+pub(crate) fn low_above(lows: &[Cut], epoch: u16) -> Option<u64>
     requires { IsRising LowBefore lows.now }
     ensures { IsLeastAbove lows.now epoch result }
 {
@@ -75,7 +80,7 @@ pub fn low_above(lows: &[Cut], epoch: u16) -> Option<u64>
 }
 
 /// Whether none of the list above an epoch cuts below an LSN.
-pub fn spare(lows: &[Cut], epoch: u16, number: u64) -> bool
+pub(crate) fn spare(lows: &[Cut], epoch: u16, number: u64) -> bool
     requires { IsRising LowBefore lows.now }
     ensures { IsTrue result ↔ All (λ c. epoch < c.epoch → number ≤ c.lo) lows.now }
 {
@@ -86,7 +91,7 @@ pub fn spare(lows: &[Cut], epoch: u16, number: u64) -> bool
 }
 
 /// The epoch of the last of the list that cuts at or below an LSN, or 0 where none does.
-pub fn last_at(lows: &[Cut], number: u64) -> u16
+pub(crate) fn last_at(lows: &[Cut], number: u64) -> u16
     requires { IsRising LowBefore lows.now }
     ensures { IsGreatest (λ e. (c : CutData) × Contains lows.now c × (c.epoch ≡ e) × (c.lo ≤ number)) result }
 {

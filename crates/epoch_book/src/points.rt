@@ -8,7 +8,7 @@ ghost use Rattle.epoch_book.specs.Refusing.{OthersPast};
 use redo_core::{Advance, Cut, ReadPoints};
 
 /// Raises each reader's point to the greatest of the advances of epochs up to the complete one.
-pub fn raise_points(points: &mut ReadPoints, waits: &[Advance], complete: u16)
+pub(crate) fn raise_points(points: &mut ReadPoints, waits: &[Advance], complete: u16)
     requires { All (λ a. IsReader (length points.old) a.reader) waits.now }
     ensures { RaisesPoints complete points.old waits.now points.new }
 {
@@ -20,7 +20,7 @@ pub fn raise_points(points: &mut ReadPoints, waits: &[Advance], complete: u16)
 }
 
 /// Whether each reader but one is known to be past the truncation.
-pub fn others_past(points: &ReadPoints, waits: &[Advance], cut: Cut, but: u8) -> bool
+pub(crate) fn others_past(points: &ReadPoints, waits: &[Advance], cut: Cut, but: u8) -> bool
     ensures { IsTrue result ↔ OthersPast points.now waits.now cut but }
 {
     for i in 0..points.readers() {
@@ -40,7 +40,7 @@ fn is_known_past(points: &ReadPoints, waits: &[Advance], cut: Cut, reader: u8) -
 }
 
 /// Whether a waiting advance of the reader, of an epoch before the truncation's, has a point above its `lo`.
-pub fn is_past(waits: &[Advance], cut: Cut, reader: u8) -> bool
+pub(crate) fn is_past(waits: &[Advance], cut: Cut, reader: u8) -> bool
     ensures { IsTrue result ↔ IsPast waits.now cut reader }
 {
     for wait in waits {

@@ -14,12 +14,6 @@ use Rattle.fleet_core.specs.Laws.{MessagesStay}
 abbrev Stay : List Made → List Made → Type 0
 Stay messages made = (more : List Made) × (made ≡ messages ++ more)
 
-no_more : (messages : List Made) → messages ≡ messages ++ []
-no_more messages = search rules
-
-kept : (messages made : List Made) → made ≡ messages → Stay messages made
-kept messages made same = ([], same ∙ no_more messages)
-
 step_stays : (old new : FleetState) (x : Step Fact) (reply : Reply) (o : Option ℕ)
     → MatchOption o (Calls old x reply new) (λ node. (reply ≡ NoNode node) × (new ≡ old)) → Stay old.messages new.messages
 step_stays old new x reply o h = search rules

@@ -7,7 +7,7 @@ use gossip_core::{absorb, reply, summary};
 use segment_core::Segment;
 
 /// Makes a message of a node's summary.
-pub fn ask(segment: &Segment, messages: &mut Vec<Made>) -> Reply
+pub(crate) fn ask(segment: &Segment, messages: &mut Vec<Made>) -> Reply
     ensures calls { Asks segment.now messages.old.items result messages.new.items }
 {
     match summary(segment) {
@@ -17,7 +17,7 @@ pub fn ask(segment: &Segment, messages: &mut Vec<Made>) -> Reply
 }
 
 /// Makes a message of what a node has beyond the summary in the question of a number.
-pub fn answer_question(segment: &Segment, messages: &mut Vec<Made>, number: usize) -> Reply
+pub(crate) fn answer_question(segment: &Segment, messages: &mut Vec<Made>, number: usize) -> Reply
     ensures calls { AnswersNumber segment.now messages.old.items number result messages.new.items }
 {
     let replied = match question(messages, number) {
@@ -37,7 +37,7 @@ pub fn answer_question(segment: &Segment, messages: &mut Vec<Made>, number: usiz
 }
 
 /// Brings the delta of the answer of a number into a node.
-pub fn absorb_answer(segment: &mut Segment, messages: &[Made], number: usize) -> Reply
+pub(crate) fn absorb_answer(segment: &mut Segment, messages: &[Made], number: usize) -> Reply
     ensures calls { AbsorbsNumber segment.old messages.now number result segment.new }
 {
     match answer(messages, number) {

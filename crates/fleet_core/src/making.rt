@@ -15,7 +15,7 @@ pub enum Made {
 }
 
 /// The summary in the question of a number, counted from 1; None where there is no such question.
-pub fn question(messages: &[Made], number: usize) -> Option<&Summary>
+pub(crate) fn question(messages: &[Made], number: usize) -> Option<&Summary>
     ensures { option_copied result ≡ question_in messages.now number }
 {
     match numbered(messages, number) {
@@ -25,7 +25,7 @@ pub fn question(messages: &[Made], number: usize) -> Option<&Summary>
 }
 
 /// The answer of a number, counted from 1, beside the question that it answers; None where there is no such answer.
-pub fn answer(messages: &[Made], number: usize) -> Option<(&Summary, &Delta)>
+pub(crate) fn answer(messages: &[Made], number: usize) -> Option<(&Summary, &Delta)>
     ensures { option_map (λ x. (x.0.now, x.1.now)) result ≡ answer_in messages.now number }
 {
     match numbered(messages, number) {

@@ -13,7 +13,7 @@ use segment_core::Segment;
 use segment_join::{covers, join, same};
 
 /// Brings what the other node means into a node; a node that is joined with itself stays as it is.
-pub fn join_beside(segment: &mut Segment, other: Option<&Segment>) -> Reply
+pub(crate) fn join_beside(segment: &mut Segment, other: Option<&Segment>) -> Reply
     ensures follows { (readers node from : ℕ) → OwnFollows readers segment.old (option_copied other.entry) (JoinOf node from) result segment.new }
     ensures calls { JoinsBeside segment.old (option_copied other.entry) result segment.new }
     ensures found { (node : ℕ) → result ≡ NoNode node → ⊥ }
@@ -27,7 +27,7 @@ pub fn join_beside(segment: &mut Segment, other: Option<&Segment>) -> Reply
 }
 
 /// Whether a node and the other one mean the same. A node means the same as itself.
-pub fn same_beside(segment: &Segment, other: Option<&Segment>) -> Reply
+pub(crate) fn same_beside(segment: &Segment, other: Option<&Segment>) -> Reply
     ensures follows { (readers node than : ℕ) → OwnFollows readers segment.now (option_copied other.entry) (SameOf node than) result segment.now }
     ensures calls { RepliesAnswer (ReportsSame segment.now (unwrap_or (option_copied other.entry) segment.now)) result }
     ensures found { (node : ℕ) → result ≡ NoNode node → ⊥ }
@@ -40,7 +40,7 @@ pub fn same_beside(segment: &Segment, other: Option<&Segment>) -> Reply
 }
 
 /// Whether what a node means covers what the other one means. A node covers itself.
-pub fn covers_beside(segment: &Segment, other: Option<&Segment>) -> Reply
+pub(crate) fn covers_beside(segment: &Segment, other: Option<&Segment>) -> Reply
     ensures follows { (readers node than : ℕ) → OwnFollows readers segment.now (option_copied other.entry) (CoversOf node than) result segment.now }
     ensures calls { RepliesAnswer (ReportsCovers segment.now (unwrap_or (option_copied other.entry) segment.now)) result }
     ensures found { (node : ℕ) → result ≡ NoNode node → ⊥ }

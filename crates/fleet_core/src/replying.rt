@@ -8,7 +8,7 @@ use gossip_core::AbsorbRefusal;
 use redo_core::{Fact, Page, Refused};
 use segment_core::{ReadFault, Refusal, Taken};
 
-pub fn taken_reply(taken: Result<Taken, Refused<Fact, Refusal>>) -> Reply
+pub(crate) fn taken_reply(taken: Result<Taken, Refused<Fact, Refusal>>) -> Reply
     ensures { result ≡ taken_reply_of taken }
 {
     match taken {
@@ -18,7 +18,7 @@ pub fn taken_reply(taken: Result<Taken, Refused<Fact, Refusal>>) -> Reply
     }
 }
 
-pub fn refusal_reply(refusal: Refusal) -> Reply
+pub(crate) fn refusal_reply(refusal: Refusal) -> Reply
     ensures { result ≡ refusal_reply_of refusal }
 {
     match refusal {
@@ -27,7 +27,7 @@ pub fn refusal_reply(refusal: Refusal) -> Reply
     }
 }
 
-pub fn read_reply(read: Result<Page, ReadFault>) -> Reply
+pub(crate) fn read_reply(read: Result<Page, ReadFault>) -> Reply
     ensures { result ≡ read_reply_of read }
 {
     match read {
@@ -36,7 +36,7 @@ pub fn read_reply(read: Result<Page, ReadFault>) -> Reply
     }
 }
 
-pub fn fault_reply(fault: ReadFault) -> Reply
+pub(crate) fn fault_reply(fault: ReadFault) -> Reply
     ensures { result ≡ fault_reply_of fault }
 {
     match fault {
@@ -47,7 +47,7 @@ pub fn fault_reply(fault: ReadFault) -> Reply
     }
 }
 
-pub fn joined_reply(joined: Result<(), Refusal>) -> Reply
+pub(crate) fn joined_reply(joined: Result<(), Refusal>) -> Reply
     ensures { result ≡ joined_reply_of joined }
 {
     match joined {
@@ -56,7 +56,7 @@ pub fn joined_reply(joined: Result<(), Refusal>) -> Reply
     }
 }
 
-pub fn absorbed_reply(absorbed: Result<(), AbsorbRefusal>) -> Reply
+pub(crate) fn absorbed_reply(absorbed: Result<(), AbsorbRefusal>) -> Reply
     ensures { result ≡ absorbed_reply_of absorbed }
 {
     match absorbed {

@@ -8,14 +8,14 @@ use redo_core::{Fact, Record};
 use segment_core::{Refusal, Segment};
 
 /// Takes a fact.
-pub fn take_fact(segment: &mut Segment, fact: Fact) -> Reply
+pub(crate) fn take_fact(segment: &mut Segment, fact: Fact) -> Reply
     ensures { Takes segment.old fact result segment.new }
 {
     taken_reply(segment.take(fact))
 }
 
 /// Takes a copy of a fact.
-pub fn take_copy(segment: &mut Segment, fact: &Fact) -> Reply
+pub(crate) fn take_copy(segment: &mut Segment, fact: &Fact) -> Reply
     ensures { Takes segment.old fact.now result segment.new }
 {
     match fact {

@@ -54,13 +54,6 @@ pub record Passes (all : Map) (x : Key) (next : Option Entry) (rest : Map) : Typ
   pub among : (e : Entry) → Contains (cons_option next rest) e → Contains all e
   pub before : (e : Entry) → Contains all e → Contains (cons_option next rest) e ⊎ Below e.0 x
 
-pub passes_none : (all : Map) (x : Key) (next : Option Entry) (rest : Map) → StandsNext next rest → cons_option next rest ≡ all → Passes all x next rest
-passes_none all x next rest ahead is = record {
-  ahead = ahead;
-  among = λ e h. subst (λ (l : Map). Contains l e) is h;
-  before = λ e h. inl (subst (λ (l : Map). Contains l e) (sym is) h);
-}
-
 pub passes_one : (all : Map) (x : Key) (own : Entry) (rest : Map) (first : Option Seat) (left : Map)
     → Passes all x (Some own) rest → Below own.0 x → TakesFirst deref_pair rest first left → Passes all x (shown first) left
 passes_one all x own rest first left passes low takes =
@@ -99,13 +92,6 @@ passed_all all x own rest passes not_before e = (
         (which own rest e h),
   ),
   λ h. ⊎_elim (λ (u : Contains (own ∷ rest) e). u) (λ (u : Below e.0 x). absurd (h.1 u)) (passes.before e h.0),
-)
-
--- where none is left, all were before the place
-pub passed_none : (all : Map) (x : Key) (rest : Map) → Passes all x None rest → (e : Entry) → Contains rest e ↔ (Contains all e × (Below e.0 x → ⊥))
-passed_none all x rest passes e = (
-  λ h. absurd (none_in e (subst (λ (l : Map). Contains l e) (passes.ahead.ended refl) h)),
-  λ h. ⊎_elim (λ (u : Contains rest e). u) (λ (u : Below e.0 x). absurd (h.1 u)) (passes.before e h.0),
 )
 
 -- ---- what a log stores, as entries

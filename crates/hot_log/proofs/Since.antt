@@ -32,9 +32,6 @@ first_starts b number since epoch parts up = (
 )
 
 -- ---- what is alive above the LSN is above that key
-pub none_at_zero : (b : BookData) (held : List RecordData) (number : ℕ) → HasNoneEarlier b held number 0
-none_at_zero b held number r h lt = omega arith
-
 pub none_above : (b : BookData) (held : List RecordData) (number above since : ℕ) → number ≤ above → HasNoneEarlier b held number since → HasNoneEarlier b held above since
 none_above b held number above since le none r h lt = none r h (omega arith)
 

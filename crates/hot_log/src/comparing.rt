@@ -12,16 +12,16 @@ ghost use Rattle.hot_log.specs.Seen.{seen_in};
 use crate::ahead::Ahead;
 use crate::packed::PackedKey;
 use crate::search::is_kept;
-use crate::view::View;
+use crate::view::BookView;
 use epoch_book::EpochBook;
 use redo_core::{Key, Record};
 
-impl<'a> View<'a> {
+impl<'a> BookView<'a> {
     /// Whether the log stores each record of a lower view's log that both views keep, this one above a point and the lower one above a
     /// base: the record waits, or is alive above that LSN.
     ///
     /// It scans both logs side by side, without look-ups, compares only records above the base, and ends at the first that is not stored.
-    pub fn stores_kept(&self, point: u64, lower: &View<'_>, base: u64) -> bool
+    pub fn stores_kept(&self, point: u64, lower: &BookView<'_>, base: u64) -> bool
         ensures { IsTrue result ↔ seen_in self.now StoresKept point lower.now.book.now lower.now.held.now base }
     {
         let mut own = Ahead::new(self.held.entries());

@@ -5,10 +5,10 @@ ghost use Rattle.std.specs.Prelude.{◌≡◌, ◌≤◌};
 
 use crate::log::HotLog;
 use crate::steps::Steps;
-use crate::view::View;
+use crate::view::BookView;
 use redo_core::Key;
 
-fn linked_number_has_one_answer(view: &View, from: u64, limit: u64) -> (u64, u64)
+fn linked_number_has_one_answer(view: &BookView, from: u64, limit: u64) -> (u64, u64)
     requires { from ≤ limit }
     ensures { result.0 ≡ result.1 }
 {
@@ -18,7 +18,7 @@ fn linked_number_has_one_answer(view: &View, from: u64, limit: u64) -> (u64, u64
     )
 }
 
-fn straight_end_has_one_answer(view: &View, from: u64) -> (Option<u64>, Option<u64>)
+fn straight_end_has_one_answer(view: &BookView, from: u64) -> (Option<u64>, Option<u64>)
     ensures { result.0 ≡ result.1 }
 {
     (view.contiguous_end(from), view.contiguous_end(from))
@@ -30,7 +30,7 @@ fn key_after_has_one_answer(log: &HotLog, after: Option<Key>) -> (Option<Key>, O
     (log.key_after(after), log.key_after(after))
 }
 
-fn gap_has_one_answer(view: &View, number: u64) -> (Option<u64>, Option<u64>)
+fn gap_has_one_answer(view: &BookView, number: u64) -> (Option<u64>, Option<u64>)
     ensures { result.0 ≡ result.1 }
 {
     view.held.opens_form();
@@ -38,7 +38,7 @@ fn gap_has_one_answer(view: &View, number: u64) -> (Option<u64>, Option<u64>)
     (view.gap_above(number), view.gap_above(number))
 }
 
-fn awaited_epoch_has_one_answer(view: &View) -> (Option<u16>, Option<u16>)
+fn awaited_epoch_has_one_answer(view: &BookView) -> (Option<u16>, Option<u16>)
     ensures { result.0 ≡ result.1 }
 {
     (view.awaited(), view.awaited())

@@ -1,7 +1,7 @@
 //! The redo records that a segment stores, and what they link.
 //!
 //! A log stores at most one record of a key (epoch, LSN), in the order of the keys; it refuses another record of a stored key.
-//! Given a book of truncations, it removes what an image contains and what is dead; a `View` borrows both, and returns which
+//! Given a book of truncations, it removes what an image contains and what is dead; a `BookView` borrows both, and returns which
 //! LSNs are linked from a base, the alive records of a page in order of their LSNs, the successor of an LSN, and the LSN that
 //! blocks the first alive record above one. Every result is exact for every set of records, also one that no sound log has.
 //! Only `put`, `copy`, `records_of`, `records_since_init`, `kept_keys`, `kept_unlisted` and `missing` allocate.
@@ -31,4 +31,4 @@ mod view;
 pub use log::{HotLog, Put, PutFault};
 pub use search::is_kept;
 pub use steps::Steps;
-pub use view::View;
+pub use view::BookView;

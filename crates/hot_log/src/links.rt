@@ -13,12 +13,12 @@ ghost use Rattle.hot_log.specs.Seen.{seen_in};
 use crate::packed::PackedKey;
 use crate::search::{is_alive, start_above};
 use crate::steps::Steps;
-use crate::view::View;
+use crate::view::BookView;
 use epoch_book::EpochBook;
 use redo_core::{Key, Record};
 use sorted_runs::Entries;
 
-impl<'a> View<'a> {
+impl<'a> BookView<'a> {
     /// The greatest LSN up to a limit that is linked from a base.
     pub fn linked_to(&self, from: u64, limit: u64) -> u64
         requires { from ≤ limit }

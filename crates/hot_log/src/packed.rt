@@ -96,7 +96,7 @@ impl PackedKey {
 }
 
 /// The key that is packed, if there is one.
-pub fn unpacked(packed: Option<PackedKey>) -> Option<Key>
+pub(crate) fn unpacked(packed: Option<PackedKey>) -> Option<Key>
     ensures { result ≡ packed }
 {
     Some(packed?.key())

@@ -12,7 +12,7 @@ ghost use Rattle.hot_log.specs.Found.{IsLeast, IsLeastRecord, IsGreatestRecord, 
 ghost use Rattle.hot_log.specs.Kept.{KeepsKey};
 ghost use Rattle.hot_log.specs.Seen.{seen_in};
 
-use crate::view::View;
+use crate::view::BookView;
 use epoch_book::{EpochBook, Standing};
 use redo_core::{Key, Record};
 
@@ -107,7 +107,7 @@ fn is_up_to(key: Key, to: Key) -> bool
     key.epoch < to.epoch || (key.epoch == to.epoch && key.number <= to.number)
 }
 
-impl<'a> View<'a> {
+impl<'a> BookView<'a> {
     /// The alive record with this LSN.
     pub fn alive_of(&self, number: u64) -> Option<&'a Record>
         ensures { IsOnlyRecord (λ r. seen_in self.now IsHeldAlive r × (r.number ≡ number)) (option_copied result) }

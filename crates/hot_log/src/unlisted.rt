@@ -7,11 +7,11 @@ ghost use Rattle.hot_log.specs.Kept.{KeepsKey, IsKeptUnlisted};
 ghost use Rattle.hot_log.specs.Seen.{seen_in};
 
 use crate::search::{epoch_above, is_kept};
-use crate::view::View;
+use crate::view::BookView;
 use redo_core::{Key, Record};
 use std::alloc::{AllocError, Global};
 
-impl<'a> View<'a> {
+impl<'a> BookView<'a> {
     /// The records that wait, or are alive above an LSN, and whose keys are not among the ones given, which rise; rising by key. Its
     /// only error is an allocation failure.
     pub fn kept_unlisted(

@@ -20,12 +20,12 @@ use std::alloc::{AllocError, Global};
 ///
 /// It borrows both for queries. What changes the log takes the log and the book themselves.
 #[derive(Clone, Copy)]
-pub struct View<'a> {
+pub struct BookView<'a> {
     pub book: &'a EpochBook,
     pub held: &'a HotLog,
 }
 
-impl<'a> View<'a> {
+impl<'a> BookView<'a> {
     /// The first alive record of a page with an LSN above `from` and up to `to`, or None where there is none.
     pub fn next_of(&self, page: u16, from: u64, to: u64) -> Option<&'a Record>
         ensures { IsLeastRecord (seen_in self.now IsHeldOf page from to) (option_copied result) }

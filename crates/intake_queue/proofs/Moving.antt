@@ -145,12 +145,6 @@ holds_rest port v is items views h at =
       };
     }
 
--- where it finds nothing, the taker has taken all that it heard of
-after_all : (v : KnownData) (items : List ParcelData) → length items ≡ 0 → HasAllHeard v.accepted_counts (v.taken ++ items)
-    → HasAllHeard v.accepted_counts v.taken
-after_all v [] none all p count c = subst (λ xs. count ≤ length (sent_by p xs)) (append-nil v.taken) (all p count c)
-after_all v (x ∷ items) none all p count c = absurd (omega (arith, none))
-
 pub nothing_left : {T : Type 0} (P : Type 0) (Q : T → Type 0) (v : KnownData) (found : Option T) → MatchOption found (P × Held 0 (HoldsUntaken v)) Q
     → IfNone found (HasAllHeard v.accepted_counts v.taken)
 nothing_left P Q v found h = grind (arith, common_steps)

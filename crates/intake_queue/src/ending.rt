@@ -11,7 +11,7 @@ ghost use Rattle.intake_queue.specs.Left.{IsLeft};
 use crate::intake::{Intake, Line};
 use crate::parcel::Parcel;
 use crate::passes::{SenderPass, TakerPass};
-use crate::rule::{Ends, Known, Takes};
+use crate::rule::{Ends, PassView, Takes};
 use crossbeam_queue::Pass;
 use named_log::LogName;
 use std::sync::Wait;
@@ -39,7 +39,7 @@ pub(crate) fn take_rest<L: LogName, R: Wait>(
 // The taker takes in what the senders know.
 fn gather<L: LogName>(
     line: &Line<L>,
-    pass: &mut Pass<Parcel<L>, Known>,
+    pass: &mut Pass<Parcel<L>, PassView>,
     mut senders: Vec<SenderPass<L>>,
 )
     requires own { IsPassOf line.now pass.old × AreSendersOf line.now.table.shared.table_id senders.items }
@@ -62,7 +62,7 @@ fn gather<L: LogName>(
 fn drain<L: LogName, R: Wait>(
     rt: &R,
     line: &Line<L>,
-    pass: &mut Pass<Parcel<L>, Known>,
+    pass: &mut Pass<Parcel<L>, PassView>,
     mut left: Vec<Parcel<L>>,
 ) -> Vec<Parcel<L>>
     requires own { IsPassOf line.now pass.old }

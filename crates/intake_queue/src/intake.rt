@@ -8,7 +8,7 @@ use crate::ending::take_rest;
 use crate::opening::make_senders;
 use crate::parcel::Parcel;
 use crate::passes::{SenderPass, TakerPass};
-use crate::rule::{InTurn, Known, Offers, Takes};
+use crate::rule::{InTurn, Offers, PassView, Takes};
 use crossbeam_queue::{Pass, RuledArrayQueue};
 use named_log::LogName;
 use redo_core::Refused;
@@ -34,7 +34,7 @@ pub struct Unended<L: LogName> {
     pub taker: TakerPass<L>,
 }
 
-pub(crate) type Line<L> = RuledArrayQueue<Parcel<L>, Known, InTurn, Global>;
+pub(crate) type Line<L> = RuledArrayQueue<Parcel<L>, PassView, InTurn, Global>;
 
 /// A bounded queue of parcels. Contracts see which intake it is, and its capacity.
 #[derive(Drop)]
@@ -65,7 +65,7 @@ impl<L: LogName> Intake<L> {
         ensures senders { IfOk result (λ made. AreNewSenders made.0.id senders senders made.1.items) }
         ensures taker { IfOk result (λ made. made.2 ≡ record { intake = made.0.id; senders = senders; taken = []; heard = [] }) }
     {
-        let (line, mut pass): (Line<L>, Pass<Parcel<L>, Known>) = RuledArrayQueue::ruled(
+        let (line, mut pass): (Line<L>, Pass<Parcel<L>, PassView>) = RuledArrayQueue::ruled(
             alloc, capacity,
         )?;
         let made = make_senders(alloc, &line, &mut pass, senders)?;

@@ -4,7 +4,7 @@ ghost use Rattle.std.specs.Prelude.{◌≡◌, ◌∷◌, ◌++◌, [], length, 
 use crate::intake::Intake;
 use crate::parcel::Parcel;
 use crate::passes::{SenderPass, TakerPass};
-use crate::rule::{Known, SenderHears, SenderNotes, TakerHears, TakerNotes};
+use crate::rule::{PassView, SenderHears, SenderNotes, TakerHears, TakerNotes};
 use crossbeam_queue::Pass;
 use named_log::LogName;
 use std::marker::Model;
@@ -12,7 +12,7 @@ use std::marker::Model;
 /// What was known when it was written: that so many parcels of a sender were accepted, or that so many were taken.
 #[derive(Drop)]
 pub struct Note<L: LogName> {
-    pass: Pass<Parcel<L>, Known>,
+    pass: Pass<Parcel<L>, PassView>,
 }
 
 impl<L: LogName> Model for Note<L> {

@@ -7,7 +7,7 @@ ghost use Rattle.intake_queue.specs.Ends.{AreNewSenders};
 use crate::intake::Line;
 use crate::parcel::Parcel;
 use crate::passes::SenderPass;
-use crate::rule::{Counts, Known, Opens};
+use crate::rule::{Counts, Opens, PassView};
 use crossbeam_queue::Pass;
 use named_log::LogName;
 use std::alloc::{AllocError, Global};
@@ -16,7 +16,7 @@ use std::alloc::{AllocError, Global};
 pub(crate) fn make_senders<L: LogName>(
     alloc: Global,
     line: &Line<L>,
-    pass: &mut Pass<Parcel<L>, Known>,
+    pass: &mut Pass<Parcel<L>, PassView>,
     senders: usize,
 ) -> Result<Vec<SenderPass<L>>, AllocError>
     requires own { IsPassOf line.now pass.old }
@@ -39,7 +39,7 @@ pub(crate) fn make_senders<L: LogName>(
 }
 
 // The taker learns how many senders there will be.
-fn count_senders<L: LogName>(line: &Line<L>, pass: &mut Pass<Parcel<L>, Known>, senders: usize)
+fn count_senders<L: LogName>(line: &Line<L>, pass: &mut Pass<Parcel<L>, PassView>, senders: usize)
     requires own { IsPassOf line.now pass.old }
     requires first { view pass.old ≡ taker [] 0 0 [] [] }
     ensures own { IsPassOf line.now pass.new }

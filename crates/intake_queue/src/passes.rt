@@ -3,7 +3,7 @@ ghost use Rattle.std.specs.Prelude.{◌≡◌, ◌+◌, ◌↔◌, ◌^◌, leng
 ghost use Rattle.intake_queue.specs.Ends.{next_parcel};
 
 use crate::parcel::Parcel;
-use crate::rule::Known;
+use crate::rule::PassView;
 use crossbeam_queue::Pass;
 use named_log::{LogFact, LogName};
 use redo_core::Refused;
@@ -18,7 +18,7 @@ pub struct UsedUp;
 pub struct SenderPass<L: LogName> {
     pub(crate) number: u64,
     pub(crate) accepted: u64,
-    pub(crate) pass: Pass<Parcel<L>, Known>,
+    pub(crate) pass: Pass<Parcel<L>, PassView>,
 }
 
 // The pass is a sender's, and the two fields are what it knows.
@@ -62,7 +62,7 @@ impl<L: LogName> SenderPass<L> {
 /// What the one taker of an intake holds. Contracts see what it took.
 #[derive(Drop)]
 pub struct TakerPass<L: LogName> {
-    pub(crate) pass: Pass<Parcel<L>, Known>,
+    pub(crate) pass: Pass<Parcel<L>, PassView>,
 }
 
 impl<L: LogName> Model for TakerPass<L> {

@@ -5,9 +5,9 @@ use named_log::LogName;
 use std::marker::Model;
 
 /// What the holder of a pass knows. No value of it is made.
-pub struct Known;
+pub struct PassView;
 
-impl Model for Known {
+impl Model for PassView {
     ghost use Rattle.intake_queue.specs.Known.{KnownData, nobody};
 
     ghost Value = { KnownData };
@@ -18,7 +18,7 @@ impl Model for Known {
 /// Of each sender, what was accepted is what was taken and then what is left.
 pub struct InTurn;
 
-impl<L: LogName> Protocol<Parcel<L>, Known> for InTurn {
+impl<L: LogName> Protocol<Parcel<L>, PassView> for InTurn {
     ghost use Rattle.std.specs.Prelude.{[]};
     ghost use Rattle.intake_queue.specs.Known.{taker};
     ghost use Rattle.intake_queue.specs.Rule.{Delivers};
@@ -31,7 +31,7 @@ impl<L: LogName> Protocol<Parcel<L>, Known> for InTurn {
 /// One sender more is to be made. No sender is made before all are counted, so that each knows how many there are.
 pub(crate) struct Counts;
 
-impl Split<Known> for Counts {
+impl Split<PassView> for Counts {
     ghost use Rattle.std.specs.Prelude.{◌+◌};
     ghost use Rattle.intake_queue.specs.Known.{taker, nobody};
 
@@ -43,7 +43,7 @@ impl Split<Known> for Counts {
 /// The taker makes the next sender.
 pub(crate) struct Opens;
 
-impl Split<Known> for Opens {
+impl Split<PassView> for Opens {
     ghost use Rattle.std.specs.Prelude.{◌+◌, []};
     ghost use Rattle.intake_queue.specs.Known.{taker, sender};
 
@@ -55,7 +55,7 @@ impl Split<Known> for Opens {
 /// The taker takes in a sender that has ended.
 pub(crate) struct Ends;
 
-impl Join<Known> for Ends {
+impl Join<PassView> for Ends {
     ghost use Rattle.std.specs.Prelude.{◌++◌, ◌∷◌, []};
     ghost use Rattle.intake_queue.specs.Known.{taker, nobody};
 
@@ -67,7 +67,7 @@ impl Join<Known> for Ends {
 /// A sender notes how many of its parcels were accepted.
 pub(crate) struct SenderNotes;
 
-impl Split<Known> for SenderNotes {
+impl Split<PassView> for SenderNotes {
     ghost use Rattle.std.specs.Prelude.{◌∷◌, [], length};
     ghost use Rattle.intake_queue.specs.Known.{note};
 
@@ -79,7 +79,7 @@ impl Split<Known> for SenderNotes {
 /// The taker notes how many parcels it took.
 pub(crate) struct TakerNotes;
 
-impl Split<Known> for TakerNotes {
+impl Split<PassView> for TakerNotes {
     ghost use Rattle.std.specs.Prelude.{[], length};
     ghost use Rattle.intake_queue.specs.Known.{note};
 
@@ -90,7 +90,7 @@ impl Split<Known> for TakerNotes {
 
 pub(crate) struct TakerHears;
 
-impl Join<Known> for TakerHears {
+impl Join<PassView> for TakerHears {
     ghost use Rattle.std.specs.Prelude.{◌++◌};
     ghost use Rattle.intake_queue.specs.Known.{taker, nobody};
 
@@ -101,7 +101,7 @@ impl Join<Known> for TakerHears {
 
 pub(crate) struct SenderHears;
 
-impl Join<Known> for SenderHears {
+impl Join<PassView> for SenderHears {
     ghost use Rattle.std.specs.Prelude.{max};
     ghost use Rattle.intake_queue.specs.Known.{sender, nobody};
 
@@ -112,14 +112,14 @@ impl Join<Known> for SenderHears {
 
 pub(crate) struct Offers;
 
-impl<L: LogName> Outcome<Parcel<L>, Known> for Offers {
+impl<L: LogName> Outcome<Parcel<L>, PassView> for Offers {
     ghost use Rattle.std.specs.Prelude.{◌≡◌};
     ghost use Rattle.intake_queue.specs.Rule.{after_offer};
 
     ghost then = { λ v x w. w ≡ after_offer v x };
 }
 
-impl<L: LogName> Lesson<Parcel<L>, Known> for Offers {
+impl<L: LogName> Lesson<Parcel<L>, PassView> for Offers {
     ghost use Rattle.intake_queue.specs.Rule.{HoldsOwn};
 
     ghost fact = { HoldsOwn };
@@ -127,13 +127,13 @@ impl<L: LogName> Lesson<Parcel<L>, Known> for Offers {
 
 pub(crate) struct Takes;
 
-impl<L: LogName> Outcome<Parcel<L>, Known> for Takes {
+impl<L: LogName> Outcome<Parcel<L>, PassView> for Takes {
     ghost use Rattle.intake_queue.specs.Rule.{IsTake};
 
     ghost then = { IsTake };
 }
 
-impl<L: LogName> Lesson<Parcel<L>, Known> for Takes {
+impl<L: LogName> Lesson<Parcel<L>, PassView> for Takes {
     ghost use Rattle.intake_queue.specs.Rule.{HoldsUntaken};
 
     ghost fact = { HoldsUntaken };

@@ -8,7 +8,7 @@ use lib.Seq.{set-get_or}
 use prog.Atomic.{either}
 use Rattle.atomic_table.specs.Table.{State, Me, step, keeps, takes, gives, rest, stepped, Allows, Enters, Splits, Joins, opening}
 use Rattle.atomic_table.proofs.Lists.{at_set, set_here, set_else, set_again, at_longer, at_snoc}
-use Rattle.node_lock.specs.declared.rule.Known.{Known}
+use Rattle.node_lock.specs.declared.rule.SeatView.{SeatView}
 use Rattle.node_lock.specs.Trail.{Entry, Receipt, receipts_of}
 use Rattle.node_lock.specs.Known.{Part, standing_for, holding, new_parts, first_part, rest_parts, ListsAreTrue, tally, total, one, weight, is_of}
 use Rattle.node_lock.specs.Rule.{Fits, KeepsLockRule}
@@ -24,12 +24,12 @@ no : false ≡ true → ⊥
 no e = subst IsFalse e tt
 
 -- a view in the place of another with the same measure
-same_total : (f : Part → ℕ) (vs : List Known) (i : ℕ) (v w : Known) → get_elem? vs i ≡ some v → tally f w.parts ≡ tally f v.parts
+same_total : (f : Part → ℕ) (vs : List SeatView) (i : ℕ) (v w : SeatView) → get_elem? vs i ≡ some v → tally f w.parts ≡ tally f v.parts
     → total f (set vs i w) ≡ total f vs
 same_total f vs i v w at same = omega (arith, total_set f vs i v w at, same)
 
-seats_stay : (K : ℕ → Known → Type 0) (vs : List Known) (me : ℕ) (w : Known) → K me w → ((j : ℕ) (d : Known) → j ≢ me → get_elem? vs j ≡ some d → K j d)
-    → (j : ℕ) (d : Known) → get_elem? (set vs me w) j ≡ some d → K j d
+seats_stay : (K : ℕ → SeatView → Type 0) (vs : List SeatView) (me : ℕ) (w : SeatView) → K me w → ((j : ℕ) (d : SeatView) → j ≢ me → get_elem? vs j ≡ some d → K j d)
+    → (j : ℕ) (d : SeatView) → get_elem? (set vs me w) j ≡ some d → K j d
 seats_stay K vs me w mine others j d e = search (rules, at_set)
 
 in_bounds : {A : Type 0} (l : List A) (i : ℕ) (a : A) → get_elem? l i ≡ some a → i < length l
@@ -38,15 +38,15 @@ in_bounds (x ∷ xs) zero a e = omega arith
 in_bounds (x ∷ xs) (suc i) a e = omega (arith, in_bounds xs i a e)
 
 -- a seat that holds the slot is not one that does not
-apart : (vs : List Known) (i j : ℕ) (v u : Known) → get_elem? vs i ≡ some v → v.holds ≡ false → get_elem? vs j ≡ some u → u.holds ≡ true → i ≢ j
+apart : (vs : List SeatView) (i j : ℕ) (v u : SeatView) → get_elem? vs i ≡ some v → v.holds ≡ false → get_elem? vs j ≡ some u → u.holds ≡ true → i ≢ j
 apart vs i j v u at idle there held e = cc
 
 module _ {T : Type 0} (trail_of : T → List Entry) (good : T → Type 0) (passes : ℕ) where
   abbrev St : Type 0
-  St = State (Option T) Known
+  St = State (Option T) SeatView
 
   abbrev M : Type 0
-  M = Me (Option T) Known
+  M = Me (Option T) SeatView
 
   abbrev Rule : St → Type 0
   Rule = KeepsLockRule trail_of good passes
@@ -54,12 +54,12 @@ module _ {T : Type 0} (trail_of : T → List Entry) (good : T → Type 0) (passe
   abbrev word : St → ℕ
   word s = get_or s.words 0 0
 
-  abbrev with_views : St → List Known → St
+  abbrev with_views : St → List SeatView → St
   with_views s vs = record { words = s.words; homes = s.homes; views = vs }
 
   -- only views change, the holder's stays, and together they represent the same passes
-  views_change : (s : St) (r : Rule s) (vs : List Known) → (word s ≢ 0 → (v : Known) × (get_elem? vs r.holder ≡ some v) × (v.holds ≡ true))
-      → ((j : ℕ) (d : Known) → get_elem? vs j ≡ some d → Fits passes r.trail r.holder (word s) j d)
+  views_change : (s : St) (r : Rule s) (vs : List SeatView) → (word s ≢ 0 → (v : SeatView) × (get_elem? vs r.holder ≡ some v) × (v.holds ≡ true))
+      → ((j : ℕ) (d : SeatView) → get_elem? vs j ≡ some d → Fits passes r.trail r.holder (word s) j d)
       → ((f : Part → ℕ) → total f vs ≡ total f s.views) → Rule (with_views s vs)
   views_change s r vs away each totals = search rules
 
@@ -70,7 +70,7 @@ module _ {T : Type 0} (trail_of : T → List Entry) (good : T → Type 0) (passe
 
   pub sits : (slots n : ℕ) (parts : List Part)
       → Enters Rule slots 0 (λ k w. IsSeated trail_of good (step slots 0 0 0 none) (standing_for passes parts, []) k (w, []))
-  sits slots n parts s r _ _ = let w : Known = standing_for passes [] in (
+  sits slots n parts s r _ _ = let w : SeatView = standing_for passes [] in (
     w,
     views_change s r (s.views ++ w ∷ []) (λ z. let t = r.away z in (t.0, at_longer s.views (w ∷ []) r.holder t.0 t.1, t.2))
         (λ j d e. ⊎_elim (r.each j d) (λ (q : w ≡ d). subst (Fits passes r.trail r.holder (word s) j) q
@@ -80,10 +80,10 @@ module _ {T : Type 0} (trail_of : T → List Entry) (good : T → Type 0) (passe
   )
 
   -- the first pass of an idle seat goes to a new seat
-  pub splits : (id : ℕ) (v : Known) → v.holds ≡ false
+  pub splits : (id : ℕ) (v : SeatView) → v.holds ≡ false
       → Splits Rule id v (standing_for v.passes (rest_parts v.parts)) (standing_for v.passes (first_part v.parts))
-  splits id v idle s r at = let w : Known = standing_for v.passes (rest_parts v.parts) in let o : Known = standing_for v.passes (first_part v.parts) in
-      let old = r.each id v at in let Fit : ℕ → Known → Type 0 = Fits passes r.trail r.holder (word s) in
+  splits id v idle s r at = let w : SeatView = standing_for v.passes (rest_parts v.parts) in let o : SeatView = standing_for v.passes (first_part v.parts) in
+      let old = r.each id v at in let Fit : ℕ → SeatView → Type 0 = Fits passes r.trail r.holder (word s) in
       let rest_fits = idle_fits r.trail r.holder (word s) id v.passes (rest_parts v.parts) old.same (are_rest v.parts r.trail old.lists) in
       views_change s r (set s.views id w ++ o ∷ [])
       (λ z. let t = r.away z in let far : r.holder ≢ id = λ e. apart s.views id r.holder v t.0 at idle t.1 t.2 (sym e) in
@@ -94,10 +94,10 @@ module _ {T : Type 0} (trail_of : T → List Entry) (good : T → Type 0) (passe
       (λ f. omega (arith, total_set f s.views id v w at, tally_cut f v.parts, total_snoc f (set s.views id w) o))
 
   -- one seat for the passes of two idle ones
-  pub joins : (id : ℕ) (v : Known) (other : ℕ) (u : Known) → v.holds ≡ false → u.holds ≡ false
+  pub joins : (id : ℕ) (v : SeatView) (other : ℕ) (u : SeatView) → v.holds ≡ false → u.holds ≡ false
       → Joins Rule id v other u (standing_for v.passes (v.parts ++ u.parts)) (standing_for 0 [])
-  joins id v other u idle idle' s r at far there = let w : Known = standing_for v.passes (v.parts ++ u.parts) in let o : Known = standing_for 0 [] in
-      let old = r.each id v at in let vs : List Known = set s.views id w in let Fit : ℕ → Known → Type 0 = Fits passes r.trail r.holder (word s) in
+  joins id v other u idle idle' s r at far there = let w : SeatView = standing_for v.passes (v.parts ++ u.parts) in let o : SeatView = standing_for 0 [] in
+      let old = r.each id v at in let vs : List SeatView = set s.views id w in let Fit : ℕ → SeatView → Type 0 = Fits passes r.trail r.holder (word s) in
       let there' : get_elem? s.views other ≡ some u = sym (set_else s.views id other w far) ∙ there in let old' = r.each other u there' in
       let both_fit = idle_fits r.trail r.holder (word s) id v.passes (v.parts ++ u.parts) old.same (are_append v.parts u.parts r.trail old.lists old'.lists) in
       let spent_fits = idle_fits r.trail r.holder (word s) other 0 [] (λ h. absurd (omega arith)) tt in
@@ -113,8 +113,8 @@ module _ {T : Type 0} (trail_of : T → List Entry) (good : T → Type 0) (passe
 
   -- a seat takes the slot where the word is 0
   pub tries : (slots id : ℕ) (me : M) → Allows Rule slots id me 0 (λ n. either (eqb n 0) 1 n) (TakesState trail_of good (step slots 0 0 1 none) me)
-  tries slots id me s r deep at _ = let x : ℕ = word s in let v : Known = me.0 in let wide = r.one_word in let many = r.one_slot in dite (ℕ_discrete x 0)
-      (λ hit. let d = r.home hit in let w : Known = holding v.passes v.parts (trail_of d.0) in let old = r.each id v at in
+  tries slots id me s r deep at _ = let x : ℕ = word s in let v : SeatView = me.0 in let wide = r.one_word in let many = r.one_slot in dite (ℕ_discrete x 0)
+      (λ hit. let d = r.home hit in let w : SeatView = holding v.passes v.parts (trail_of d.0) in let old = r.each id v at in
       let now : get_or (set s.words 0 1) 0 0 ≡ 1 = get_or-set_same s.words 0 1 0 (omega arith) in (
         w,
         takes 0 (Some d.0),
@@ -152,15 +152,15 @@ module _ {T : Type 0} (trail_of : T → List Entry) (good : T → Type 0) (passe
         keeps,
         tt,
         subst (λ (b : Bool). Rule (stepped s 0 (either b 1 x) id me.1 v keeps)) (sym (ne_eqb x 0 miss))
-            (subst (λ (p : List ℕ × List Known). Rule record { words = p.0; homes = s.homes; views = p.1 })
+            (subst (λ (p : List ℕ × List SeatView). Rule record { words = p.0; homes = s.homes; views = p.1 })
             (λ i. (sym (set-get_or s.words 0 0) i, sym (set_again s.views id v at) i)) r),
         ((λ hit. absurd (miss hit)), λ _. refl),
       ))
 
   -- the holder gives the slot back, with the state d and the view w
-  returns : (s : St) (r : Rule s) (id : ℕ) (v w : Known) (d : T) → get_elem? s.views id ≡ some v → v.holds ≡ true → good d
+  returns : (s : St) (r : Rule s) (id : ℕ) (v w : SeatView) (d : T) → get_elem? s.views id ≡ some v → v.holds ≡ true → good d
       → (0 < w.passes → w.passes ≡ passes) → w.holds ≡ false → ListsAreTrue w.parts (trail_of d)
-      → ((j : ℕ) (u : Known) → j ≢ id → get_elem? s.views j ≡ some u → ListsAreTrue u.parts (trail_of d))
+      → ((j : ℕ) (u : SeatView) → j ≢ id → get_elem? s.views j ≡ some u → ListsAreTrue u.parts (trail_of d))
       → tally one w.parts ≡ tally one v.parts → ((pass : ℕ) → tally (is_of pass) w.parts ≡ tally (is_of pass) v.parts)
       → tally weight w.parts + length r.trail ≡ tally weight v.parts + length (trail_of d)
       → Rule record { words = set s.words 0 0; homes = set s.homes 0 (some (Some d)); views = set s.views id w }
@@ -183,7 +183,7 @@ module _ {T : Type 0} (trail_of : T → List Entry) (good : T → Type 0) (passe
 
   pub gives_back : (slots id : ℕ) (me : M) (d : T) → me.0.holds ≡ true → me.1 ≡ (0, Some d) ∷ [] → trail_of d ≡ me.0.noted → good d
       → Allows Rule slots id me 0 (λ _. 0) (IsGiven trail_of good (step slots 0 0 0 none) me)
-  gives_back slots id me d held carried noted fine s r deep at _ = let v : Known = me.0 in let w : Known = standing_for v.passes v.parts in
+  gives_back slots id me d held carried noted fine s r deep at _ = let v : SeatView = me.0 in let w : SeatView = standing_for v.passes v.parts in
       let old = r.each id v at in let is : trail_of d ≡ r.trail = noted ∙ (old.holds held).1 in (
         w,
         gives,
@@ -215,13 +215,13 @@ module _ {T : Type 0} (trail_of : T → List Entry) (good : T → Type 0) (passe
   pub posts : (slots id : ℕ) (me : M) (pass place : ℕ) (list : List Receipt) (d : T) → me.0.holds ≡ true → me.0.parts ≡ (pass, list) ∷ []
       → me.1 ≡ (0, Some d) ∷ [] → trail_of d ≡ me.0.noted ++ (pass, place) ∷ [] → good d
       → Allows Rule slots id me 0 (λ _. 0) (IsPosted trail_of good (step slots 0 0 0 none) me)
-  posts slots id me pass place list d held own carried grown fine s r deep at _ = let v : Known = me.0 in
-      let now : List Receipt = list ++ (suc (length v.noted), place) ∷ [] in let w : Known = standing_for v.passes ((pass, now) ∷ []) in
+  posts slots id me pass place list d held own carried grown fine s r deep at _ = let v : SeatView = me.0 in
+      let now : List Receipt = list ++ (suc (length v.noted), place) ∷ [] in let w : SeatView = standing_for v.passes ((pass, now) ∷ []) in
       let old = r.each id v at in let noted : v.noted ≡ r.trail = (old.holds held).1 in
       let is : trail_of d ≡ r.trail ++ (pass, place) ∷ [] = grown ∙ ap (λ (t : List Entry). t ++ (pass, place) ∷ []) noted in
       let was : list ≡ receipts_of pass v.noted = (subst (λ (ps : List Part). ListsAreTrue ps r.trail) own old.lists).0 ∙ ap (receipts_of pass) (sym noted) in
       let mine : tally (is_of pass) v.parts ≡ 1 = ap (tally (is_of pass)) own ∙ ap (λ (b : Bool). (if b then 1 else 0) + 0) (eq-eqb pass pass refl) in
-      let none_else : (j : ℕ) (u : Known) → j ≢ id → get_elem? s.views j ≡ some u → tally (is_of pass) u.parts ≡ 0 =
+      let none_else : (j : ℕ) (u : SeatView) → j ≢ id → get_elem? s.views j ≡ some u → tally (is_of pass) u.parts ≡ 0 =
       λ j u other e. omega (arith, total_two (is_of pass) s.views id j v u at e other, r.once pass, mine) in
       let weights : tally weight w.parts + length r.trail ≡ tally weight v.parts + length (trail_of d) =
       omega (
@@ -270,7 +270,7 @@ module _ {T : Type 0} (trail_of : T → List Entry) (good : T → Type 0) (passe
       omega (arith, other, new_once pass (suc first) n))
 
   pub starts : (d : T) → trail_of d ≡ [] → good d → Rule (opening (0 ∷ []) (Some d ∷ []) (standing_for passes (new_parts 0 passes)))
-  starts d empty fine = let w : Known = standing_for passes (new_parts 0 passes) in record {
+  starts d empty fine = let w : SeatView = standing_for passes (new_parts 0 passes) in record {
     trail = [];
     holder = 0;
     one_word = refl;
@@ -283,7 +283,7 @@ module _ {T : Type 0} (trail_of : T → List Entry) (good : T → Type 0) (passe
     once = λ pass. omega (arith, new_once pass 0 passes);
   }
     where
-      each : (j : ℕ) (u : Known) → get_elem? (standing_for passes (new_parts 0 passes) ∷ []) j ≡ some u → Fits passes [] 0 0 j u
+      each : (j : ℕ) (u : SeatView) → get_elem? (standing_for passes (new_parts 0 passes) ∷ []) j ≡ some u → Fits passes [] 0 0 j u
       each zero u e = subst (Fits passes [] 0 0 0) (some-injective (standing_for passes (new_parts 0 passes)) u e)
           (idle_fits [] 0 0 0 passes (new_parts 0 passes) (λ _. refl) (new_are_true 0 passes))
       each (suc j) u e = absurd (some-ne-none u (sym e))

@@ -3,7 +3,7 @@ use Rattle.std.proofs.Common.{◌≡◌, ℕ, suc, ◌+◌, ◌-◌, ◌<◌, ma
 use Rattle.std.proofs.lemmas.Grind.{common_steps}
 use Rattle.atomic_table.specs.Table.{Me}
 use Rattle.atomic_table.specs.Seated.{TableId}
-use Rattle.node_lock.specs.declared.rule.Known.{Known}
+use Rattle.node_lock.specs.declared.rule.SeatView.{SeatView}
 use Rattle.node_lock.specs.Trail.{Entry, Receipt}
 use Rattle.node_lock.specs.Known.{Part, standing_for, new_parts, first_part, rest_parts, list_in, out_of, carried, part_of, ListsAreTrue, tally, weight}
 use Rattle.node_lock.specs.Passes.{PassData, AreIdle, AreNew, AreTrue, receipt_count}
@@ -25,20 +25,20 @@ new_rest : (k passes : ℕ) → k < passes → rest_parts (new_parts k (passes -
 new_rest k passes h = search rules
 
 module _ {T : Type 0} where
-  abbrev seated : ℕ → List Part → Me (Option T) Known
+  abbrev seated : ℕ → List Part → Me (Option T) SeatView
   seated passes parts = (standing_for passes parts, [])
 
   -- the seat that the first of the remaining passes goes to
-  pub dealt : (m m' : Me (Option T) Known) (passes k : ℕ) → k < passes → m ≡ (standing_for passes (new_parts k (passes - k)), [])
+  pub dealt : (m m' : Me (Option T) SeatView) (passes k : ℕ) → k < passes → m ≡ (standing_for passes (new_parts k (passes - k)), [])
       → m' ≡ (standing_for m.0.passes (first_part m.0.parts), []) → m' ≡ (standing_for passes ((k, []) ∷ []), [])
   dealt m m' passes k h was now = search rules
 
   -- the seat that the others stay with
-  pub left : (m m' : Me (Option T) Known) (passes k : ℕ) → k < passes → m ≡ (standing_for passes (new_parts k (passes - k)), [])
+  pub left : (m m' : Me (Option T) SeatView) (passes k : ℕ) → k < passes → m ≡ (standing_for passes (new_parts k (passes - k)), [])
       → m' ≡ (standing_for m.0.passes (rest_parts m.0.parts), []) → m' ≡ (standing_for passes (new_parts (k + 1) (passes - (k + 1))), [])
   left m m' passes k h was now = search (rules, new_rest)
 
-  pub own_part : (m : Me (Option T) Known) (passes k : ℕ) (l : List Receipt) → m ≡ (standing_for passes ((k, l) ∷ []), [])
+  pub own_part : (m : Me (Option T) SeatView) (passes k : ℕ) (l : List Receipt) → m ≡ (standing_for passes ((k, l) ∷ []), [])
       → (m.0.parts ≡ (k, list_in m.0.parts) ∷ []) × (m.1 ≡ carried m.0.holds)
   own_part m passes k l now = search rules
 

@@ -1,6 +1,6 @@
 -- What a seat of the lock knows.
 use Rattle.std.specs.Prelude.{◌≡◌, ℕ, zero, suc, ◌+◌, ◌==◌, if◌then◌else◌, Bool, true, false, List, [], ◌∷◌, length, Option, Some, None}
-use Rattle.node_lock.specs.declared.rule.Known.{Known}
+use Rattle.node_lock.specs.declared.rule.SeatView.{SeatView}
 use Rattle.node_lock.specs.Trail.{Entry, Receipt, receipts_of}
 use Rattle.node_lock.specs.Passes.{PassData}
 
@@ -9,11 +9,11 @@ abbrev pub Part : Type 0
 Part = ℕ × List Receipt
 
 -- a seat that represents these passes, and does not have the slot
-abbrev pub standing_for : ℕ → List Part → Known
+abbrev pub standing_for : ℕ → List Part → SeatView
 standing_for passes parts = record { passes = passes; parts = parts; holds = false; noted = [] }
 
 -- the same, with the slot, whose state had this trail when it was taken
-abbrev pub holding : ℕ → List Part → List Entry → Known
+abbrev pub holding : ℕ → List Part → List Entry → SeatView
 holding passes parts trail = record { passes = passes; parts = parts; holds = true; noted = trail }
 
 -- so many passes, numbered from `first` on, without receipts
@@ -58,7 +58,7 @@ tally f [] = 0
 tally f (p ∷ ps) = f p + tally f ps
 
 -- a measure over the passes of all seats
-abbrev pub total : (Part → ℕ) → List Known → ℕ
+abbrev pub total : (Part → ℕ) → List SeatView → ℕ
 total f [] = 0
 total f (v ∷ vs) = tally f v.parts + total f vs
 

@@ -24,7 +24,7 @@ pub trait Trailed {
 }
 
 /// What a seat of the lock knows. No value of it is made.
-pub struct Known {
+pub struct SeatView {
     /// How many passes the lock has.
     pub passes: u64,
     /// The passes that the seat represents, each with its receipts.
@@ -40,7 +40,7 @@ pub struct OneHolder<S> {
     of: PhantomData<S>,
 }
 
-impl<S: Trailed> TableRule<Option<S>, Known, u64> for OneHolder<S> {
+impl<S: Trailed> TableRule<Option<S>, SeatView, u64> for OneHolder<S> {
     ghost use Rattle.node_lock.specs.Known.{standing_for, new_parts};
     ghost use Rattle.node_lock.specs.Rule.{KeepsLockRule};
 
@@ -49,15 +49,15 @@ impl<S: Trailed> TableRule<Option<S>, Known, u64> for OneHolder<S> {
     ghost first = { λ passes. standing_for passes (new_parts 0 passes) };
 }
 
-pub(crate) type StateTable<S> = Table<Option<S>, Known, u64, OneHolder<S>, Global>;
+pub(crate) type StateTable<S> = Table<Option<S>, SeatView, u64, OneHolder<S>, Global>;
 
-pub(crate) type Steps<S> = Shared<Option<S>, Known, u64, OneHolder<S>>;
+pub(crate) type Steps<S> = Shared<Option<S>, SeatView, u64, OneHolder<S>>;
 
-pub(crate) type Token<S> = Seat<Option<S>, Known>;
+pub(crate) type Token<S> = Seat<Option<S>, SeatView>;
 
 pub(crate) struct Seats;
 
-impl<S: Trailed> Play<Option<S>, Known> for Seats {
+impl<S: Trailed> Play<Option<S>, SeatView> for Seats {
     ghost use Rattle.node_lock.specs.Steps.{IsSeated};
 
     ghost then = { IsSeated S.trail S.keeps };
@@ -65,7 +65,7 @@ impl<S: Trailed> Play<Option<S>, Known> for Seats {
 
 pub(crate) struct Takes;
 
-impl<S: Trailed> Play<Option<S>, Known> for Takes {
+impl<S: Trailed> Play<Option<S>, SeatView> for Takes {
     ghost use Rattle.node_lock.specs.Steps.{TakesState};
 
     ghost then = { TakesState S.trail S.keeps };
@@ -73,7 +73,7 @@ impl<S: Trailed> Play<Option<S>, Known> for Takes {
 
 pub(crate) struct Gives;
 
-impl<S: Trailed> Play<Option<S>, Known> for Gives {
+impl<S: Trailed> Play<Option<S>, SeatView> for Gives {
     ghost use Rattle.node_lock.specs.Steps.{IsGiven};
 
     ghost then = { IsGiven S.trail S.keeps };
@@ -81,7 +81,7 @@ impl<S: Trailed> Play<Option<S>, Known> for Gives {
 
 pub(crate) struct Posts;
 
-impl<S: Trailed> Play<Option<S>, Known> for Posts {
+impl<S: Trailed> Play<Option<S>, SeatView> for Posts {
     ghost use Rattle.node_lock.specs.Steps.{IsPosted};
 
     ghost then = { IsPosted S.trail S.keeps };
@@ -90,7 +90,7 @@ impl<S: Trailed> Play<Option<S>, Known> for Posts {
 /// The first pass of a seat goes to a new one.
 pub(crate) struct DealsFirst;
 
-impl Split<Known> for DealsFirst {
+impl Split<SeatView> for DealsFirst {
     ghost use Rattle.node_lock.specs.Known.{standing_for, first_part, rest_parts};
 
     ghost left = { λ v. standing_for v.passes (rest_parts v.parts) };
@@ -101,7 +101,7 @@ impl Split<Known> for DealsFirst {
 /// One seat for the passes of both.
 pub(crate) struct StandsForBoth;
 
-impl Join<Known> for StandsForBoth {
+impl Join<SeatView> for StandsForBoth {
     ghost use Rattle.std.specs.Prelude.{◌++◌, []};
     ghost use Rattle.node_lock.specs.Known.{standing_for};
 

@@ -10,11 +10,6 @@ use Rattle.page_base.specs.Merging.{IsTaken, IsFloored, Merges, RaisesEach}
 
 -- ---- one raise
 
--- a page other than the raised one stays, and so does that where the version is not above its own
-pub one_page : (old new : Store) (x : StoredImage) (page : ℕ) → Raises old x.page x.version x.bytes new
-    → SamePage old new page ⊎ ((page ≡ x.page) × (version_of old page < x.version) × (version_of new page ≡ x.version) × (image_of new page ≡ x.bytes))
-one_page old new x page raises = search rules
-
 -- a raise lowers no version
 pub raises_up : (old new : Store) (page version : ℕ) (image : List ℕ) → Raises old page version image new → (g : ℕ) → version_of old g ≤ version_of new g
 raises_up old new page version image raises g = search rules

@@ -24,7 +24,7 @@ fn raise_each(images: &mut Vec<BaseImage>, floor: u64, base: u64, pages: Vec<(u1
 }
 
 /// Drops the images below the base, and returns the default version that replaces theirs.
-pub fn raise_floor(images: &mut Vec<BaseImage>, floor: u64, base: u64) -> u64
+pub(crate) fn raise_floor(images: &mut Vec<BaseImage>, floor: u64, base: u64) -> u64
     requires { IsBase images.old.items floor }
     ensures adopts { Adopts (store_of images.old.items floor) base [] (store_of images.new.items result) }
     ensures listed { StoresJust (store_of images.old.items floor) base [] (store_of images.new.items result) }
@@ -39,7 +39,7 @@ pub fn raise_floor(images: &mut Vec<BaseImage>, floor: u64, base: u64) -> u64
 }
 
 /// Adopts the pages given at the base, and returns the new default version.
-pub fn adopt(
+pub(crate) fn adopt(
     images: &mut Vec<BaseImage>,
     floor: u64,
     base: u64,

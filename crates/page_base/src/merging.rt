@@ -26,7 +26,7 @@ fn raise_all(images: &mut Vec<BaseImage>, floor: u64, given: Vec<BaseImage>)
 }
 
 /// Merges the images given and a default version, and returns the new default version.
-pub fn merge(
+pub(crate) fn merge(
     images: &mut Vec<BaseImage>,
     own: u64,
     floor: u64,

@@ -24,7 +24,7 @@ fn split_at(images: &[BaseImage], page: u16) -> usize
 }
 
 /// The index of a page's image, or where it would be inserted.
-pub fn place_of(images: &[BaseImage], page: u16) -> Result<usize, usize>
+pub(crate) fn place_of(images: &[BaseImage], page: u16) -> Result<usize, usize>
     requires { IsRising PageBefore images.now }
     ensures { IsPlace page images.now result }
 {
@@ -40,7 +40,7 @@ pub fn place_of(images: &[BaseImage], page: u16) -> Result<usize, usize>
 }
 
 /// The stored image of a page, whatever the default version; None where it has none.
-pub fn stored_in(images: &[BaseImage], page: u16) -> Option<&BaseImage>
+pub(crate) fn stored_in(images: &[BaseImage], page: u16) -> Option<&BaseImage>
     requires { IsRising PageBefore images.now }
     ensures { (floor : ℕ) → IsStoredImage (store_of images.now floor) page (option_copied result) }
 {
@@ -51,7 +51,7 @@ pub fn stored_in(images: &[BaseImage], page: u16) -> Option<&BaseImage>
 }
 
 /// The version of a page: that of its image, or the default version `floor`.
-pub fn version_in(images: &[BaseImage], floor: u64, page: u16) -> u64
+pub(crate) fn version_in(images: &[BaseImage], floor: u64, page: u16) -> u64
     requires { IsRising PageBefore images.now }
     ensures { result ≡ version_of (store_of images.now floor) page }
 {
@@ -62,7 +62,7 @@ pub fn version_in(images: &[BaseImage], floor: u64, page: u16) -> u64
 }
 
 /// A copy of the image of a page, or zeros. The only error is an allocation failure.
-pub fn image_in(
+pub(crate) fn image_in(
     images: &[BaseImage],
     floor: u64,
     alloc: Global,
@@ -102,7 +102,7 @@ fn put(images: &mut Vec<BaseImage>, image: BaseImage) -> Result<(), Refused<Base
 }
 
 /// Raises the image of a page; with room for one more it cannot fail.
-pub fn raise(
+pub(crate) fn raise(
     images: &mut Vec<BaseImage>,
     floor: u64,
     page: u16,
@@ -130,7 +130,7 @@ pub fn raise(
 }
 
 /// Raises the image of a page to one that is not shared yet. The only error is an allocation failure; it returns the page.
-pub fn raise_page(
+pub(crate) fn raise_page(
     images: &mut Vec<BaseImage>,
     floor: u64,
     page: u16,

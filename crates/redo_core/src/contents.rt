@@ -9,7 +9,7 @@ use crate::writes::Write;
 
 /// The first fault of a record's writes.
 #[tactic(auto, using(crate::proofs::Plain::plain_length, crate::proofs::Plain::plain_empty, crate::proofs::Plain::plain_off_page, crate::proofs::Plain::plain_bytes))]
-pub fn writes_fault(writes: &[Write]) -> Option<ShapeFault>
+pub(crate) fn writes_fault(writes: &[Write]) -> Option<ShapeFault>
     ensures { result ≡ patches_fault (plain writes.now) }
 {
     if writes.len() > MAX_PATCHES {
@@ -53,7 +53,7 @@ fn bytes_of(writes: &[Write]) -> usize
 }
 
 /// The first fault of a record's patches.
-pub fn patches_fault(patches: &[Patch]) -> Option<ShapeFault>
+pub(crate) fn patches_fault(patches: &[Patch]) -> Option<ShapeFault>
     ensures { result ≡ patches_fault patches.now }
 {
     if patches.len() > MAX_PATCHES {

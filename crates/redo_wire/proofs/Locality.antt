@@ -276,9 +276,6 @@ piece_ext y bytes = bind_ext y _ _ _ (form_ext y 18 34 bytes) (λ many rest. pie
 
 -- ---- whole values
 
-rest_of : {A : Type 0} (b : Bool) (v : A) (f : WireFault) → cond b (Ok v) (Err Rest) ≡ Err f → f ≡ Rest
-rest_of b v f e = search rules
-
 stays : {A : Type 0} (y : List ℕ) (r s : Read A) (f : WireFault) → Extends y r s → whole r ≡ Err f → (f ≡ Short → ⊥) → (f ≡ Rest → ⊥) → whole s ≡ Err f
 stays y r s f h e short rest = search rules
 
@@ -342,9 +339,6 @@ pub decoded_piece_reads : (bytes : List ℕ) → IsReading (decoded_piece bytes)
 decoded_piece_reads bytes = whole_reads (piece_at bytes) (piece_ext [] bytes).reads
 
 -- ---- values of any kind: with more bytes after, the same decoder is called
-
-valued_ok : {A : Type 0} (kind : A → WireValue) (r : Result A WireFault) (v : WireValue) → valued kind r ≡ Ok v → (x : A) × (r ≡ Ok x)
-valued_ok kind r v e = search rules
 
 -- what the three theorems say of two inputs, the longer of which has y after
 record Local {A : Type 0} (y : List ℕ) (r s : Result A WireFault) : Type 0 where

@@ -26,9 +26,6 @@ use Rattle.redo_wire.proofs.PatchReaders.{IsNextPatch, IsListed, patch_reads, fr
 pub spared : (b : Bool) (f : ShapeFault) (y : Option ShapeFault) → cond b (Some f) y ≡ None → (b ≡ false) × (y ≡ None)
 spared b f y e = search rules
 
-neither : (x y : Option ShapeFault) → option_or x y ≡ None → (x ≡ None) × (y ≡ None)
-neither x y e = search rules
-
 -- ---- the fields up to the block backlink
 
 pub record IsHead (h : RecordHead) : Type 0 where

@@ -75,9 +75,6 @@ piece_first many text = search rules
 record_first : (full : Bool) (text : List ℕ) → decoded_value (form_bytes 1 6 full ++ text) ≡ valued Fact (decoded_fact (form_bytes 1 6 full ++ text))
 record_first full text = search rules
 
-advance_first : (many : Bool) (text : List ℕ) → decoded_value (form_bytes 3 5 many ++ text) ≡ valued Fact (decoded_fact (form_bytes 3 5 many ++ text))
-advance_first many text = search rules
-
 fact_first : (f : fact.Fact) → decoded_value (fact_bytes f) ≡ valued Fact (decoded_fact (fact_bytes f))
 fact_first f = search (rules, record_first)
 

@@ -126,7 +126,7 @@ fn read_next_wait(
 
 /// An advance with its tag: of reader 1, or of one of the others.
 #[tactic(auto, unfolding(crate::specs::FactReading::tagged_advance_at))]
-pub fn read_tagged_advance(bytes: &[u8]) -> Result<(Advance, &[u8]), WireError>
+pub(crate) fn read_tagged_advance(bytes: &[u8]) -> Result<(Advance, &[u8]), WireError>
     ensures { Gives (λ x. (x.0, x.1.now)) result (tagged_advance_at bytes.now) }
 {
     match read_form(tags::ADVANCE, tags::READER_ADVANCE, bytes) {
@@ -148,7 +148,7 @@ fn put_advance(out: &mut BytesMut, has_many: bool, advance: &Advance) -> Result<
 }
 
 /// Appends the advance with its tag.
-pub fn put_tagged_advance(out: &mut BytesMut, advance: &Advance) -> Result<(), AllocError>
+pub(crate) fn put_tagged_advance(out: &mut BytesMut, advance: &Advance) -> Result<(), AllocError>
     ensures ok { OnOk result (out.new.items ≡ out.old.items ++ tagged_advance_bytes advance.now) }
     ensures wire { OnOk result (IsWireAdvance advance.now) }
 {

@@ -86,7 +86,11 @@ impl ListWriter for PointList {
 
 /// A book in the form for one reader or for several; its complete epoch is that of its truncations.
 #[tactic(auto, unfolding(crate::specs::BookReading::book_at))]
-pub fn read_book(alloc: Global, has_many: bool, bytes: &[u8]) -> Result<(Book, &[u8]), WireError>
+pub(crate) fn read_book(
+    alloc: Global,
+    has_many: bool,
+    bytes: &[u8],
+) -> Result<(Book, &[u8]), WireError>
     ensures { Gives (λ x. (x.0, x.1.now)) result (book_at has_many bytes.now) }
 {
     let (count, rest) = read_u16(bytes)?;
@@ -112,14 +116,14 @@ pub fn read_book(alloc: Global, has_many: bool, bytes: &[u8]) -> Result<(Book, &
 }
 
 /// Whether a list is longer than its count field holds.
-pub fn is_long_book(book: &Book) -> bool
+pub(crate) fn is_long_book(book: &Book) -> bool
     ensures { result ≡ is_long_book book.now }
 {
     book.cuts().len() >= COUNT16_END || book.waits().len() >= COUNT32_END
 }
 
 /// Appends the book in the form for its roster. The complete epoch has no bytes of its own.
-pub fn put_book(out: &mut BytesMut, book: &Book) -> Result<(), AllocError>
+pub(crate) fn put_book(out: &mut BytesMut, book: &Book) -> Result<(), AllocError>
     requires { is_long_book book.now ≡ false }
     ensures ok { OnOk result (out.new.items ≡ out.old.items ++ book_bytes (has_many book.now) book.now) }
     ensures wire { OnOk result (IsWireBook book.now) }

@@ -56,7 +56,7 @@ impl ListWriter for CutList {
 ///
 /// Errors: `Short`; `Shape` where the epoch is 0 or no truncation has these fields.
 #[tactic(auto, unfolding(crate::specs::FactReading::cut_at))]
-pub fn read_cut(bytes: &[u8]) -> Result<(Cut, &[u8]), WireError>
+pub(crate) fn read_cut(bytes: &[u8]) -> Result<(Cut, &[u8]), WireError>
     ensures { Gives (λ x. (x.0, x.1.now)) result (cut_at bytes.now) }
 {
     let (epoch, rest) = read_u16(bytes)?;
@@ -86,7 +86,7 @@ fn read_next_cut(last: u16, bytes: &[u8]) -> Result<(Cut, &[u8]), WireError>
 }
 
 /// Appends a truncation, without a tag. It fails only if memory runs out: some of the bytes may then be appended.
-pub fn put_cut(out: &mut BytesMut, cut: &Cut) -> Result<(), AllocError>
+pub(crate) fn put_cut(out: &mut BytesMut, cut: &Cut) -> Result<(), AllocError>
     ensures ok { OnOk result (out.new.items ≡ out.old.items ++ cut_bytes cut.now) }
     ensures wire { OnOk result (IsWireCut cut.now) }
 {

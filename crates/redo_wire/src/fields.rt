@@ -9,7 +9,7 @@ use bytes::{BufMut, BytesMut};
 use std::alloc::AllocError;
 
 /// Reads one byte; returns it and the bytes after it. Error: `Short` where there is none.
-pub fn read_byte(bytes: &[u8]) -> Result<(u8, &[u8]), WireError>
+pub(crate) fn read_byte(bytes: &[u8]) -> Result<(u8, &[u8]), WireError>
     ensures { Gives (λ x. (x.0, x.1.now)) result (byte_at bytes.now) }
 {
     match bytes {
@@ -19,7 +19,7 @@ pub fn read_byte(bytes: &[u8]) -> Result<(u8, &[u8]), WireError>
 }
 
 /// Reads `len` bytes; returns them and the bytes after them. Error: `Short` where there are fewer.
-pub fn read_bytes(len: usize, bytes: &[u8]) -> Result<(&[u8], &[u8]), WireError>
+pub(crate) fn read_bytes(len: usize, bytes: &[u8]) -> Result<(&[u8], &[u8]), WireError>
     ensures value { Gives (λ x. (x.0.now, x.1.now)) result (bytes_at len bytes.now) }
     ensures len { IfOk result (λ x. length x.0.now ≡ len) }
 {
@@ -31,7 +31,7 @@ pub fn read_bytes(len: usize, bytes: &[u8]) -> Result<(&[u8], &[u8]), WireError>
 
 /// Reads a number of 16 bits; returns it and the bytes after it. Error: `Short` where there are fewer than 2 bytes.
 #[tactic(auto, unfolding(crate::specs::Fields::number_at))]
-pub fn read_u16(bytes: &[u8]) -> Result<(u16, &[u8]), WireError>
+pub(crate) fn read_u16(bytes: &[u8]) -> Result<(u16, &[u8]), WireError>
     ensures { Gives (λ x. (x.0, x.1.now)) result (u16_at bytes.now) }
 {
     let (text, rest) = read_bytes(2, bytes)?;
@@ -40,7 +40,7 @@ pub fn read_u16(bytes: &[u8]) -> Result<(u16, &[u8]), WireError>
 
 /// Reads a number of 32 bits; returns it and the bytes after it. Error: `Short` where there are fewer than 4 bytes.
 #[tactic(auto, unfolding(crate::specs::Fields::number_at))]
-pub fn read_u32(bytes: &[u8]) -> Result<(u32, &[u8]), WireError>
+pub(crate) fn read_u32(bytes: &[u8]) -> Result<(u32, &[u8]), WireError>
     ensures { Gives (λ x. (x.0, x.1.now)) result (u32_at bytes.now) }
 {
     let (text, rest) = read_bytes(4, bytes)?;
@@ -52,7 +52,7 @@ pub fn read_u32(bytes: &[u8]) -> Result<(u32, &[u8]), WireError>
 
 /// Reads a number of 64 bits; returns it and the bytes after it. Error: `Short` where there are fewer than 8 bytes.
 #[tactic(auto, unfolding(crate::specs::Fields::number_at))]
-pub fn read_u64(bytes: &[u8]) -> Result<(u64, &[u8]), WireError>
+pub(crate) fn read_u64(bytes: &[u8]) -> Result<(u64, &[u8]), WireError>
     ensures { Gives (λ x. (x.0, x.1.now)) result (u64_at bytes.now) }
 {
     let (text, rest) = read_bytes(8, bytes)?;
@@ -64,7 +64,7 @@ pub fn read_u64(bytes: &[u8]) -> Result<(u64, &[u8]), WireError>
 
 /// Reads a number of 48 bits; returns it and the bytes after it. Error: `Short` where there are fewer than 6 bytes.
 #[tactic(auto, unfolding(crate::specs::Fields::u48_at))]
-pub fn read_u48(bytes: &[u8]) -> Result<(u64, &[u8]), WireError>
+pub(crate) fn read_u48(bytes: &[u8]) -> Result<(u64, &[u8]), WireError>
     ensures value { Gives (λ x. (x.0, x.1.now)) result (u48_at bytes.now) }
     ensures limit { IfOk result (λ x. x.0 < 2 ^ 48) }
 {
@@ -75,7 +75,7 @@ pub fn read_u48(bytes: &[u8]) -> Result<(u64, &[u8]), WireError>
 
 /// Appends a number of 16 bits. It fails only if memory runs out.
 #[tactic(auto, unfolding(crate::specs::Fields::number))]
-pub fn put_u16(out: &mut BytesMut, n: u16) -> Result<(), AllocError>
+pub(crate) fn put_u16(out: &mut BytesMut, n: u16) -> Result<(), AllocError>
     ensures { OnOk result (out.new.items ≡ out.old.items ++ u16 n) }
 {
     out.put_u16(n)
@@ -83,7 +83,7 @@ pub fn put_u16(out: &mut BytesMut, n: u16) -> Result<(), AllocError>
 
 /// Appends a number of 32 bits. It fails only if memory runs out.
 #[tactic(auto, unfolding(crate::specs::Fields::number))]
-pub fn put_u32(out: &mut BytesMut, n: u32) -> Result<(), AllocError>
+pub(crate) fn put_u32(out: &mut BytesMut, n: u32) -> Result<(), AllocError>
     ensures { OnOk result (out.new.items ≡ out.old.items ++ u32 n) }
 {
     out.put_u32(n)
@@ -91,7 +91,7 @@ pub fn put_u32(out: &mut BytesMut, n: u32) -> Result<(), AllocError>
 
 /// Appends a number of 64 bits. It fails only if memory runs out.
 #[tactic(auto, unfolding(crate::specs::Fields::number))]
-pub fn put_u64(out: &mut BytesMut, n: u64) -> Result<(), AllocError>
+pub(crate) fn put_u64(out: &mut BytesMut, n: u64) -> Result<(), AllocError>
     ensures { OnOk result (out.new.items ≡ out.old.items ++ u64 n) }
 {
     out.put_u64(n)
@@ -99,7 +99,7 @@ pub fn put_u64(out: &mut BytesMut, n: u64) -> Result<(), AllocError>
 
 /// Appends the low 48 bits of a number. It fails only if memory runs out.
 #[tactic(auto, unfolding(crate::specs::Fields::u48))]
-pub fn put_u48(out: &mut BytesMut, n: u64) -> Result<(), AllocError>
+pub(crate) fn put_u48(out: &mut BytesMut, n: u64) -> Result<(), AllocError>
     ensures { OnOk result (out.new.items ≡ out.old.items ++ u48 n) }
 {
     out.put_slice(&n.to_be_bytes()[2..])

@@ -11,7 +11,7 @@ use std::alloc::AllocError;
 
 /// Whether the first byte is the tag of the second form. Every other tag but the first form's is unknown.
 #[tactic(auto, unfolding(crate::specs::Forms::form_at))]
-pub fn read_form(first: u8, second: u8, bytes: &[u8]) -> Result<(bool, &[u8]), WireError>
+pub(crate) fn read_form(first: u8, second: u8, bytes: &[u8]) -> Result<(bool, &[u8]), WireError>
     ensures { Gives (λ x. (x.0, x.1.now)) result (form_at first second bytes.now) }
 {
     let (tag, rest) = read_byte(bytes)?;
@@ -25,7 +25,7 @@ pub fn read_form(first: u8, second: u8, bytes: &[u8]) -> Result<(bool, &[u8]), W
 }
 
 /// Appends the tag of the first or the second form. It fails only if memory runs out.
-pub fn put_form(
+pub(crate) fn put_form(
     out: &mut BytesMut,
     first: u8,
     second: u8,
@@ -37,7 +37,7 @@ pub fn put_form(
 }
 
 /// A byte from `lo` to `hi`, which only the second form has; in the first it is `absent`.
-pub fn read_within(
+pub(crate) fn read_within(
     is_second: bool,
     absent: u8,
     lo: u8,
@@ -60,7 +60,7 @@ pub fn read_within(
 }
 
 /// Appends a byte that only the second form has; nothing in the first. It fails only if memory runs out.
-pub fn put_within(out: &mut BytesMut, is_second: bool, n: u8) -> Result<(), AllocError>
+pub(crate) fn put_within(out: &mut BytesMut, is_second: bool, n: u8) -> Result<(), AllocError>
     ensures { OnOk result (out.new.items ≡ out.old.items ++ byte_in is_second n) }
 {
     if is_second {

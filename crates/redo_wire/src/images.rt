@@ -78,7 +78,7 @@ fn page_of(alloc: Global, bytes: &[u8]) -> Result<SharedPage, AllocError>
 ///
 /// Errors: `Short`; `Shape` where the page is zeros; `Memory`.
 #[tactic(auto, unfolding(crate::specs::DeltaReading::image_at))]
-pub fn read_image(alloc: Global, bytes: &[u8]) -> Result<(PageImage, &[u8]), WireError>
+pub(crate) fn read_image(alloc: Global, bytes: &[u8]) -> Result<(PageImage, &[u8]), WireError>
     ensures { Gives (λ x. (x.0, x.1.now)) result (image_at bytes.now) }
 {
     let (number, rest) = read_u16(bytes)?;

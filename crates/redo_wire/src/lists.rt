@@ -52,7 +52,7 @@ pub trait ListWriter: Copy {
 
 /// Reads `count` elements, one after the other. `size` is the size of an element in memory; what the count promises is reserved
 /// only as far as the bytes that are left.
-pub fn read_list<R: ListReader>(
+pub(crate) fn read_list<R: ListReader>(
     reader: R,
     start: R::State,
     size: usize,
@@ -76,7 +76,7 @@ pub fn read_list<R: ListReader>(
 }
 
 /// Appends the elements, one after the other. It fails only if memory runs out: some of the bytes may then be appended.
-pub fn put_list<W: ListWriter>(
+pub(crate) fn put_list<W: ListWriter>(
     writer: W,
     out: &mut BytesMut,
     items: &[W::Item],

@@ -173,7 +173,7 @@ fn put_listed(out: &mut BytesMut, is_full: bool, patches: &[Patch]) -> Result<()
 
 /// Appends the patches of a record, in the plain or the full form; each must be within its page. It fails only if memory runs out: some
 /// of the bytes may then be appended.
-pub fn put_patches(out: &mut BytesMut, is_full: bool, body: &Body) -> Result<(), AllocError>
+pub(crate) fn put_patches(out: &mut BytesMut, is_full: bool, body: &Body) -> Result<(), AllocError>
     requires { list_any is_patch_off_page (patches_of body.now) ≡ false }
     ensures { OnOk result (out.new.items ≡ out.old.items ++ flat_map (patch_bytes is_full) (patches_of body.now)) }
 {
@@ -186,7 +186,7 @@ pub fn put_patches(out: &mut BytesMut, is_full: bool, body: &Body) -> Result<(),
 // ---- what decides on the form
 
 /// Whether some patch is a fill.
-pub fn has_fill(patches: &[Patch]) -> bool
+pub(crate) fn has_fill(patches: &[Patch]) -> bool
     ensures { result ≡ list_any is_fill patches.now }
 {
     patches.iter().any(|p| match p {
@@ -196,7 +196,7 @@ pub fn has_fill(patches: &[Patch]) -> bool
 }
 
 /// Whether a record's body has a fill, which only the full form can encode.
-pub fn body_has_fill(body: &Body) -> bool
+pub(crate) fn body_has_fill(body: &Body) -> bool
     ensures { result ≡ list_any is_fill (patches_of body.now) }
 {
     match body {
@@ -206,7 +206,7 @@ pub fn body_has_fill(body: &Body) -> bool
 }
 
 /// How many patches there are.
-pub fn patch_count(body: &Body) -> usize
+pub(crate) fn patch_count(body: &Body) -> usize
     ensures { result ≡ length (patches_of body.now) }
 {
     match body {

@@ -13,7 +13,7 @@ use std::alloc::{AllocError, Global};
 use std::mem::size_of;
 
 /// The size of a record in memory, without what it points to.
-pub const RECORD_SIZE: usize = size_of::<Record>();
+pub(crate) const RECORD_SIZE: usize = size_of::<Record>();
 
 /// Records by epoch and LSN, each with its tag.
 #[derive(Clone, Copy)]

@@ -97,7 +97,7 @@ fn may_have_form(is_full: bool, init: bool, patches: &[Patch]) -> bool
 
 /// A record with its tag. Another fact's tag is unknown here.
 #[tactic(auto, unfolding(crate::specs::RecordReading::record_at))]
-pub fn read_record(alloc: Global, bytes: &[u8]) -> Result<(Record, &[u8]), WireError>
+pub(crate) fn read_record(alloc: Global, bytes: &[u8]) -> Result<(Record, &[u8]), WireError>
     ensures { Gives (λ x. (x.0, x.1.now)) result (record_at bytes.now) }
 {
     let (is_full, rest) = read_form(tags::RECORD, tags::FULL_RECORD, bytes)?;
@@ -107,7 +107,7 @@ pub fn read_record(alloc: Global, bytes: &[u8]) -> Result<(Record, &[u8]), WireE
 // ---- writing
 
 /// Whether the full form alone can encode the record.
-pub fn is_full_record(redo: &Record) -> bool
+pub(crate) fn is_full_record(redo: &Record) -> bool
     ensures { result ≡ is_full redo.now }
 {
     redo.init() || body_has_fill(&redo.body())
@@ -136,7 +136,7 @@ fn put_body(out: &mut BytesMut, is_full: bool, redo: &Record) -> Result<(), Allo
 }
 
 /// Appends the record with its tag.
-pub fn put_record(out: &mut BytesMut, redo: &Record) -> Result<(), AllocError>
+pub(crate) fn put_record(out: &mut BytesMut, redo: &Record) -> Result<(), AllocError>
     ensures ok { OnOk result (out.new.items ≡ out.old.items ++ record_bytes redo.now) }
     ensures wire { OnOk result (IsWireRecord redo.now) }
 {

@@ -4,7 +4,7 @@ use std::alloc::{AllocError, Global};
 
 /// An empty list with room for the elements that a count promises, but for no more than `left` could hold: a count is not
 /// trusted for memory. `size` is the size of an element in bytes.
-pub fn list_with_room<T>(
+pub(crate) fn list_with_room<T>(
     alloc: Global,
     count: usize,
     size: usize,

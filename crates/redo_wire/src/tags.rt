@@ -2,48 +2,48 @@
 // unknown tag.
 
 /// A record of writes alone.
-pub const RECORD: u8 = 0x01;
+pub(crate) const RECORD: u8 = 0x01;
 
 /// A record with flags, and with the kind of each patch.
-pub const FULL_RECORD: u8 = 0x06;
+pub(crate) const FULL_RECORD: u8 = 0x06;
 
-pub const CUT: u8 = 0x02;
+pub(crate) const CUT: u8 = 0x02;
 
 /// An advance of reader 1.
-pub const ADVANCE: u8 = 0x03;
+pub(crate) const ADVANCE: u8 = 0x03;
 
 /// An advance of another reader.
-pub const READER_ADVANCE: u8 = 0x05;
+pub(crate) const READER_ADVANCE: u8 = 0x05;
 
 /// A summary for a roster of one reader.
-pub const SUMMARY: u8 = 0x10;
+pub(crate) const SUMMARY: u8 = 0x10;
 
 /// A summary for a roster of several readers.
-pub const ROSTER_SUMMARY: u8 = 0x20;
+pub(crate) const ROSTER_SUMMARY: u8 = 0x20;
 
 /// A delta for a roster of one reader.
-pub const DELTA: u8 = 0x11;
+pub(crate) const DELTA: u8 = 0x11;
 
 /// A delta for a roster of several readers.
-pub const ROSTER_DELTA: u8 = 0x21;
+pub(crate) const ROSTER_DELTA: u8 = 0x21;
 
 /// A piece of a snapshot, but for the head for a roster of several readers.
-pub const PIECE: u8 = 0x12;
+pub(crate) const PIECE: u8 = 0x12;
 
 /// The head of a snapshot for a roster of several readers.
-pub const ROSTER_PIECE: u8 = 0x22;
+pub(crate) const ROSTER_PIECE: u8 = 0x22;
 
 /// A patch that is a write.
-pub const BYTES_KIND: u8 = 0x00;
+pub(crate) const BYTES_KIND: u8 = 0x00;
 
 /// A patch that is a fill.
-pub const FILL_KIND: u8 = 0x01;
+pub(crate) const FILL_KIND: u8 = 0x01;
 
 /// A piece that is the head.
-pub const HEAD_KIND: u8 = 0x00;
+pub(crate) const HEAD_KIND: u8 = 0x00;
 
 /// A piece that is a page.
-pub const PAGE_KIND: u8 = 0x01;
+pub(crate) const PAGE_KIND: u8 = 0x01;
 
 /// A piece of records.
-pub const RECORDS_KIND: u8 = 0x02;
+pub(crate) const RECORDS_KIND: u8 = 0x02;

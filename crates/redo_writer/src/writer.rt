@@ -108,6 +108,7 @@ impl RedoWriter {
         patches: Vec<Patch>,
     ) -> Result<Record, Refused<Vec<Patch>, WriterFault>>
         ensures record { IfOk result (λ r. r ≡ next_record self.now number page init patches.items) }
+        ensures allowed { OnOk result (append_refusal self.now (next_record self.now number page init patches.items) ≡ None) }
         ensures fault { IfErr result (λ e. RefusesPreview self.now (next_record self.now number page init patches.items) e.fault) }
         ensures returned { IfErr result (λ e. e.value ≡ patches) }
     {

@@ -4,11 +4,11 @@ use Rattle.redo_core.specs.Data.{CutData}
 use Rattle.redo_core.specs.Standing.{IsAlive, IsDead, IsWaiting}
 use Rattle.redo_core.specs.Position.{Position}
 use Rattle.reference_model.specs.declared.views.Position.{Position as Answered}
-use Rattle.reference_model.specs.declared.views.Standing.{Standing}
-use Rattle.reference_model.specs.declared.views.Standing.TheVariants.{Waiting, Alive, Dead}
+use Rattle.reference_model.specs.declared.views.ModelStanding.{ModelStanding}
+use Rattle.reference_model.specs.declared.views.ModelStanding.TheVariants.{Waiting, Alive, Dead}
 
 -- the standing is that of a record of this epoch and LSN in view k
-abbrev pub StandsAs : List CutData → ℕ → ℕ → ℕ → Standing → Type 0
+abbrev pub StandsAs : List CutData → ℕ → ℕ → ℕ → ModelStanding → Type 0
 StandsAs cs k epoch number Waiting = IsWaiting k epoch
 StandsAs cs k epoch number Alive = IsAlive cs k epoch number
 StandsAs cs k epoch number Dead = IsDead cs k epoch number

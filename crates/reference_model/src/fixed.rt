@@ -5,7 +5,7 @@ ghost use Rattle.std.specs.Prelude.{◌≡◌};
 use crate::epochs::complete_epoch;
 use crate::links::{anchor, complete_point};
 use crate::standings::standing;
-use crate::views::Standing;
+use crate::views::ModelStanding;
 use redo_core::Fact;
 
 fn complete_epoch_has_one_answer(facts: &[Fact]) -> (u16, u16)
@@ -19,7 +19,7 @@ fn standing_has_one_answer(
     view: u16,
     epoch: u16,
     number: u64,
-) -> (Standing, Standing)
+) -> (ModelStanding, ModelStanding)
     ensures { result.0 ≡ result.1 }
 {
     (

@@ -29,4 +29,4 @@ pub use pages::page_at;
 pub use positions::position;
 pub use readers::{min_point, point, points};
 pub use standings::{is_alive, standing};
-pub use views::{Position, Standing};
+pub use views::{ModelStanding, Position};

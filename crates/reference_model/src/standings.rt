@@ -3,19 +3,19 @@ ghost use Rattle.redo_core.specs.Sets.{cuts};
 ghost use Rattle.redo_core.specs.Standing.{IsAlive, SparesIn};
 ghost use Rattle.reference_model.specs.Stands.{StandsAs};
 
-use crate::views::Standing;
+use crate::views::ModelStanding;
 use redo_core::{Cut, Fact};
 
 /// The standing of a record of this epoch and LSN in a view.
-pub fn standing(facts: &[Fact], view: u16, epoch: u16, number: u64) -> Standing
+pub fn standing(facts: &[Fact], view: u16, epoch: u16, number: u64) -> ModelStanding
     ensures { StandsAs (cuts facts.now) view epoch number result }
 {
     if epoch > view {
-        Standing::Waiting
+        ModelStanding::Waiting
     } else if is_alive(facts, view, epoch, number) {
-        Standing::Alive
+        ModelStanding::Alive
     } else {
-        Standing::Dead
+        ModelStanding::Dead
     }
 }
 

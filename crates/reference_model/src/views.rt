@@ -1,6 +1,6 @@
 /// The standing of a record in the view of an epoch.
 #[derive(Clone, Copy, Debug, PartialEq, Eq)]
-pub enum Standing {
+pub enum ModelStanding {
     /// Its epoch is above the view.
     Waiting,
     /// Its LSN is above the `hi` of its own epoch, and no truncation up to the view annuls it.

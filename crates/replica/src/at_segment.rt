@@ -14,7 +14,7 @@ use segment_core::{CommitFault, Segment};
 use std::alloc::AllocError;
 
 /// Replaces the segment by one that nothing has reached.
-pub fn open(cached: &mut CachedSegment, roster: Roster) -> Reply
+pub(crate) fn open(cached: &mut CachedSegment, roster: Roster) -> Reply
     ensures opens { Opens cached.old roster result cached.new }
     ensures refused { IsRefusal result → cached.new ≡ cached.old }
 {
@@ -28,14 +28,14 @@ pub fn open(cached: &mut CachedSegment, roster: Roster) -> Reply
 }
 
 /// Replaces the segment by another one. No image stays in the cache.
-pub fn put(cached: &mut CachedSegment, segment: Segment)
+pub(crate) fn put(cached: &mut CachedSegment, segment: Segment)
     ensures { cached.new ≡ cached_of segment cached.old.pages [] }
 {
     *cached.segment_mut() = segment;
 }
 
 /// Takes a fact.
-pub fn take(cached: &mut CachedSegment, fact: Fact) -> Reply
+pub(crate) fn take(cached: &mut CachedSegment, fact: Fact) -> Reply
     ensures takes { Takes cached.old fact result cached.new }
     ensures refused { IsRefusal result → cached.new ≡ cached.old }
 {
@@ -43,7 +43,7 @@ pub fn take(cached: &mut CachedSegment, fact: Fact) -> Reply
 }
 
 /// Replies with the front.
-pub fn front(segment: &Segment) -> Reply
+pub(crate) fn front(segment: &Segment) -> Reply
     ensures fronts { Fronts segment.now result }
 {
     Reply::Front {
@@ -52,14 +52,14 @@ pub fn front(segment: &Segment) -> Reply
 }
 
 /// Replies with what the complete point waits for.
-pub fn gap(segment: &Segment) -> Reply
+pub(crate) fn gap(segment: &Segment) -> Reply
     ensures tells { ReportsGap segment.now result }
 {
     gap_reply(segment.gap())
 }
 
 /// Replies with what is stored.
-pub fn state(segment: &Segment) -> Reply
+pub(crate) fn state(segment: &Segment) -> Reply
     ensures tells { ReportsStatus segment.now result }
 {
     match status_of(segment) {
@@ -90,14 +90,14 @@ fn status_of(segment: &Segment) -> Result<Status, AllocError>
 }
 
 /// Reads a page.
-pub fn read(cached: &mut CachedSegment, page: u16, point: u64) -> Reply
+pub(crate) fn read(cached: &mut CachedSegment, page: u16, point: u64) -> Reply
     ensures reads { Reads cached.old page point result cached.new }
 {
     read_reply(cached.read(page, point))
 }
 
 /// Folds a page to the anchor, and commits it.
-pub fn fold(cached: &mut CachedSegment, page: u16) -> Reply
+pub(crate) fn fold(cached: &mut CachedSegment, page: u16) -> Reply
     ensures folds { Folds cached.old page result cached.new }
     ensures refused { IsRefusal result → cached.new ≡ cached.old }
 {
@@ -116,7 +116,7 @@ pub fn fold(cached: &mut CachedSegment, page: u16) -> Reply
 }
 
 /// Drops the records that the images have.
-pub fn discard(cached: &mut CachedSegment) -> Reply
+pub(crate) fn discard(cached: &mut CachedSegment) -> Reply
     ensures discards { Discards cached.old result cached.new }
 {
     cached.discard();
@@ -124,7 +124,7 @@ pub fn discard(cached: &mut CachedSegment) -> Reply
 }
 
 /// Folds all, and drops what the meaning does not keep.
-pub fn tidy(cached: &mut CachedSegment) -> Reply
+pub(crate) fn tidy(cached: &mut CachedSegment) -> Reply
     ensures tidies { TidiesUp cached.old result cached.new }
     ensures refused { IsRefusal result → cached.new ≡ cached.old }
 {
@@ -132,7 +132,7 @@ pub fn tidy(cached: &mut CachedSegment) -> Reply
 }
 
 /// Replies with the stored record of the least key above the one given.
-pub fn next(segment: &Segment, after: Option<Key>) -> Reply
+pub(crate) fn next(segment: &Segment, after: Option<Key>) -> Reply
     ensures tells { ReportsNext segment.now after result }
 {
     match segment.key_after(after) {

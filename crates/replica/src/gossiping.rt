@@ -16,7 +16,7 @@ use segment_core::{ReadFault, Segment};
 use std::alloc::Global;
 
 /// Returns the segment's summary.
-pub fn ask(segment: &Segment) -> Reply
+pub(crate) fn ask(segment: &Segment) -> Reply
     ensures asks { Asks segment.now result }
 {
     match summary(segment) {
@@ -54,14 +54,14 @@ fn boxed_answer(segment: &Segment, summary: &Summary) -> Result<Boxed<Delta>, Re
 }
 
 /// Returns what the segment has beyond a summary.
-pub fn answer(segment: &Segment, summary: &Summary) -> Reply
+pub(crate) fn answer(segment: &Segment, summary: &Summary) -> Reply
     ensures replies { RepliesTo segment.now summary.now result }
 {
     delta_reply(boxed_answer(segment, summary))
 }
 
 /// Returns what the segment has beyond a summary, if that has at most `limit` bytes; its size is computed before any of it is built.
-pub fn answer_within(segment: &Segment, summary: &Summary, most: u64) -> Reply
+pub(crate) fn answer_within(segment: &Segment, summary: &Summary, most: u64) -> Reply
     ensures replies { RepliesWithin segment.now summary.now most result }
 {
     match reply_size(segment, summary) {
@@ -72,7 +72,7 @@ pub fn answer_within(segment: &Segment, summary: &Summary, most: u64) -> Reply
 }
 
 /// Merges what a delta has beyond the summary that it was made for.
-pub fn absorb_delta(cached: &mut CachedSegment, summary: &Summary, delta: &Delta) -> Reply
+pub(crate) fn absorb_delta(cached: &mut CachedSegment, summary: &Summary, delta: &Delta) -> Reply
     ensures absorbs { Absorbs cached.old summary.now delta.now result cached.new }
 {
     absorbed_reply(cached.absorb(summary, delta))

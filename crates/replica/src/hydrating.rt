@@ -14,7 +14,7 @@ use snapshot::{FreezeFault, Snapshot, Staging, freeze};
 use std::alloc::Global;
 
 /// Replaces the kept snapshot by one of the segment.
-pub fn freeze_as(segment: &Segment, name: u64, snapshot: &mut Option<Snapshot>) -> Reply
+pub(crate) fn freeze_as(segment: &Segment, name: u64, snapshot: &mut Option<Snapshot>) -> Reply
     ensures freezes { FreezesAs segment.now name snapshot.old result snapshot.new }
 {
     match freeze(segment, name) {
@@ -29,7 +29,7 @@ pub fn freeze_as(segment: &Segment, name: u64, snapshot: &mut Option<Snapshot>) 
 }
 
 /// Replies with a piece of the snapshot.
-pub fn piece(alloc: Global, snapshot: &Option<Snapshot>, index: u32) -> Reply
+pub(crate) fn piece(alloc: Global, snapshot: &Option<Snapshot>, index: u32) -> Reply
     ensures pieces { Pieces snapshot.now index result }
 {
     let Some(snapshot) = snapshot else {
@@ -55,7 +55,7 @@ fn piece_reply(alloc: Global, piece: Piece) -> Reply
 }
 
 /// Adds a piece to the staging.
-pub fn add(staging: &mut Option<Staging>, piece: Piece) -> Reply
+pub(crate) fn add(staging: &mut Option<Staging>, piece: Piece) -> Reply
     ensures adds { AddsTo staging.old piece result staging.new }
 {
     let Some(staging) = staging else {
@@ -68,7 +68,7 @@ pub fn add(staging: &mut Option<Staging>, piece: Piece) -> Reply
 }
 
 /// Replaces the segment by the one that the staging's pieces make.
-pub fn finish(cached: &mut CachedSegment, staging: &mut Option<Staging>) -> Reply
+pub(crate) fn finish(cached: &mut CachedSegment, staging: &mut Option<Staging>) -> Reply
     ensures finishes { Finishes cached.old staging.old result cached.new staging.new }
 {
     let made = match staging {
@@ -86,7 +86,7 @@ pub fn finish(cached: &mut CachedSegment, staging: &mut Option<Staging>) -> Repl
 }
 
 /// Joins the segment that the staging's pieces make into the segment.
-pub fn unite(cached: &mut CachedSegment, staging: &mut Option<Staging>) -> Reply
+pub(crate) fn unite(cached: &mut CachedSegment, staging: &mut Option<Staging>) -> Reply
     ensures unites { EndsInUnion cached.old staging.old result cached.new staging.new }
 {
     let made = match staging {

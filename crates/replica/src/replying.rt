@@ -14,7 +14,7 @@ use segment_core::{Gap, ReadFault, Refusal, Taken};
 use snapshot::{AddFault, FinishFault};
 
 /// The reply for a refused fact: `Memory` for lack of memory, else `Refused` with the reason.
-pub fn refusal_reply(refusal: Refusal) -> Reply
+pub(crate) fn refusal_reply(refusal: Refusal) -> Reply
     ensures { result ≡ refusal_reply_of refusal }
 {
     match refusal {
@@ -24,7 +24,7 @@ pub fn refusal_reply(refusal: Refusal) -> Reply
 }
 
 /// The reply for the result of a `take`: `Changed`, `Unchanged`, or that of the refusal. The fact is dropped.
-pub fn taken_reply(taken: Result<Taken, Refused<Fact, Refusal>>) -> Reply
+pub(crate) fn taken_reply(taken: Result<Taken, Refused<Fact, Refusal>>) -> Reply
     ensures { result ≡ taken_reply_of taken }
 {
     match taken {
@@ -35,7 +35,7 @@ pub fn taken_reply(taken: Result<Taken, Refused<Fact, Refusal>>) -> Reply
 }
 
 /// The reply for what the complete point waits for: `Gap`, or `NoGap` for None.
-pub fn gap_reply(gap: Option<Gap>) -> Reply
+pub(crate) fn gap_reply(gap: Option<Gap>) -> Reply
     ensures { result ≡ gap_reply_of gap }
 {
     match gap {
@@ -45,7 +45,7 @@ pub fn gap_reply(gap: Option<Gap>) -> Reply
 }
 
 /// The reply for a failed read, fold, tidy or delta: one reply for each fault, with the same data.
-pub fn fault_reply(fault: ReadFault) -> Reply
+pub(crate) fn fault_reply(fault: ReadFault) -> Reply
     ensures { result ≡ fault_reply_of fault }
 {
     match fault {
@@ -57,7 +57,7 @@ pub fn fault_reply(fault: ReadFault) -> Reply
 }
 
 /// The reply for the result of a read: `Page`, or that of the fault.
-pub fn read_reply(read: Result<Page, ReadFault>) -> Reply
+pub(crate) fn read_reply(read: Result<Page, ReadFault>) -> Reply
     ensures { result ≡ read_reply_of read }
 {
     match read {
@@ -67,7 +67,7 @@ pub fn read_reply(read: Result<Page, ReadFault>) -> Reply
 }
 
 /// The reply for the result of a tidy: `Tidied`, or that of the fault.
-pub fn tidied_reply(tidied: Result<(), ReadFault>) -> Reply
+pub(crate) fn tidied_reply(tidied: Result<(), ReadFault>) -> Reply
     ensures { result ≡ tidied_reply_of tidied }
 {
     match tidied {
@@ -77,7 +77,7 @@ pub fn tidied_reply(tidied: Result<(), ReadFault>) -> Reply
 }
 
 /// The reply for the result of an answer to a summary: `Delta`, or that of the fault.
-pub fn delta_reply(replied: Result<Boxed<Delta>, ReadFault>) -> Reply
+pub(crate) fn delta_reply(replied: Result<Boxed<Delta>, ReadFault>) -> Reply
     ensures { result ≡ delta_reply_of replied }
 {
     match replied {
@@ -87,7 +87,7 @@ pub fn delta_reply(replied: Result<Boxed<Delta>, ReadFault>) -> Reply
 }
 
 /// The reply for the result of an absorb: `Absorbed`, `Uncovered` with what is uncovered, or that of the refusal.
-pub fn absorbed_reply(absorbed: Result<(), AbsorbRefusal>) -> Reply
+pub(crate) fn absorbed_reply(absorbed: Result<(), AbsorbRefusal>) -> Reply
     ensures { result ≡ absorbed_reply_of absorbed }
 {
     match absorbed {
@@ -98,7 +98,7 @@ pub fn absorbed_reply(absorbed: Result<(), AbsorbRefusal>) -> Reply
 }
 
 /// The reply for a piece that a staging refused: one reply for each fault, with the same data.
-pub fn unadded_reply(fault: AddFault) -> Reply
+pub(crate) fn unadded_reply(fault: AddFault) -> Reply
     ensures { result ≡ unadded_reply_of fault }
 {
     match fault {
@@ -109,7 +109,7 @@ pub fn unadded_reply(fault: AddFault) -> Reply
 }
 
 /// The reply for a staging that makes no segment: one reply for each fault, with the same data.
-pub fn unfinished_reply(fault: FinishFault) -> Reply
+pub(crate) fn unfinished_reply(fault: FinishFault) -> Reply
     ensures { result ≡ unfinished_reply_of fault }
 {
     match fault {

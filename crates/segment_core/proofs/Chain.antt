@@ -35,10 +35,6 @@ linked_small cs hs k base top _ small low (next r among alive above rest) = smal
 pub small_number : (r : RecordData) → record_fault r ≡ None → r.number ≤ 281474976710655
 small_number r shaped = search (rules, shaped)
 
-pub own_anchor : (b : BookData) (hs : List RecordData) (base : ℕ) (store : Store) (n : ℕ) → IsTopTo b hs base (least b.points) n
-    → HasAnchor (state_of b hs base store) n
-own_anchor b hs base store n top = (inr (top.linked, top.bound), λ m h. top.most m h.0 h.1)
-
 pub true_anchor : (s : State) (n : ℕ) → HasAnchor s n → (roster : ℕ) (log facts : List Fact) (p : Position)
     → IsSound roster log → MeansAt roster log facts p s → n ≡ p.anchor
 true_anchor s n own roster log facts p sound means = anchor_as log facts p s (log_of_sound roster log sound) means n own

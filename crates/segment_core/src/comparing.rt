@@ -4,7 +4,7 @@ ghost use Rattle.segment_theorems.specs.Shows.{Shows};
 ghost use Rattle.segment_core.specs.Comparing.{ReportsSamePage};
 
 use crate::segment::Segment;
-use hot_log::View;
+use hot_log::BookView;
 use redo_core::Page;
 use std::alloc::AllocError;
 
@@ -33,7 +33,7 @@ impl Segment {
         ensures { IsTrue result → Shows self.now page point (image_of self.now.store page) }
     {
         let (book, held) = (&self.book, &self.hot);
-        let view = View { book, held };
+        let view = BookView { book, held };
         match view.next_of(page, self.store.version(page), point) {
             Some(_) => false,
             None => true,

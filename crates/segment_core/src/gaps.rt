@@ -8,7 +8,7 @@ ghost use Rattle.segment_core.specs.Form.{IsSegment};
 
 use crate::answers::Gap;
 use crate::segment::Segment;
-use hot_log::View;
+use hot_log::BookView;
 
 impl Segment {
     /// What the complete point waits for: the record that blocks the first alive record above it, or else the truncation of the next
@@ -21,7 +21,7 @@ impl Segment {
     {
         let front = self.front();
         let (book, held) = (&self.book, &self.hot);
-        let view = View { book, held };
+        let view = BookView { book, held };
         match view.gap_above(front.complete) {
             Some(number) => Some(Gap::Record { number }),
             None => {

@@ -4,7 +4,7 @@ ghost use Rattle.segment_core.specs.Adopting.{AdoptsBase};
 ghost use Rattle.segment_core.specs.Uniting.{Unites, RaisesBase};
 
 use crate::segment::Segment;
-use hot_log::View;
+use hot_log::BookView;
 use page_base::BaseImage;
 use redo_core::{Refused, SharedPage};
 use std::alloc::AllocError;
@@ -65,7 +65,7 @@ impl Segment {
     {
         let raised = self.base.max(base);
         let (book, held) = (&self.book, &self.hot);
-        let view = View { book, held };
+        let view = BookView { book, held };
         self.points = self.points.over(&view, self.base, raised);
         self.base = raised;
     }

@@ -9,7 +9,7 @@ ghost use Rattle.hot_log.specs.Seen.{seen_in};
 ghost use Rattle.segment_core.specs.Points.{AnchorsOn, HasPoints, HasLowAnchor, IsSparedChain, IsTopTo, IsUntouched, JoinsOnTop, MayLink, Meets, MoveOn, WerePoints, points_at};
 
 use epoch_book::{EpochBook, Standing};
-use hot_log::View;
+use hot_log::BookView;
 use redo_core::{MAX_NUMBER, Record};
 
 /// The complete point and the anchor of a segment, and whether the chain of its alive records is known to be contiguous (`straight`) from
@@ -34,7 +34,7 @@ pub(crate) struct Spared {
 
 impl Points {
     /// The points over a base point.
-    pub(crate) fn anew(view: &View, base: u64) -> Points
+    pub(crate) fn anew(view: &BookView, base: u64) -> Points
         requires { base ≤ least view.now.book.now.points }
         ensures { seen_in view.now HasPoints base result }
     {
@@ -49,7 +49,7 @@ impl Points {
     }
 
     /// The points from where they are.
-    fn onward(self, view: &View) -> Points
+    fn onward(self, view: &BookView) -> Points
         requires complete { self.complete ≤ max_number }
         requires anchor { self.anchor ≤ least view.now.book.now.points }
         requires since { seen_in view.now HasNoneEarlier self.complete self.since }
@@ -69,7 +69,7 @@ impl Points {
     }
 
     /// The points where the minimum read point may have risen.
-    pub(crate) fn with_anchor(self, view: &View, base: u64) -> Points
+    pub(crate) fn with_anchor(self, view: &BookView, base: u64) -> Points
         requires { seen_in view.now HasLowAnchor base self }
         ensures { seen_in view.now HasPoints base result }
     {
@@ -83,7 +83,7 @@ impl Points {
 
     /// The greatest linked LSN up to the minimum read point over a contiguous chain. Each alive record up to the complete point is
     /// linked there, so it is the LSN of the last one; the chain is not walked.
-    fn anchor_of_last(self, view: &View) -> u64
+    fn anchor_of_last(self, view: &BookView) -> u64
         ensures { (base : ℕ) → seen_in view.now HasLowAnchor base self → IsTrue self.straight → seen_in view.now IsTopTo base (least view.now.book.now.points) result }
     {
         let to = view.book.min_point().min(self.complete);
@@ -94,7 +94,7 @@ impl Points {
     }
 
     /// The points over a raised base point: where they were, if that is the anchor of a contiguous chain, and else computed again.
-    pub(crate) fn over(self, view: &View, base: u64, raised: u64) -> Points
+    pub(crate) fn over(self, view: &BookView, base: u64, raised: u64) -> Points
         requires points { seen_in view.now HasPoints base self }
         requires bound { raised ≤ least view.now.book.now.points }
         ensures { seen_in view.now HasPoints raised result }
@@ -110,7 +110,7 @@ impl Points {
 
     /// What truncations down to a limit leave of a contiguous chain, by a walk down from its end: each record that it visits is one that
     /// they annul.
-    pub(crate) fn spared(self, view: &View, base: u64, limit: u64) -> Spared
+    pub(crate) fn spared(self, view: &BookView, base: u64, limit: u64) -> Spared
         requires { seen_in view.now HasPoints base self }
         ensures { IsTrue self.straight → seen_in view.now IsSparedChain base result }
     {
@@ -131,7 +131,13 @@ impl Points {
 
     /// The points where a truncation has opened the epochs above one: over a contiguous chain they continue from the last LSN that those
     /// epochs leave unchanged.
-    pub(crate) fn after_opening(self, view: &View, base: u64, epoch: u16, spared: Spared) -> Points
+    pub(crate) fn after_opening(
+        self,
+        view: &BookView,
+        base: u64,
+        epoch: u16,
+        spared: Spared,
+    ) -> Points
         requires { seen_in view.now WerePoints base epoch self spared }
         ensures { seen_in view.now HasPoints base result }
     {
@@ -163,7 +169,7 @@ impl Points {
     }
 
     /// Whether no alive record is above the complete point. Called only for a record that may link there.
-    pub(crate) fn is_at_end(self, view: &View, may_link: bool, back: u64) -> bool
+    pub(crate) fn is_at_end(self, view: &BookView, may_link: bool, back: u64) -> bool
         requires { seen_in view.now HasNoneEarlier self.complete self.since }
         ensures { IsTrue result → seen_in view.now HasNoneAbove self.complete }
     {
@@ -172,7 +178,7 @@ impl Points {
 
     /// The points after a record with this LSN has joined at the top of a contiguous chain. Where no alive record was above that, the
     /// chain ends at the record.
-    pub(crate) fn joined(self, view: &View, number: u64, at_end: bool) -> Points
+    pub(crate) fn joined(self, view: &BookView, number: u64, at_end: bool) -> Points
         requires small { self.complete ≤ max_number }
         requires anchor { self.anchor ≤ least view.now.book.now.points }
         requires since { seen_in view.now HasNoneEarlier self.complete self.since }
@@ -205,7 +211,7 @@ impl Points {
     }
 
     /// The points after a record with this LSN has joined at the top of a contiguous chain. The chain is walked from the record on.
-    fn on_top(self, view: &View, number: u64) -> Points
+    fn on_top(self, view: &BookView, number: u64) -> Points
         requires small { self.complete ≤ max_number }
         requires anchor { self.anchor ≤ least view.now.book.now.points }
         requires since { seen_in view.now HasNoneEarlier self.complete self.since }
@@ -228,7 +234,7 @@ impl Points {
     }
 
     /// The anchor where the chain continues from an LSN to its end.
-    fn anchor_on(self, view: &View, from: u64, end: u64) -> u64
+    fn anchor_on(self, view: &BookView, from: u64, end: u64) -> u64
         requires { seen_in view.now IsStraightEnd from end }
         ensures { seen_in view.now AnchorsOn from self.anchor result }
     {
@@ -274,7 +280,7 @@ impl Points {
 
 impl Spared {
     /// Whether the epochs above one have truncations down to the limit, and none of them has changed the spared LSN.
-    fn is_untouched(self, view: &View, epoch: u16) -> bool
+    fn is_untouched(self, view: &BookView, epoch: u16) -> bool
         ensures { IsTrue result → seen_in view.now IsUntouched epoch self }
     {
         view.book.least_lo(epoch) == Some(self.limit)

@@ -6,7 +6,7 @@ ghost use Rattle.segment_core.specs.Points.{HasPoints};
 
 use crate::points::Points;
 use epoch_book::EpochBook;
-use hot_log::{HotLog, Put, PutFault, View};
+use hot_log::{BookView, HotLog, Put, PutFault};
 use redo_core::{Record, Refused};
 
 /// Stores one more record, and moves the points to where it links them. Each error returns the record and leaves all as it was.
@@ -27,13 +27,13 @@ pub(crate) fn put_record(
     let (number, back) = (redo.number(), redo.back());
     let met = points.met(book, &redo);
     let may_link = met.may_link(book, base, &redo);
-    let at_end = met.is_at_end(&View { book, held: hot }, may_link, back);
+    let at_end = met.is_at_end(&BookView { book, held: hot }, may_link, back);
     match hot.put(redo)? {
         Put::Known => Ok(Put::Known),
         Put::New => {
             *points = met;
             if may_link {
-                let view = View { book, held: hot };
+                let view = BookView { book, held: hot };
                 *points = if points.straight && back == points.complete {
                     points.joined(&view, number, at_end)
                 } else {

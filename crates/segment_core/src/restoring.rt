@@ -9,7 +9,7 @@ use crate::pending::PendingPages;
 use crate::points::Points;
 use crate::segment::Segment;
 use epoch_book::EpochBook;
-use hot_log::{HotLog, View};
+use hot_log::{BookView, HotLog};
 use page_base::BaseStore;
 use redo_core::{Record, SharedPage};
 use std::alloc::{AllocError, Global};
@@ -34,7 +34,7 @@ impl Segment {
         let store = stored_at(alloc, base, pages)?;
         let mut hot = HotLog::new(alloc);
         hold_all(&mut hot, records)?;
-        let view = View {
+        let view = BookView {
             book: &book,
             held: &hot,
         };

@@ -35,7 +35,7 @@ use crate::pending::PendingPages;
 use crate::points::Points;
 use crate::putting::put_record;
 use epoch_book::{BookRefusal, EpochBook, Learnt, Standing};
-use hot_log::{HotLog, Put, PutFault, View, is_kept};
+use hot_log::{BookView, HotLog, Put, PutFault, is_kept};
 use page_base::BaseStore;
 use redo_core::{Advance, Cut, Fact, Key, Page, Record, Refused, Roster, apply};
 use std::alloc::{AllocError, Global};
@@ -84,7 +84,7 @@ impl Segment {
     {
         let book = EpochBook::new(alloc, roster)?;
         let hot = HotLog::new(alloc);
-        let view = View {
+        let view = BookView {
             book: &book,
             held: &hot,
         };
@@ -296,7 +296,7 @@ impl Segment {
     {
         let epoch = self.book.complete_epoch();
         let limit = lo_opened_by(&self.book, cut);
-        let view = View {
+        let view = BookView {
             book: &self.book,
             held: &self.hot,
         };
@@ -304,7 +304,7 @@ impl Segment {
         let learnt = self.book.learn_cut(cut);
         if self.book.complete_epoch() != epoch {
             let (book, held) = (&self.book, &self.hot);
-            let view = View { book, held };
+            let view = BookView { book, held };
             self.points = self.points.after_opening(&view, self.base, epoch, spared);
             self.due.add_opened(&self.book, epoch);
         }
@@ -316,7 +316,7 @@ impl Segment {
     {
         let learnt = self.book.learn_advance(advance);
         let (book, held) = (&self.book, &self.hot);
-        let view = View { book, held };
+        let view = BookView { book, held };
         self.points = self.points.with_anchor(&view, self.base);
         book_answer(Fact::Advance(advance), learnt)
     }

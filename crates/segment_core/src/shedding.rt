@@ -21,7 +21,7 @@ use crate::answers::ReadFault;
 use crate::fold_plan::{CommitFault, FoldPlan, Folded};
 use crate::segment::Segment;
 use epoch_book::EpochBook;
-use hot_log::{HotLog, View};
+use hot_log::{BookView, HotLog};
 use page_base::{BaseImage, BaseStore};
 use redo_core::{Record, Refused};
 use std::alloc::{AllocError, Global};
@@ -109,7 +109,7 @@ impl Segment {
     {
         let anchor = self.points.anchor;
         let (book, held) = (&self.book, &self.hot);
-        let view = View { book, held };
+        let view = BookView { book, held };
         self.points = self.points.over(&view, self.base, anchor);
         self.base = anchor;
         self.due

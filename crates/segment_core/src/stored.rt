@@ -14,7 +14,7 @@ ghost use Rattle.segment_theorems.specs.HasMeaning.{IsKeptBy};
 ghost use Rattle.segment_theorems.specs.State.{version_of, image_of};
 
 use crate::segment::Segment;
-use hot_log::View;
+use hot_log::BookView;
 use page_base::BaseImage;
 use redo_core::{Advance, Cut, Key, Page, Record};
 use std::alloc::{AllocError, Global};
@@ -45,7 +45,7 @@ impl Segment {
         ensures rising { IsRising RecordBefore self.now.held }
     {
         let (book, held) = (&self.book, &self.hot);
-        View { book, held }.kept_keys(self.alloc, point)
+        BookView { book, held }.kept_keys(self.alloc, point)
     }
 
     /// The stored records that wait, or are alive above a point, and whose keys are not among the ones given, which rise; rising by key.
@@ -55,7 +55,7 @@ impl Segment {
         ensures { IfOk result (λ v. Lists RecordBefore (λ r. IsKeptBy self.now point r × (Contains keys.now (key_of r) → ⊥)) (map (λ x. x.now) v.items)) }
     {
         let (book, held) = (&self.book, &self.hot);
-        View { book, held }.kept_unlisted(self.alloc, point, keys)
+        BookView { book, held }.kept_unlisted(self.alloc, point, keys)
     }
 
     /// The truncations known, rising by epoch.
@@ -151,11 +151,11 @@ impl Segment {
         ensures { IsTrue result ↔ StoresKept self.now.book self.now.held point lower.now.book lower.now.held base }
     {
         let (book, held) = (&self.book, &self.hot);
-        let other = View {
+        let other = BookView {
             book: &lower.book,
             held: &lower.hot,
         };
-        View { book, held }.stores_kept(point, &other, base)
+        BookView { book, held }.stores_kept(point, &other, base)
     }
 
     /// The alive records of a page with an LSN above `from` and at most `to`, in order. It fails only if memory runs out.
@@ -163,6 +163,6 @@ impl Segment {
         ensures { IfOk result (λ v. Lists BeforeByNumber (IsHeldOf self.now.book self.now.held page from to) (map (λ x. x.now) v.items)) }
     {
         let (book, held) = (&self.book, &self.hot);
-        View { book, held }.records_of(self.alloc, page, from, to)
+        BookView { book, held }.records_of(self.alloc, page, from, to)
     }
 }

@@ -11,7 +11,7 @@ ghost use Rattle.segment_core.specs.Form.{IsSegment};
 ghost use Rattle.segment_core.specs.BlockChain.{BreaksAt, IsLinkedOf, IsLinkedUpTo, IsChained};
 
 use crate::segment::Segment;
-use hot_log::View;
+use hot_log::BookView;
 use redo_core::Record;
 use std::alloc::AllocError;
 
@@ -24,7 +24,7 @@ impl Segment {
     {
         let version = self.store.version(page);
         let (book, held) = (&self.book, &self.hot);
-        View { book, held }.records_since_init(self.alloc, page, version, point)
+        BookView { book, held }.records_since_init(self.alloc, page, version, point)
     }
 
     /// The LSN of the record at which the walk down the page's block chain breaks, where these records are applied up to the point.
@@ -88,7 +88,7 @@ impl Segment {
         ensures { IsGreatestRecord (IsLinkedOf self.now page point) (option_copied result) }
     {
         let (book, held) = (&self.book, &self.hot);
-        let view = View { book, held };
+        let view = BookView { book, held };
         if point <= self.sure_point() {
             return view.last_of(page, 0, point);
         }
@@ -103,7 +103,7 @@ impl Segment {
         ensures { IsOnlyRecord (λ r. IsLinkedOf self.now page number r × (r.number ≡ number)) (option_copied result) }
     {
         let (book, held) = (&self.book, &self.hot);
-        let view = View { book, held };
+        let view = BookView { book, held };
         if number <= self.sure_point() {
             return view.next_of(page, number.saturating_sub(1), number);
         }

@@ -19,4 +19,3 @@ mod sameness;
 pub use covering::covers;
 pub use joining::join;
 pub use sameness::same;
-pub use segment_core::{import_facts, kept_of, prefers_lookup};

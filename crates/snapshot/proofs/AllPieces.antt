@@ -35,9 +35,6 @@ has_all s d st of form whole = record {
 
 -- what is at the index of the head, of a page and of a batch
 
-pub head_at : (d : SnapshotData) (index : ℕ) (content : PieceContent) → IsContentAt d index content → index ≡ 0 → content ≡ Head d.book d.anchor
-head_at d index content at first = search rules
-
 pub page_at : (d : SnapshotData) (index place : ℕ) (content : PieceContent) (i : ImageData) → IsContentAt d index content → index ≡ 1 + place
     → slice_get d.pages place ≡ Some i → content ≡ Page i
 page_at d index place content i at is e = search (rules, slice_get_within)

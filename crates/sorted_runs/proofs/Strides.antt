@@ -15,9 +15,6 @@ use Rattle.sorted_runs.proofs.Lists.{Rises, rises_from, all_more, all_at, past_b
 pub taken_more : {X : Type 0} (P : X → Type 0) (xs : List X) (n : ℕ) (x : X) → n < length xs → x ≡ get_or xs n x → P x → AllByRecursion P (take n xs) → AllByRecursion P (take (n + 1) xs)
 taken_more P xs n x lt at p h = grind (arith, common_steps)
 
-no_more : {X : Type 0} (P : X → Type 0) (xs : List X) (n : ℕ) → length xs ≤ n → AllByRecursion P (drop n xs)
-no_more P xs n le = grind (arith, common_steps)
-
 not_less : (p : Ordering) → is_lt p ≡ false → p ≡ Less → ⊥
 not_less p h e = let f = ap is_lt e in cc
 

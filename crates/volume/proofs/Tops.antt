@@ -64,6 +64,3 @@ tops_more S T page top next old new is here before puts = record {
       (let t : (g ≤ page) ⊎ (page < g) = grind arith in t) in
       puts.others g (λ e. omega (arith, above, e)) ∙ before.rest g (λ lt. omega (arith, above, lt));
 }
-
-pub tops_all : (S : ℕ → Type 0) (T : ℕ → ℕ → Type 0) (tops : List ℕ) → TopsTo S T None tops → (g : ℕ) → IsTopOf S T g (slice_index tops g)
-tops_all S T tops to g = to.each g tt

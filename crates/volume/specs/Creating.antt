@@ -12,7 +12,7 @@ use Rattle.volume.specs.declared.creating.Round.TheVariants as round
 use Rattle.volume.specs.declared.errands.Errand.TheVariants.{Found}
 use Rattle.volume.specs.declared.errands.Query.TheVariants.{Status, Fence}
 use Rattle.volume.specs.declared.phases.Phase.TheVariants as phase
-use Rattle.volume.specs.declared.turns.Turn.{Turn}
+use Rattle.volume.specs.declared.turns.Transition.{Transition}
 use Rattle.volume.specs.Settings.{SettingsData}
 use Rattle.volume.specs.Sets.{birth_at, is_marked, count_marked, no_nodes, no_births}
 use Rattle.volume.specs.Asking.{asks_from, asks_at, queries_from, query_to}
@@ -34,7 +34,7 @@ abbrev pub after_first : Creating → ℕ → ℕ → Creating
 after_first c node birth = creating_of c.round (slice_set c.births node (Some birth)) (slice_set c.answered node true)
 
 -- when all have, each is asked again
-abbrev pub HearsFirst : SettingsData → Creating → ℕ → ℕ → Turn → Type 0
+abbrev pub HearsFirst : SettingsData → Creating → ℕ → ℕ → Transition → Type 0
 HearsFirst s old node birth turn =
     let new = after_first old node birth in
     (¬ (HaveAllAnswered s new) × Enters turn (phase.Creating new) [])
@@ -45,7 +45,7 @@ abbrev pub after_second : Creating → ℕ → Creating
 after_second c node = creating_of c.round c.births (slice_set c.answered node true)
 
 -- with the birth of the first round; when all have, each is admitted
-abbrev pub HearsSecond : SettingsData → Creating → ℕ → ℕ → Turn → Type 0
+abbrev pub HearsSecond : SettingsData → Creating → ℕ → ℕ → Transition → Type 0
 HearsSecond s old node birth turn =
     let new = after_second old node in
     ((birth_at old.births node ≢ Some birth) × StopsWith turn NotFresh)
@@ -54,7 +54,7 @@ HearsSecond s old node birth turn =
     × Enters turn (phase.Creating (creating_of round.Founding new.births no_nodes)) (asks_from 1 Found 0 new.births))
 
 -- a node is a member; when all are, the volume is created
-abbrev pub HearsFounded : SettingsData → Creating → ℕ → Turn → Type 0
+abbrev pub HearsFounded : SettingsData → Creating → ℕ → Transition → Type 0
 HearsFounded s old node turn =
     let new = after_second old node in
     ((is_marked old.answered node ≡ true) × Stays turn [])
@@ -62,7 +62,7 @@ HearsFounded s old node turn =
     ⊎ ((is_marked old.answered node ≡ false) × HaveAllAnswered s new × Enters turn (phase.Creating new) (Created ∷ []))
 
 -- with the birth of the first round
-abbrev pub HearsAdmitted : SettingsData → Creating → ℕ → ℕ → Turn → Type 0
+abbrev pub HearsAdmitted : SettingsData → Creating → ℕ → ℕ → Transition → Type 0
 HearsAdmitted s old node birth turn =
     ((birth_at old.births node ≢ Some birth) × Stays turn [])
     ⊎ ((birth_at old.births node ≡ Some birth) × HearsFounded s old node turn)
@@ -72,12 +72,12 @@ abbrev pub IsEmptyFront : Front → Type 0
 IsEmptyFront front = (front.epoch ≡ 0) × (front.complete ≡ 0)
 
 -- a fresh node counts if it has nothing: what it has may be of another volume
-abbrev pub HearsFresh : SettingsData → Creating → ℕ → ℕ → Front → Turn → Type 0
+abbrev pub HearsFresh : SettingsData → Creating → ℕ → ℕ → Front → Transition → Type 0
 HearsFresh s old node birth front turn =
     (¬ (IsEmptyFront front) × StopsWith turn NotFresh) ⊎ (IsEmptyFront front × HearsFirst s old node birth turn)
 
 -- a reply in each round
-abbrev pub HearsInRound : SettingsData → Creating → Round → ℕ → Reply → Turn → Type 0
+abbrev pub HearsInRound : SettingsData → Creating → Round → ℕ → Reply → Transition → Type 0
 HearsInRound s old round.First node (reply.Status generation birth false front accepted) turn = HearsFresh s old node birth front turn
 HearsInRound s old round.First node (reply.Status generation birth true front accepted) turn = StopsWith turn NotFresh
 HearsInRound s old round.Second node (reply.Fresh birth) turn = HearsSecond s old node birth turn
@@ -86,7 +86,7 @@ HearsInRound s old round.Founding node (reply.Admitted generation birth) turn = 
 HearsInRound s old round.Founding node reply.Member turn = HearsFounded s old node turn
 HearsInRound s old other node told turn = Stays turn []
 
-abbrev pub HearsCreating : SettingsData → Creating → ℕ → Reply → Turn → Type 0
+abbrev pub HearsCreating : SettingsData → Creating → ℕ → Reply → Transition → Type 0
 HearsCreating s old node told turn = HearsInRound s old old.round node told turn
 
 -- what a node is asked again

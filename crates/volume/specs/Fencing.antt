@@ -14,8 +14,8 @@ use Rattle.volume.specs.declared.fencing.Fencing.{Fencing}
 use Rattle.volume.specs.declared.phases.Opening.{Opening}
 use Rattle.volume.specs.declared.phases.Phase.TheVariants as phase
 use Rattle.volume.specs.declared.phases.Stage.TheVariants as stage
-use Rattle.volume.specs.declared.turns.Turn.{Turn}
-use Rattle.volume.specs.declared.turns.Turn.TheVariants as turn
+use Rattle.volume.specs.declared.turns.Transition.{Transition}
+use Rattle.volume.specs.declared.turns.Transition.TheVariants as turn
 use Rattle.volume.specs.Settings.{SettingsData}
 use Rattle.volume.specs.Sets.{birth_at, count_marked, marks_of, no_nodes, no_births}
 use Rattle.volume.specs.Asking.{asks_at, query_to}
@@ -62,7 +62,7 @@ pub record BeginsOpening (s : SettingsData) (f : Fencing) (o : Opening) : Type 0
   pub stage : o.stage ≡ stage.Pulling (marks_of f.births)
 
 -- and only now is any of them asked for what it has: the one that made the quorum whole
-abbrev pub PullsQuorum : SettingsData → Fencing → ℕ → ℕ → Turn → Type 0
+abbrev pub PullsQuorum : SettingsData → Fencing → ℕ → ℕ → Transition → Type 0
 PullsQuorum s f node birth (turn.Enter (phase.Opening o) actions) =
     BeginsOpening s f o × (actions.items ≡ asks_at f.generation (Pull o.summary) node (Some birth))
 PullsQuorum s f node birth other = ⊥
@@ -78,7 +78,7 @@ with_fenced f node birth accepted = record {
   lost = slice_set f.lost node false;
 }
 
-abbrev pub HearsFenced : SettingsData → Fencing → ℕ → ℕ → Option AcceptedCut → Turn → Type 0
+abbrev pub HearsFenced : SettingsData → Fencing → ℕ → ℕ → Option AcceptedCut → Transition → Type 0
 HearsFenced s old node birth accepted turn =
     let new = with_fenced old node birth accepted in
     (¬ (IsFencedQuorum s new.births) × Enters turn (phase.Fencing new) [])
@@ -99,20 +99,20 @@ abbrev pub without_node : Fencing → ℕ → Fencing
 without_node f node = record { generation = f.generation; births = f.births; pairs = f.pairs; fresh = f.fresh; lost = slice_set f.lost node true }
 
 -- it goes on while the nodes that are not lost can make a quorum
-abbrev pub GoesOn : SettingsData → Fencing → Turn → List Action → Type 0
+abbrev pub GoesOn : SettingsData → Fencing → Transition → List Action → Type 0
 GoesOn s new turn actions =
     let left = s.nodes - count_marked new.lost in
     ((s.quorum ≤ left) × Enters turn (phase.Fencing new) actions)
     ⊎ ((left < s.quorum) × StopsWith turn (NoQuorum left s.quorum))
 
-abbrev pub HearsStale : SettingsData → Fencing → ℕ → ℕ → Turn → Type 0
+abbrev pub HearsStale : SettingsData → Fencing → ℕ → ℕ → Transition → Type 0
 HearsStale s old node generation turn =
     ((old.generation < generation) × StopsWith turn (Fenced generation))
     ⊎ ((generation ≡ old.generation) × (birth_at old.births node ≡ None) × GoesOn s (without_node old node) turn [])
     ⊎ (((generation < old.generation) ⊎ ¬ (birth_at old.births node ≡ None)) × Stays turn [])
 
 -- A reply names the generation that it answers; one for another generation changes nothing.
-abbrev pub HearsFencing : SettingsData → Fencing → ℕ → Reply → Turn → Type 0
+abbrev pub HearsFencing : SettingsData → Fencing → ℕ → Reply → Transition → Type 0
 HearsFencing s old node (reply.Fenced generation birth accepted) turn =
     ((generation ≡ old.generation) × HearsFenced s old node birth accepted turn) ⊎ (¬ (generation ≡ old.generation) × Stays turn [])
 HearsFencing s old node (reply.Fresh birth) turn = GoesOn s (with_fresh old node birth) turn []
@@ -120,7 +120,7 @@ HearsFencing s old node (reply.Stale generation) turn = HearsStale s old node ge
 HearsFencing s old node other turn = Stays turn []
 
 -- ---- a broken connection
-abbrev pub RetriesFencing : SettingsData → Fencing → ℕ → Turn → Type 0
+abbrev pub RetriesFencing : SettingsData → Fencing → ℕ → Transition → Type 0
 RetriesFencing s old node turn =
     (¬ (birth_at old.births node ≡ None) × Stays turn [])
     ⊎ ((birth_at old.births node ≡ None) × GoesOn s (without_node old node) turn (query_to (Fence old.generation) node))

@@ -34,8 +34,8 @@ use Rattle.volume.specs.declared.phases.Opening.{Opening}
 use Rattle.volume.specs.declared.phases.Stage.{Stage}
 use Rattle.volume.specs.declared.phases.Stage.TheVariants as stage
 use Rattle.volume.specs.declared.phases.Session.{Session}
-use Rattle.volume.specs.declared.plans.Plan.{Plan}
-use Rattle.volume.specs.declared.turns.Turn.{Turn}
+use Rattle.volume.specs.declared.plans.CutPlan.{CutPlan}
+use Rattle.volume.specs.declared.turns.Transition.{Transition}
 use Rattle.volume.specs.Sets.{birth_at, is_marked, count_marked, marks_of, no_nodes, no_births}
 use Rattle.volume.specs.declared.errands.Query.TheVariants.{Fence}
 use Rattle.volume.specs.Asking.{asks_from, asks_at, query_to}
@@ -62,11 +62,11 @@ abbrev pub to_each : Opening → Errand → List Action
 to_each o e = asks_from o.session.generation e 0 o.session.births
 
 -- the turn ends with a fault, and the opening is as it was
-abbrev pub EndsAlone : Opening → Opening → Turn → Fault → Type 0
+abbrev pub EndsAlone : Opening → Opening → Transition → Fault → Type 0
 EndsAlone old new turn fault = StopsWith turn fault × (new ≡ old)
 
 -- nothing happens
-abbrev pub ChangesNothing : Opening → Opening → Turn → Type 0
+abbrev pub ChangesNothing : Opening → Opening → Transition → Type 0
 ChangesNothing old new turn = Stays turn [] × (new ≡ old)
 
 -- so many nodes as a quorum takes
@@ -98,34 +98,34 @@ abbrev pub RefusesDelta : State → SummaryData → DeltaData → Type 0
 RefusesDelta union summary delta = (why : AbsorbRefusal) × RefusesAbsorb union summary delta why × (why ≢ RefusedFor Memory)
 
 -- the union is made known, up to what comes next for it
-abbrev pub Plans : Opening → State → Opening → Turn → Type 0
+abbrev pub Plans : Opening → State → Opening → Transition → Type 0
 Plans old union new turn =
-    ((plan : Plan) × IsPlan union old.pair plan × (new ≡ with_union old union (stage.Spreading plan no_nodes)) × Stays turn (to_each old errand.Ask))
+    ((plan : CutPlan) × IsPlan union old.pair plan × (new ≡ with_union old union (stage.Spreading plan no_nodes)) × Stays turn (to_each old errand.Ask))
     ⊎ ((fault : Fault) × IsPlanFault union fault × EndsAlone old new turn fault)
 
 -- the nodes are asked for what they have beyond the union, by its summary
-abbrev pub AsksWith : Opening → List Bool → State → Option SummaryData → Opening → Turn → Type 0
+abbrev pub AsksWith : Opening → List Bool → State → Option SummaryData → Opening → Transition → Type 0
 AsksWith old left union None new turn = ⊥
 AsksWith old left union (Some asked) new turn =
     Summarizes union asked × (new ≡ asking_with old union asked (stage.Pulling left)) × Stays turn (to_each old (errand.Pull asked))
 
-abbrev pub PullsOthers : Opening → List Bool → State → Opening → Turn → Type 0
+abbrev pub PullsOthers : Opening → List Bool → State → Opening → Transition → Type 0
 PullsOthers old left union new turn = AsksWith old left union new.asked new turn
 
 -- once the first has answered, the others are asked; when none is left, the union is made known
-abbrev pub GoesOnPulling : Opening → State → List Bool → Opening → Turn → Type 0
+abbrev pub GoesOnPulling : Opening → State → List Bool → Opening → Transition → Type 0
 GoesOnPulling old union left new turn =
     ((0 < count_marked left) × (old.asked ≡ None) × PullsOthers old left union new turn)
     ⊎ ((0 < count_marked left) × (old.asked ≢ None) × (new ≡ with_union old union (stage.Pulling left)) × Stays turn [])
     ⊎ ((count_marked left ≡ 0) × Plans old union new turn)
 
 -- One of those that are left has answered what it has. What does not fit ends the opening.
-abbrev pub Pulls : Opening → ℕ → List Bool → DeltaData → Opening → Turn → Type 0
+abbrev pub Pulls : Opening → ℕ → List Bool → DeltaData → Opening → Transition → Type 0
 Pulls old node left delta new turn =
     (RefusesDelta old.union (asked_with old) delta × EndsAlone old new turn Damaged)
     ⊎ ((union : State) × GrowsBy old.union (asked_with old) delta union × GoesOnPulling old union (slice_set left node false) new turn)
 
-abbrev pub HearsDelta : Opening → Stage → ℕ → DeltaData → Opening → Turn → Type 0
+abbrev pub HearsDelta : Opening → Stage → ℕ → DeltaData → Opening → Transition → Type 0
 HearsDelta old (stage.Pulling left) node delta new turn =
     ((is_marked left node ≡ true) × Pulls old node left delta new turn) ⊎ ((is_marked left node ≡ false) × ChangesNothing old new turn)
 HearsDelta old other node delta new turn = ChangesNothing old new turn
@@ -141,22 +141,22 @@ abbrev pub BreaksChain : State → SummaryData → Type 0
 BreaksChain union summary = (summary.anchor < union.base) × ((page n : ℕ) × IsFirstBreak union page n)
 
 -- a node gets what the union has beyond its own summary, and is asked for its front
-abbrev pub Pushes : Opening → ℕ → SummaryData → Opening → Turn → Type 0
+abbrev pub Pushes : Opening → ℕ → SummaryData → Opening → Transition → Type 0
 Pushes old node summary new turn =
     (BreaksChain old.union summary × EndsAlone old new turn Damaged)
     ⊎ ((delta : DeltaData) × FillsFor old.union summary delta × (new ≡ old)
     × Stays turn (asks_at old.session.generation (errand.Push summary delta) node (birth_at old.session.births node)))
 
-abbrev pub HearsSummary : Opening → Stage → ℕ → SummaryData → Opening → Turn → Type 0
+abbrev pub HearsSummary : Opening → Stage → ℕ → SummaryData → Opening → Transition → Type 0
 HearsSummary old (stage.Spreading plan known) node summary new turn = Pushes old node summary new turn
 HearsSummary old other node summary new turn = ChangesNothing old new turn
 
 -- the front is of the union's epoch, and at or above what the plan keeps
-abbrev pub IsKnownAt : Plan → Front → Type 0
+abbrev pub IsKnownAt : CutPlan → Front → Type 0
 IsKnownAt plan front = (front.epoch + 1 ≡ plan.cut.epoch) × (plan.cut.lo ≤ front.complete)
 
 -- a node of the quorum that has a later epoch is asked again for what it has
-abbrev pub PullsAgain : Opening → ℕ → Opening → Turn → Type 0
+abbrev pub PullsAgain : Opening → ℕ → Opening → Transition → Type 0
 PullsAgain old node new turn =
     ((is_marked old.session.quorum node ≡ false) × ChangesNothing old new turn)
     ⊎ ((is_marked old.session.quorum node ≡ true) × (new ≡ at_stage old (stage.Pulling (slice_set no_nodes node true)))
@@ -174,7 +174,7 @@ AdmitsFresh o joins =
     × (joins ≡ asks_from o.session.generation (errand.Join o.summary delta (joining_of o front)) 0 o.fresh))
 
 -- the fresh nodes are admitted, once, and the plan is proposed
-abbrev pub ProposesPlan : Opening → Plan → Opening → Turn → Type 0
+abbrev pub ProposesPlan : Opening → CutPlan → Opening → Transition → Type 0
 ProposesPlan old plan new turn =
     (BreaksChain old.union old.summary × EndsAlone old new turn Damaged)
     ⊎ ((joins : List Action) × AdmitsFresh old joins
@@ -182,12 +182,12 @@ ProposesPlan old plan new turn =
     × Stays turn (joins ++ to_each old (errand.Propose plan.cut)))
 
 -- the plan is proposed when a quorum knows what it keeps
-abbrev pub Knows : ℕ → Opening → Plan → List Bool → Opening → Turn → Type 0
+abbrev pub Knows : ℕ → Opening → CutPlan → List Bool → Opening → Transition → Type 0
 Knows quorum old plan known new turn =
     (¬ (IsQuorum quorum known) × (new ≡ at_stage old (stage.Spreading plan known)) × Stays turn [])
     ⊎ (IsQuorum quorum known × ProposesPlan old plan new turn)
 
-abbrev pub HearsKnown : ℕ → Opening → Stage → ℕ → Front → Opening → Turn → Type 0
+abbrev pub HearsKnown : ℕ → Opening → Stage → ℕ → Front → Opening → Transition → Type 0
 HearsKnown quorum old (stage.Spreading plan known) node front new turn =
     ((plan.cut.epoch ≤ front.epoch) × PullsAgain old node new turn)
     ⊎ ((front.epoch < plan.cut.epoch) × ¬ (IsKnownAt plan front) × ChangesNothing old new turn)
@@ -196,13 +196,13 @@ HearsKnown quorum old other node front new turn = ChangesNothing old new turn
 
 -- ---- what a quorum has accepted
 -- with a quorum the plan is taken
-abbrev pub Accepts : ℕ → Opening → Plan → List Bool → Opening → Turn → Type 0
+abbrev pub Accepts : ℕ → Opening → CutPlan → List Bool → Opening → Transition → Type 0
 Accepts quorum old plan accepted new turn =
     (¬ (IsQuorum quorum accepted) × (new ≡ at_stage old (stage.Proposing plan accepted)) × Stays turn [])
     ⊎ (IsQuorum quorum accepted × (new ≡ at_stage old (stage.Taking plan no_nodes)) × Stays turn (to_each old (errand.Begin plan.cut)))
 
 -- a node has accepted a truncation, which counts where it is of the plan's epoch
-abbrev pub HearsAccepted : ℕ → Opening → Stage → ℕ → ℕ → Opening → Turn → Type 0
+abbrev pub HearsAccepted : ℕ → Opening → Stage → ℕ → ℕ → Opening → Transition → Type 0
 HearsAccepted quorum old (stage.Proposing plan accepted) node epoch new turn =
     ((epoch ≢ plan.cut.epoch) × ChangesNothing old new turn)
     ⊎ ((epoch ≡ plan.cut.epoch) × Accepts quorum old plan (slice_set accepted node true) new turn)
@@ -221,7 +221,7 @@ abbrev pub RefusesPlan : State → CutData → Type 0
 RefusesPlan union cut = (why : Refusal) × Refuses union (fact.Cut cut) why
 
 -- after a pending truncation the next one is planned; after one of the engine's own the volume is open
-abbrev pub BeginsEpoch : Opening → Plan → Opening → Turn → Type 0
+abbrev pub BeginsEpoch : Opening → CutPlan → Opening → Transition → Type 0
 BeginsEpoch old plan new turn =
     (RefusesPlan old.union plan.cut × EndsAlone old new turn Damaged)
     ⊎ ((union : State) × TakesPlan old.union plan.cut union
@@ -229,12 +229,12 @@ BeginsEpoch old plan new turn =
     ⊎ ((plan.is_pending ≡ false) × OpensVolume old.session union plan.cut turn × (new ≡ old))))
 
 -- with a quorum in the plan's epoch the union takes the plan too
-abbrev pub ReachesEpoch : ℕ → Opening → Plan → List Bool → Opening → Turn → Type 0
+abbrev pub ReachesEpoch : ℕ → Opening → CutPlan → List Bool → Opening → Transition → Type 0
 ReachesEpoch quorum old plan reported new turn =
     (¬ (IsQuorum quorum reported) × (new ≡ at_stage old (stage.Taking plan reported)) × Stays turn [])
     ⊎ (IsQuorum quorum reported × BeginsEpoch old plan new turn)
 
-abbrev pub HearsReported : ℕ → Opening → Stage → ℕ → Front → Opening → Turn → Type 0
+abbrev pub HearsReported : ℕ → Opening → Stage → ℕ → Front → Opening → Transition → Type 0
 HearsReported quorum old (stage.Taking plan reported) node front new turn =
     ((front.epoch < plan.cut.epoch) × ChangesNothing old new turn)
     ⊎ ((plan.cut.epoch ≤ front.epoch) × ReachesEpoch quorum old plan (slice_set reported node true) new turn)
@@ -242,12 +242,12 @@ HearsReported quorum old other node front new turn = ChangesNothing old new turn
 
 -- ---- replies
 -- a front counts in two stages
-abbrev pub HearsFront : ℕ → Opening → Stage → ℕ → Front → Opening → Turn → Type 0
+abbrev pub HearsFront : ℕ → Opening → Stage → ℕ → Front → Opening → Transition → Type 0
 HearsFront quorum old (stage.Taking plan reported) node front new turn = HearsReported quorum old (stage.Taking plan reported) node front new turn
 HearsFront quorum old other node front new turn = HearsKnown quorum old other node front new turn
 
 -- a reply to what was asked under the generation: one that does not belong to the stage changes nothing
-abbrev pub HearsHeaded : ℕ → Opening → ℕ → SegmentReply → Opening → Turn → Type 0
+abbrev pub HearsHeaded : ℕ → Opening → ℕ → SegmentReply → Opening → Transition → Type 0
 HearsHeaded quorum old node (segment.Delta delta) new turn = HearsDelta old old.stage node delta new turn
 HearsHeaded quorum old node (segment.Summary summary) new turn = HearsSummary old old.stage node summary new turn
 HearsHeaded quorum old node (segment.Front front) new turn = HearsFront quorum old old.stage node front new turn
@@ -261,7 +261,7 @@ asks_in_stage generation (stage.Proposing plan accepted) node birth = asks_at ge
 asks_in_stage generation (stage.Taking plan reported) node birth = asks_at generation (errand.Begin plan.cut) node birth
 
 -- a node that is fenced or admitted late is asked what the others were; it is none of the quorum
-abbrev pub HearsLate : Opening → ℕ → ℕ → ℕ → Opening → Turn → Type 0
+abbrev pub HearsLate : Opening → ℕ → ℕ → ℕ → Opening → Transition → Type 0
 HearsLate old node generation birth new turn =
     (¬ (IsLate old.session node generation) × ChangesNothing old new turn)
     ⊎ (IsLate old.session node generation
@@ -269,14 +269,14 @@ HearsLate old node generation birth new turn =
     × Stays turn (asks_in_stage generation old.stage node (birth_at (with_birth old.session node birth).births node)))
 
 -- a node of the quorum that is fresh before all have answered what they have leaves no quorum
-abbrev pub HearsLost : ℕ → Opening → Stage → ℕ → Opening → Turn → Type 0
+abbrev pub HearsLost : ℕ → Opening → Stage → ℕ → Opening → Transition → Type 0
 HearsLost quorum old (stage.Pulling left) node new turn =
     ((is_marked old.session.quorum node ≡ true) × ((have : ℕ) × EndsAlone old new turn (NoQuorum have quorum)))
     ⊎ ((is_marked old.session.quorum node ≡ false) × ChangesNothing old new turn)
 HearsLost quorum old other node new turn = ChangesNothing old new turn
 
 -- A reply under another generation, or of another birth than was fenced or admitted, changes nothing.
-abbrev pub HearsOpening : ℕ → Opening → ℕ → Reply → Opening → Turn → Type 0
+abbrev pub HearsOpening : ℕ → Opening → ℕ → Reply → Opening → Transition → Type 0
 HearsOpening quorum old node (reply.Headed generation birth told) new turn =
     (IsOwn old.session node generation birth × HearsHeaded quorum old node told new turn)
     ⊎ (¬ (IsOwn old.session node generation birth) × ChangesNothing old new turn)

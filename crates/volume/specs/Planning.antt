@@ -13,7 +13,7 @@ use Rattle.segment_core.specs.declared.answers.Front.{Front}
 use Rattle.guard.specs.declared.requests.AcceptedCut.{AcceptedCut}
 use Rattle.volume.specs.declared.actions.Fault.{Fault}
 use Rattle.volume.specs.declared.actions.Fault.TheVariants.{Full, Damaged}
-use Rattle.volume.specs.declared.plans.Plan.{Plan}
+use Rattle.volume.specs.declared.plans.CutPlan.{CutPlan}
 use Rattle.redo_writer.specs.Layout.{number_of}
 
 -- the greatest accepted truncation of the quorum is of the epoch after the union's
@@ -34,7 +34,7 @@ pub record IsOwnCut (union : State) (cut : CutData) : Type 0 where
   pub hi : cut.hi ≡ front.complete
 
 -- what is pending comes first
-abbrev pub IsPlan : State → Option AcceptedCut → Plan → Type 0
+abbrev pub IsPlan : State → Option AcceptedCut → CutPlan → Type 0
 IsPlan union pair plan =
     ((plan.is_pending ≡ true) × IsPending pair union.book.complete plan.cut)
     ⊎ ((plan.is_pending ≡ false) × ((cut : CutData) → IsPending pair union.book.complete cut → ⊥) × IsOwnCut union plan.cut)
@@ -63,10 +63,10 @@ FindsPoint union complete (Ok point) = IsCommitPoint union complete point
 FindsPoint union complete (Err fault) = RefusesRead union 0 complete × (fault ≡ Damaged)
 
 -- the truncation of the epoch after this one
-abbrev pub IsOwnPlan : ℕ → ℕ → ℕ → Result Plan Fault → Type 0
+abbrev pub IsOwnPlan : ℕ → ℕ → ℕ → Result CutPlan Fault → Type 0
 IsOwnPlan epoch lo complete (Ok plan) = (plan.is_pending ≡ false) × (plan.cut ≡ cut_of (epoch + 1) lo complete)
 IsOwnPlan epoch lo complete (Err fault) = IsUnfit epoch lo complete fault
 
-abbrev pub MakesPlan : State → Option AcceptedCut → Result Plan Fault → Type 0
+abbrev pub MakesPlan : State → Option AcceptedCut → Result CutPlan Fault → Type 0
 MakesPlan union pair (Ok plan) = IsPlan union pair plan
 MakesPlan union pair (Err fault) = IsPlanFault union fault

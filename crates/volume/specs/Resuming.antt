@@ -19,8 +19,8 @@ use Rattle.volume.specs.declared.actions.Fault.TheVariants.{Damaged}
 use Rattle.volume.specs.declared.phases.Phase.TheVariants as phase
 use Rattle.volume.specs.declared.phases.Session.{Session}
 use Rattle.volume.specs.declared.phases.Writing.{Writing}
-use Rattle.volume.specs.declared.turns.Turn.{Turn}
-use Rattle.volume.specs.declared.turns.Turn.TheVariants as turn
+use Rattle.volume.specs.declared.turns.Transition.{Transition}
+use Rattle.volume.specs.declared.turns.Transition.TheVariants as turn
 use Rattle.redo_writer.specs.Layout.{number_of}
 use Rattle.volume.specs.Layout.{IsHeaderOf}
 use Rattle.volume.specs.Planning.{RefusesRead}
@@ -82,6 +82,6 @@ abbrev pub RefusesPage : State → ℕ → Type 0
 RefusesPage union point = (page : ℕ) × ((page ≡ 0) ⊎ IsStoredPage union page) × RefusesRead union page point
 
 -- the volume is open, or the union does not show one of its pages at the commit point that the truncation keeps
-abbrev pub OpensVolume : Session → State → CutData → Turn → Type 0
+abbrev pub OpensVolume : Session → State → CutData → Transition → Type 0
 OpensVolume session union cut (turn.Enter (phase.Open w) actions) = BeginsWriting session union cut w × IsOpened union cut actions.items
 OpensVolume session union cut told = StopsWith told Damaged × RefusesPage union cut.lo

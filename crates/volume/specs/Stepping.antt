@@ -11,8 +11,8 @@ use Rattle.volume.specs.declared.events.Event.TheVariants as event
 use Rattle.volume.specs.declared.phases.Phase.{Phase}
 use Rattle.volume.specs.declared.phases.Phase.TheVariants as phase
 use Rattle.volume.specs.declared.phases.Writing.{Writing}
-use Rattle.volume.specs.declared.turns.Turn.{Turn}
-use Rattle.volume.specs.declared.turns.Turn.TheVariants as turn
+use Rattle.volume.specs.declared.turns.Transition.{Transition}
+use Rattle.volume.specs.declared.turns.Transition.TheVariants as turn
 use Rattle.volume.specs.Settings.{SettingsData}
 use Rattle.volume.specs.Sets.{birth_at}
 use Rattle.volume.specs.Asking.{queries_from}
@@ -48,7 +48,7 @@ CallsOpen does old (phase.Open w) actions new = (after : Writing) × does w acti
 CallsOpen does old other actions new = OnlyRefuses old NotOpen actions new
 
 -- ---- replies and broken connections
-abbrev pub Hears : SettingsData → Phase → ℕ → Reply → Phase → Turn → Type 0
+abbrev pub Hears : SettingsData → Phase → ℕ → Reply → Phase → Transition → Type 0
 Hears s phase.Idle node told new turn = Stays turn [] × (new ≡ phase.Idle)
 Hears s (phase.Creating c) node told new turn = HearsCreating s c node told turn × (new ≡ phase.Creating c)
 Hears s (phase.Fencing f) node told new turn = HearsFencing s f node told turn × (new ≡ phase.Fencing f)
@@ -57,7 +57,7 @@ Hears s (phase.Open old) node told (phase.Open new) turn = HearsWriting s.quorum
 Hears s old node told new turn = ⊥
 
 -- what was asked of a node is asked again
-abbrev pub Retries : SettingsData → Phase → ℕ → Turn → Type 0
+abbrev pub Retries : SettingsData → Phase → ℕ → Transition → Type 0
 Retries s phase.Idle node turn = Stays turn []
 Retries s (phase.Creating c) node turn = Stays turn (retries_creating c c.round node)
 Retries s (phase.Fencing f) node turn = RetriesFencing s f node turn
@@ -65,7 +65,7 @@ Retries s (phase.Opening o) node turn = Stays turn (retries_opening o o.stage no
 Retries s (phase.Open w) node turn = Stays turn (brings w node (birth_at w.session.births node))
 
 -- the phase that a turn leaves
-abbrev pub Turns : VolumeData → Phase → Turn → List Action → VolumeData → Type 0
+abbrev pub Turns : VolumeData → Phase → Transition → List Action → VolumeData → Type 0
 Turns old left (turn.Stay asked) actions new = (actions ≡ asked.items) × (new ≡ at_phase old left)
 Turns old left (turn.Enter next asked) actions new = (actions ≡ asked.items) × (new ≡ at_phase old next)
 Turns old left (turn.End asked) actions new = (actions ≡ asked.items) × (new ≡ at_phase old phase.Idle)
@@ -74,12 +74,12 @@ Turns old left (turn.End asked) actions new = (actions ≡ asked.items) × (new 
 abbrev pub HearsNode : VolumeData → ℕ → Reply → List Action → VolumeData → Type 0
 HearsNode old node told actions new =
     ((old.settings.nodes ≤ node) × (actions ≡ []) × (new ≡ old))
-    ⊎ ((node < old.settings.nodes) × ((left : Phase) × (turn : Turn) × Hears old.settings old.phase node told left turn × Turns old left turn actions new))
+    ⊎ ((node < old.settings.nodes) × ((left : Phase) × (turn : Transition) × Hears old.settings old.phase node told left turn × Turns old left turn actions new))
 
 abbrev pub RetriesNode : VolumeData → ℕ → List Action → VolumeData → Type 0
 RetriesNode old node actions new =
     ((old.settings.nodes ≤ node) × (actions ≡ []) × (new ≡ old))
-    ⊎ ((node < old.settings.nodes) × ((turn : Turn) × Retries old.settings old.phase node turn × Turns old old.phase turn actions new))
+    ⊎ ((node < old.settings.nodes) × ((turn : Transition) × Retries old.settings old.phase node turn × Turns old old.phase turn actions new))
 
 -- ---- events
 abbrev pub IsVolumeStep : VolumeData → Event → List Action → VolumeData → Type 0

@@ -26,7 +26,7 @@ use Rattle.volume.specs.declared.errands.Errand.{Errand}
 use Rattle.volume.specs.declared.errands.Errand.TheVariants as errand
 use Rattle.volume.specs.declared.phases.Session.{Session}
 use Rattle.volume.specs.declared.phases.Writing.{Writing}
-use Rattle.volume.specs.declared.turns.Turn.{Turn}
+use Rattle.volume.specs.declared.turns.Transition.{Transition}
 use Rattle.volume.specs.Sets.{count_at_least}
 use Rattle.volume.specs.declared.errands.Query.TheVariants.{Fence}
 use Rattle.volume.specs.Asking.{asks_from, asks_of, query_to}
@@ -160,7 +160,7 @@ abbrev pub SameWriter : Writing → Writing → Type 0
 SameWriter old new = (new.session ≡ old.session) × (new.cut ≡ old.cut) × (new.writer ≡ old.writer)
 
 -- The front is of the epoch: the node has reached its point. Where a quorum has then reached a commit point, the greatest one is durable.
-abbrev pub HearsPoint : ℕ → Writing → ℕ → ℕ → Writing → Turn → Type 0
+abbrev pub HearsPoint : ℕ → Writing → ℕ → ℕ → Writing → Transition → Type 0
 HearsPoint quorum old node point new turn =
     (HasNoneReached quorum old.backlog new.reached × SameWriter old new × (new.reached ≡ with_reached old.reached node point)
     × (new.durable ≡ old.durable) × (new.backlog ≡ old.backlog) × Stays turn [])
@@ -169,7 +169,7 @@ HearsPoint quorum old node point new turn =
     × (new.backlog ≡ records_above commit_point old.backlog) × Stays turn (Durable commit_point ∷ []))
 
 -- a front of another epoch counts nothing
-abbrev pub HearsEpochFront : ℕ → Writing → ℕ → Front → Writing → Turn → Type 0
+abbrev pub HearsEpochFront : ℕ → Writing → ℕ → Front → Writing → Transition → Type 0
 HearsEpochFront quorum old node front new turn =
     ((front.epoch ≢ old.cut.epoch) × Stays turn [] × (new ≡ old))
     ⊎ ((front.epoch ≡ old.cut.epoch) × HearsPoint quorum old node front.complete new turn)
@@ -188,19 +188,19 @@ brings w node (Some birth) =
     ++ asks_of node w.session.generation birth errand.Report
 
 -- a node that is fenced or admitted late
-abbrev pub BringsLate : Writing → ℕ → ℕ → ℕ → Writing → Turn → Type 0
+abbrev pub BringsLate : Writing → ℕ → ℕ → ℕ → Writing → Transition → Type 0
 BringsLate old node generation birth new turn =
     (¬ (IsLate old.session node generation) × Stays turn [] × (new ≡ old))
     ⊎ (IsLate old.session node generation × (new ≡ record old { session = with_birth old.session node birth })
     × Stays turn (brings old node (Some birth)))
 
 -- ---- replies
-abbrev pub HearsSegment : ℕ → Writing → ℕ → SegmentReply → Writing → Turn → Type 0
+abbrev pub HearsSegment : ℕ → Writing → ℕ → SegmentReply → Writing → Transition → Type 0
 HearsSegment quorum old node (segment.Front front) new turn = HearsEpochFront quorum old node front new turn
 HearsSegment quorum old node other new turn = Stays turn [] × (new ≡ old)
 
 -- only a front that was asked under the generation counts, of the birth that was fenced or admitted
-abbrev pub HearsWriting : ℕ → Writing → ℕ → Reply → Writing → Turn → Type 0
+abbrev pub HearsWriting : ℕ → Writing → ℕ → Reply → Writing → Transition → Type 0
 HearsWriting quorum old node (reply.Headed generation birth told) new turn =
     (IsOwn old.session node generation birth × HearsSegment quorum old node told new turn)
     ⊎ (¬ (IsOwn old.session node generation birth) × Stays turn [] × (new ≡ old))

@@ -9,7 +9,7 @@ use crate::errands::{Errand, Query, ask_each, ask_one, query_each, query_one};
 use crate::phases::Phase;
 use crate::sets::{count, entry_of, has, mark, put_entry};
 use crate::settings::Settings;
-use crate::turns::{Turn, end, nothing};
+use crate::turns::{Transition, end, nothing};
 use guard::Reply;
 use segment_core::Front;
 use std::alloc::{AllocError, Global};
@@ -60,7 +60,7 @@ pub(crate) fn hear_creating(
     creating: &Creating,
     node: u8,
     reply: &Reply,
-) -> Result<Turn, AllocError>
+) -> Result<Transition, AllocError>
     ensures { IfOk result (HearsCreating settings.now creating.now node reply.now) }
 {
     match (creating.round, reply) {
@@ -98,19 +98,19 @@ fn hear_first(
     creating: &Creating,
     node: u8,
     birth: u64,
-) -> Result<Turn, AllocError>
+) -> Result<Transition, AllocError>
     ensures { IfOk result (HearsFirst settings.now creating.now node birth) }
 {
     let mut next = *creating;
     put_entry(&mut next.births, node, Some(birth));
     mark(&mut next.answered, node);
     if count(&next.answered) < settings.nodes() {
-        return Ok(Turn::Enter(Phase::Creating(next), Vec::new(alloc)));
+        return Ok(Transition::Enter(Phase::Creating(next), Vec::new(alloc)));
     }
     let actions = query_each(alloc, settings.nodes(), Query::Fence { generation: 0 })?;
     next.round = Round::Second;
     next.answered = [false; 15];
-    Ok(Turn::Enter(Phase::Creating(next), actions))
+    Ok(Transition::Enter(Phase::Creating(next), actions))
 }
 
 /// Hears that a node is still fresh.
@@ -120,7 +120,7 @@ fn hear_second(
     creating: &Creating,
     node: u8,
     birth: u64,
-) -> Result<Turn, AllocError>
+) -> Result<Transition, AllocError>
     ensures { IfOk result (HearsSecond settings.now creating.now node birth) }
 {
     if entry_of(&creating.births, node) != Some(birth) {
@@ -129,12 +129,12 @@ fn hear_second(
     let mut next = *creating;
     mark(&mut next.answered, node);
     if count(&next.answered) < settings.nodes() {
-        return Ok(Turn::Enter(Phase::Creating(next), Vec::new(alloc)));
+        return Ok(Transition::Enter(Phase::Creating(next), Vec::new(alloc)));
     }
     let actions = ask_each(alloc, FIRST_GENERATION, &next.births, &Errand::Found)?;
     next.round = Round::Founding;
     next.answered = [false; 15];
-    Ok(Turn::Enter(Phase::Creating(next), actions))
+    Ok(Transition::Enter(Phase::Creating(next), actions))
 }
 
 /// Hears that a node has been admitted.
@@ -144,7 +144,7 @@ fn hear_admitted(
     creating: &Creating,
     node: u8,
     birth: u64,
-) -> Result<Turn, AllocError>
+) -> Result<Transition, AllocError>
     ensures { IfOk result (HearsAdmitted settings.now creating.now node birth) }
 {
     if entry_of(&creating.births, node) != Some(birth) {
@@ -159,7 +159,7 @@ fn hear_founded(
     settings: &Settings,
     creating: &Creating,
     node: u8,
-) -> Result<Turn, AllocError>
+) -> Result<Transition, AllocError>
     ensures { IfOk result (HearsFounded settings.now creating.now node) }
 {
     if has(&creating.answered, node) {
@@ -171,7 +171,7 @@ fn hear_founded(
     if count(&next.answered) >= settings.nodes() {
         actions.push(Action::Created)?;
     }
-    Ok(Turn::Enter(Phase::Creating(next), actions))
+    Ok(Transition::Enter(Phase::Creating(next), actions))
 }
 
 /// Asks a node again.

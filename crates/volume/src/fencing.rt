@@ -11,7 +11,7 @@ use crate::errands::{Errand, Query, ask_one, query_each, query_one};
 use crate::phases::{Opening, Phase, Session, Stage};
 use crate::sets::{count, entry_of, mark, nodes_with_entry, put_entry, unmark};
 use crate::settings::Settings;
-use crate::turns::{Turn, end, nothing};
+use crate::turns::{Transition, end, nothing};
 use gossip_core::summary;
 use guard::{AcceptedCut, Reply};
 use segment_core::Segment;
@@ -58,7 +58,7 @@ pub(crate) fn hear_fencing(
     fencing: &Fencing,
     node: u8,
     reply: &Reply,
-) -> Result<Turn, AllocError>
+) -> Result<Transition, AllocError>
     ensures { IfOk result (HearsFencing settings.now fencing.now node reply.now) }
 {
     match reply {
@@ -87,7 +87,7 @@ fn hear_fenced(
     node: u8,
     birth: u64,
     accepted: Option<AcceptedCut>,
-) -> Result<Turn, AllocError>
+) -> Result<Transition, AllocError>
     ensures { IfOk result (HearsFenced settings.now fencing.now node birth accepted) }
 {
     let mut next = *fencing;
@@ -97,12 +97,12 @@ fn hear_fenced(
     unmark(&mut next.lost, node);
     let quorum = nodes_with_entry(&next.births);
     if count(&quorum) < settings.quorum() {
-        return Ok(Turn::Enter(Phase::Fencing(next), Vec::new(alloc)));
+        return Ok(Transition::Enter(Phase::Fencing(next), Vec::new(alloc)));
     }
     let opening = gather(alloc, settings, &next, quorum)?;
     let errand = Errand::Pull(opening.summary.copy()?);
     let actions = ask_one(alloc, next.generation, node, Some(birth), &errand)?;
-    Ok(Turn::Enter(Phase::Opening(opening), actions))
+    Ok(Transition::Enter(Phase::Opening(opening), actions))
 }
 
 /// The opening with these nodes as its quorum. None of them has answered what it has.
@@ -140,7 +140,7 @@ fn hear_fresh(
     fencing: &Fencing,
     node: u8,
     birth: u64,
-) -> Result<Turn, AllocError>
+) -> Result<Transition, AllocError>
     ensures { IfOk result (λ t. GoesOn settings.now (with_fresh fencing.now node birth) t []) }
 {
     let mut next = *fencing;
@@ -158,7 +158,7 @@ fn hear_stale(
     fencing: &Fencing,
     node: u8,
     generation: u64,
-) -> Result<Turn, AllocError>
+) -> Result<Transition, AllocError>
     ensures { IfOk result (HearsStale settings.now fencing.now node generation) }
 {
     if generation > fencing.generation {
@@ -178,7 +178,7 @@ pub(crate) fn retry_fencing(
     settings: &Settings,
     fencing: &Fencing,
     node: u8,
-) -> Result<Turn, AllocError>
+) -> Result<Transition, AllocError>
     ensures { IfOk result (RetriesFencing settings.now fencing.now node) }
 {
     if entry_of(&fencing.births, node).is_some() {
@@ -197,7 +197,7 @@ fn go_on(
     settings: &Settings,
     next: Fencing,
     actions: Vec<Action>,
-) -> Result<Turn, AllocError>
+) -> Result<Transition, AllocError>
     ensures { IfOk result (λ t. GoesOn settings.now next t actions.items) }
 {
     let have = settings.nodes().saturating_sub(count(&next.lost));
@@ -205,7 +205,7 @@ fn go_on(
     if have < need {
         return end(alloc, Fault::NoQuorum { have, need });
     }
-    Ok(Turn::Enter(Phase::Fencing(next), actions))
+    Ok(Transition::Enter(Phase::Fencing(next), actions))
 }
 
 /// Puts the accepted truncation of a node.

@@ -8,11 +8,11 @@ ghost use Rattle.volume.specs.Opening.{HearsReported, ReachesEpoch, BeginsEpoch,
 use crate::actions::{Action, Fault};
 use crate::errands::{Errand, Query, ask_each, ask_one, query_one};
 use crate::phases::{Opening, Session, Stage};
-use crate::plans::Plan;
+use crate::plans::CutPlan;
 use crate::pulling::{hear_delta, hear_known, hear_summary, settle};
 use crate::resuming::open_volume;
 use crate::sets::{count, entry_of, has, mark, put_entry};
-use crate::turns::{Turn, end, nothing};
+use crate::turns::{Transition, end, nothing};
 use guard::Reply;
 use redo_core::{Cut, Fact};
 use replica::Reply as SegmentReply;
@@ -51,7 +51,7 @@ pub(crate) fn hear_opening(
     opening: &mut Opening,
     node: u8,
     reply: Reply,
-) -> Result<Turn, AllocError>
+) -> Result<Transition, AllocError>
     ensures hears { IfOk result (HearsOpening quorum opening.old node reply opening.new) }
     ensures unchanged { OnErr result (opening.new ≡ opening.old) }
 {
@@ -105,7 +105,7 @@ fn hear_headed(
     opening: &mut Opening,
     node: u8,
     reply: SegmentReply,
-) -> Result<Turn, AllocError>
+) -> Result<Transition, AllocError>
     ensures hears { IfOk result (HearsHeaded quorum opening.old node reply opening.new) }
     ensures unchanged { OnErr result (opening.new ≡ opening.old) }
 {
@@ -126,7 +126,7 @@ fn hear_front(
     opening: &mut Opening,
     node: u8,
     front: &Front,
-) -> Result<Turn, AllocError>
+) -> Result<Transition, AllocError>
     ensures hears { IfOk result (HearsFront quorum opening.old opening.old.stage node front.now opening.new) }
     ensures unchanged { OnErr result (opening.new ≡ opening.old) }
 {
@@ -137,7 +137,12 @@ fn hear_front(
 }
 
 /// Hears that a node is fresh: no quorum is left where the node is one of it, and some have not answered what they have.
-fn hear_lost(alloc: Global, quorum: u8, opening: &Opening, node: u8) -> Result<Turn, AllocError>
+fn hear_lost(
+    alloc: Global,
+    quorum: u8,
+    opening: &Opening,
+    node: u8,
+) -> Result<Transition, AllocError>
     ensures { IfOk result (HearsLost quorum opening.now opening.now.stage node opening.now) }
 {
     let Stage::Pulling { .. } = opening.stage else {
@@ -157,7 +162,7 @@ fn hear_late(
     node: u8,
     generation: u64,
     birth: u64,
-) -> Result<Turn, AllocError>
+) -> Result<Transition, AllocError>
     ensures hears { IfOk result (HearsLate opening.old node generation birth opening.new) }
     ensures unchanged { OnErr result (opening.new ≡ opening.old) }
 {
@@ -167,7 +172,7 @@ fn hear_late(
     let session = opening.session.with_birth(node, birth);
     let actions = ask_stage(alloc, &session, &opening.stage, node)?;
     opening.session = session;
-    Ok(Turn::Stay(actions))
+    Ok(Transition::Stay(actions))
 }
 
 /// What a stage past the pulling asks of a node.
@@ -225,7 +230,7 @@ fn hear_accepted(
     opening: &mut Opening,
     node: u8,
     epoch: u16,
-) -> Result<Turn, AllocError>
+) -> Result<Transition, AllocError>
     ensures hears { IfOk result (HearsAccepted quorum opening.old opening.old.stage node epoch opening.new) }
     ensures unchanged { OnErr result (opening.new ≡ opening.old) }
 {
@@ -245,9 +250,9 @@ fn accept(
     alloc: Global,
     quorum: u8,
     opening: &mut Opening,
-    plan: &Plan,
+    plan: &CutPlan,
     accepted: [bool; 15],
-) -> Result<Turn, AllocError>
+) -> Result<Transition, AllocError>
     ensures accepts { IfOk result (Accepts quorum opening.old plan.now accepted opening.new) }
     ensures unchanged { OnErr result (opening.new ≡ opening.old) }
 {
@@ -264,7 +269,7 @@ fn accept(
     let actions = ask_each(alloc, generation, &births, &Errand::Begin(plan.cut))?;
     let reported = [false; 15];
     opening.stage = Stage::Taking { plan, reported };
-    Ok(Turn::Stay(actions))
+    Ok(Transition::Stay(actions))
 }
 
 /// Hears a front while the nodes take the plan.
@@ -274,7 +279,7 @@ fn hear_reported(
     opening: &mut Opening,
     node: u8,
     front: &Front,
-) -> Result<Turn, AllocError>
+) -> Result<Transition, AllocError>
     ensures hears { IfOk result (HearsReported quorum opening.old opening.old.stage node front.now opening.new) }
     ensures unchanged { OnErr result (opening.new ≡ opening.old) }
 {
@@ -294,9 +299,9 @@ fn report(
     alloc: Global,
     quorum: u8,
     opening: &mut Opening,
-    plan: &Plan,
+    plan: &CutPlan,
     reported: [bool; 15],
-) -> Result<Turn, AllocError>
+) -> Result<Transition, AllocError>
     ensures reports { IfOk result (ReachesEpoch quorum opening.old plan.now reported opening.new) }
     ensures unchanged { OnErr result (opening.new ≡ opening.old) }
 {
@@ -309,7 +314,11 @@ fn report(
 }
 
 /// The union takes the plan. If it was pending, it is made known again, and the truncation after it is next; else the volume is open.
-fn begin_epoch(alloc: Global, opening: &mut Opening, plan: &Plan) -> Result<Turn, AllocError>
+fn begin_epoch(
+    alloc: Global,
+    opening: &mut Opening,
+    plan: &CutPlan,
+) -> Result<Transition, AllocError>
     ensures begins { IfOk result (BeginsEpoch opening.old plan.now opening.new) }
     ensures unchanged { OnErr result (opening.new ≡ opening.old) }
 {

@@ -1,7 +1,7 @@
 use crate::backlog::Backlog;
 use crate::creating::Creating;
 use crate::fencing::Fencing;
-use crate::plans::Plan;
+use crate::plans::CutPlan;
 use guard::AcceptedCut;
 use messages::Summary;
 use redo_core::Cut;
@@ -52,11 +52,11 @@ pub enum Stage {
     /// The nodes in `left` have not answered what they have.
     Pulling { left: [bool; 15] },
     /// The nodes in `known` have what the union has, up to the plan's `lo`.
-    Spreading { plan: Plan, known: [bool; 15] },
+    Spreading { plan: CutPlan, known: [bool; 15] },
     /// The nodes in `accepted` have accepted the plan.
-    Proposing { plan: Plan, accepted: [bool; 15] },
+    Proposing { plan: CutPlan, accepted: [bool; 15] },
     /// The nodes in `reported` have the plan's epoch.
-    Taking { plan: Plan, reported: [bool; 15] },
+    Taking { plan: CutPlan, reported: [bool; 15] },
 }
 
 /// An open volume.

@@ -11,7 +11,7 @@ use std::alloc::AllocError;
 
 /// The truncation that an opening has accepted and taken next.
 #[derive(Clone, Copy, Debug, PartialEq, Eq)]
-pub struct Plan {
+pub struct CutPlan {
     pub cut: Cut,
     /// Whether an earlier engine has proposed it. The opening then goes on with the epoch after it.
     pub is_pending: bool,
@@ -45,12 +45,12 @@ pub(crate) fn commit_point(union: &Segment, complete: u64) -> Result<Result<u64,
 pub(crate) fn plan_for(
     union: &Segment,
     pair: &Option<AcceptedCut>,
-) -> Result<Result<Plan, Fault>, AllocError>
+) -> Result<Result<CutPlan, Fault>, AllocError>
     ensures { IfOk result (MakesPlan union.now pair.now) }
 {
     let front = union.front();
     if let Some(cut) = pending(pair, front.epoch) {
-        return Ok(Ok(Plan {
+        return Ok(Ok(CutPlan {
             cut,
             is_pending: true,
         }));
@@ -62,14 +62,14 @@ pub(crate) fn plan_for(
 }
 
 /// The truncation of the epoch after this one that annuls what is above a commit point. Its own numbers are above the complete point.
-fn own_plan(epoch: u16, lo: u64, complete: u64) -> Result<Plan, Fault>
+fn own_plan(epoch: u16, lo: u64, complete: u64) -> Result<CutPlan, Fault>
     ensures { IsOwnPlan epoch lo complete result }
 {
     if epoch == u16::MAX {
         return Err(Fault::Full);
     }
     match Cut::new(epoch + 1, lo, complete) {
-        Ok(cut) => Ok(Plan {
+        Ok(cut) => Ok(CutPlan {
             cut,
             is_pending: false,
         }),

@@ -10,9 +10,9 @@ ghost use Rattle.volume.specs.declared.errands.Errand.TheVariants.{Pull as PullO
 use crate::actions::{Action, Fault};
 use crate::errands::{Errand, Joining, ask_each, ask_one, push_each};
 use crate::phases::{Opening, Session, Stage};
-use crate::plans::{Plan, plan_for};
+use crate::plans::{CutPlan, plan_for};
 use crate::sets::{count, entry_of, has, mark, nodes_with_entry, unmark};
-use crate::turns::{Turn, end, nothing};
+use crate::turns::{Transition, end, nothing};
 use gossip_core::{AbsorbRefusal, absorb, reply, summary};
 use messages::{Delta, Summary};
 use segment_core::{Front, ReadFault, Refusal, Segment};
@@ -36,7 +36,7 @@ pub(crate) fn hear_delta(
     opening: &mut Opening,
     node: u8,
     delta: &Delta,
-) -> Result<Turn, AllocError>
+) -> Result<Transition, AllocError>
     ensures hears { IfOk result (HearsDelta opening.old opening.old.stage node delta.now opening.new) }
     ensures unchanged { OnErr result (opening.new ≡ opening.old) }
 {
@@ -56,7 +56,7 @@ fn pull(
     node: u8,
     left: [bool; 15],
     delta: &Delta,
-) -> Result<Turn, AllocError>
+) -> Result<Transition, AllocError>
     ensures pulls { IfOk result (Pulls opening.old node left delta.now opening.new) }
     ensures unchanged { OnErr result (opening.new ≡ opening.old) }
 {
@@ -74,7 +74,7 @@ fn go_on_pulling(
     opening: &mut Opening,
     left: [bool; 15],
     union: Segment,
-) -> Result<Turn, AllocError>
+) -> Result<Transition, AllocError>
     ensures goes { IfOk result (GoesOnPulling opening.old union left opening.new) }
     ensures unchanged { OnErr result (opening.new ≡ opening.old) }
 {
@@ -95,7 +95,7 @@ fn pull_others(
     opening: &mut Opening,
     left: [bool; 15],
     union: Segment,
-) -> Result<Turn, AllocError>
+) -> Result<Transition, AllocError>
     ensures asks { IfOk result (PullsOthers opening.old left union opening.new) }
     ensures unchanged { OnErr result (opening.new ≡ opening.old) }
 {
@@ -103,7 +103,7 @@ fn pull_others(
     opening.union = union;
     opening.asked = Some(asked);
     opening.stage = Stage::Pulling { left };
-    Ok(Turn::Stay(actions))
+    Ok(Transition::Stay(actions))
 }
 
 /// The union's summary, and the requests for what nodes have beyond it.
@@ -163,7 +163,7 @@ pub(crate) fn settle(
     alloc: Global,
     opening: &mut Opening,
     union: Segment,
-) -> Result<Turn, AllocError>
+) -> Result<Transition, AllocError>
     ensures settles { IfOk result (Plans opening.old union opening.new) }
     ensures unchanged { OnErr result (opening.new ≡ opening.old) }
 {
@@ -180,7 +180,7 @@ pub(crate) fn settle(
     let known = [false; 15];
     opening.union = union;
     opening.stage = Stage::Spreading { plan, known };
-    Ok(Turn::Stay(actions))
+    Ok(Transition::Stay(actions))
 }
 
 /// Hears a node's summary, and sends the node what it lacks.
@@ -189,7 +189,7 @@ pub(crate) fn hear_summary(
     opening: &Opening,
     node: u8,
     summary: Summary,
-) -> Result<Turn, AllocError>
+) -> Result<Transition, AllocError>
     ensures { IfOk result (HearsSummary opening.now opening.now.stage node summary opening.now) }
 {
     match opening.stage {
@@ -199,7 +199,12 @@ pub(crate) fn hear_summary(
 }
 
 /// Sends a node what the union has beyond its summary.
-fn push(alloc: Global, opening: &Opening, node: u8, summary: Summary) -> Result<Turn, AllocError>
+fn push(
+    alloc: Global,
+    opening: &Opening,
+    node: u8,
+    summary: Summary,
+) -> Result<Transition, AllocError>
     ensures { IfOk result (Pushes opening.now node summary opening.now) }
 {
     let Some(delta) = filling(&opening.union, &summary)? else {
@@ -208,7 +213,7 @@ fn push(alloc: Global, opening: &Opening, node: u8, summary: Summary) -> Result<
     let birth = entry_of(&opening.session.births, node);
     let errand = Errand::Push(summary, delta);
     let actions = ask_one(alloc, opening.session.generation, node, birth, &errand)?;
-    Ok(Turn::Stay(actions))
+    Ok(Transition::Stay(actions))
 }
 
 /// What a union has beyond a summary, or None where a block chain of it is broken.
@@ -232,7 +237,7 @@ pub(crate) fn hear_known(
     opening: &mut Opening,
     node: u8,
     front: &Front,
-) -> Result<Turn, AllocError>
+) -> Result<Transition, AllocError>
     ensures hears { IfOk result (HearsKnown quorum opening.old opening.old.stage node front.now opening.new) }
     ensures unchanged { OnErr result (opening.new ≡ opening.old) }
 {
@@ -255,9 +260,9 @@ fn know(
     alloc: Global,
     quorum: u8,
     opening: &mut Opening,
-    plan: &Plan,
+    plan: &CutPlan,
     known: [bool; 15],
-) -> Result<Turn, AllocError>
+) -> Result<Transition, AllocError>
     ensures knows { IfOk result (Knows quorum opening.old plan.now known opening.new) }
     ensures unchanged { OnErr result (opening.new ≡ opening.old) }
 {
@@ -270,7 +275,7 @@ fn know(
 }
 
 /// Asks a node of the quorum again for what it has.
-fn pull_again(alloc: Global, opening: &mut Opening, node: u8) -> Result<Turn, AllocError>
+fn pull_again(alloc: Global, opening: &mut Opening, node: u8) -> Result<Transition, AllocError>
     ensures pulls { IfOk result (PullsAgain opening.old node opening.new) }
     ensures unchanged { OnErr result (opening.new ≡ opening.old) }
 {
@@ -283,11 +288,11 @@ fn pull_again(alloc: Global, opening: &mut Opening, node: u8) -> Result<Turn, Al
     let mut left = [false; 15];
     mark(&mut left, node);
     opening.stage = Stage::Pulling { left };
-    Ok(Turn::Stay(actions))
+    Ok(Transition::Stay(actions))
 }
 
 /// Admits the fresh nodes, and proposes the plan.
-fn propose(alloc: Global, opening: &mut Opening, plan: &Plan) -> Result<Turn, AllocError>
+fn propose(alloc: Global, opening: &mut Opening, plan: &CutPlan) -> Result<Transition, AllocError>
     ensures proposes { IfOk result (ProposesPlan opening.old plan.now opening.new) }
     ensures unchanged { OnErr result (opening.new ≡ opening.old) }
 {
@@ -308,7 +313,7 @@ fn propose(alloc: Global, opening: &mut Opening, plan: &Plan) -> Result<Turn, Al
     let (plan, accepted) = (*plan, [false; 15]);
     opening.fresh = [None; 15];
     opening.stage = Stage::Proposing { plan, accepted };
-    Ok(Turn::Stay(actions))
+    Ok(Transition::Stay(actions))
 }
 
 /// The requests that make members of the fresh nodes: with what the union has, its front and the greatest accepted truncation. None where

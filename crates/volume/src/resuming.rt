@@ -9,7 +9,7 @@ use crate::actions::{Action, Fault};
 use crate::backlog::Backlog;
 use crate::page_layout::{header_of, number_of};
 use crate::phases::{Phase, Session, Writing};
-use crate::turns::{Turn, end};
+use crate::turns::{Transition, end};
 use redo_core::{Cut, Key, Page, ReadPoints};
 use redo_writer::{AliveRecord, RedoWriter, WriterParts};
 use segment_core::{ReadFault, Segment, Standing, stored_page_after};
@@ -22,7 +22,7 @@ pub(crate) fn open_volume(
     session: &Session,
     union: &Segment,
     cut: Cut,
-) -> Result<Turn, AllocError>
+) -> Result<Transition, AllocError>
     ensures { IfOk result (OpensVolume session.now union.now cut) }
 {
     let Some(first) = page_at(union, 0, cut.lo())? else {
@@ -45,7 +45,7 @@ pub(crate) fn open_volume(
         reached: [0; 15],
         durable: cut.lo(),
     };
-    Ok(Turn::Enter(Phase::Open(writing), actions))
+    Ok(Transition::Enter(Phase::Open(writing), actions))
 }
 
 /// A page at a point, or None where the union does not show it there.

@@ -8,7 +8,7 @@ use std::alloc::{AllocError, Global};
 
 /// What a reply does to a phase.
 #[derive(Drop)]
-pub enum Turn {
+pub enum Transition {
     /// The phase goes on, as the call has left it.
     Stay(Vec<Action>),
     /// This phase comes next.
@@ -18,17 +18,17 @@ pub enum Turn {
 }
 
 /// A turn without actions.
-pub(crate) fn nothing(alloc: Global) -> Turn
+pub(crate) fn nothing(alloc: Global) -> Transition
     ensures { Stays result [] }
 {
-    Turn::Stay(Vec::new(alloc))
+    Transition::Stay(Vec::new(alloc))
 }
 
 /// A turn that ends in a refusal. It fails only if memory runs out.
-pub(crate) fn end(alloc: Global, fault: Fault) -> Result<Turn, AllocError>
+pub(crate) fn end(alloc: Global, fault: Fault) -> Result<Transition, AllocError>
     ensures { IfOk result (λ t. StopsWith t fault) }
 {
-    Ok(Turn::End(refuse(alloc, fault)?))
+    Ok(Transition::End(refuse(alloc, fault)?))
 }
 
 /// The one action of a refusal. It fails only if memory runs out.

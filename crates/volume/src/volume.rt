@@ -12,7 +12,7 @@ use crate::opening::{hear_opening, retry_opening};
 use crate::phases::Phase;
 use crate::sets::entry_of;
 use crate::settings::Settings;
-use crate::turns::{Turn, nothing, refuse};
+use crate::turns::{Transition, nothing, refuse};
 use crate::writing::{bring, hear_writing, raise_reader, write_commit, write_page};
 use guard::Reply;
 use redo_core::Patch;
@@ -164,16 +164,16 @@ impl Volume {
     }
 
     /// Enters the phase that a turn leaves, and returns its actions.
-    fn turn(&mut self, turn: Turn) -> Vec<Action>
+    fn turn(&mut self, turn: Transition) -> Vec<Action>
         ensures { Turns self.old self.old.phase turn result.items self.new }
     {
         match turn {
-            Turn::Stay(actions) => actions,
-            Turn::Enter(phase, actions) => {
+            Transition::Stay(actions) => actions,
+            Transition::Enter(phase, actions) => {
                 self.phase = phase;
                 actions
             }
-            Turn::End(actions) => {
+            Transition::End(actions) => {
                 self.phase = Phase::Idle;
                 actions
             }
@@ -188,7 +188,7 @@ fn hear_in(
     phase: &mut Phase,
     node: u8,
     reply: Reply,
-) -> Result<Turn, AllocError>
+) -> Result<Transition, AllocError>
     ensures hears { IfOk result (Hears settings.now phase.old node reply phase.new) }
     ensures unchanged { OnErr result (phase.new ≡ phase.old) }
 {
@@ -202,17 +202,22 @@ fn hear_in(
 }
 
 /// Asks a node again what it was asked in a phase.
-fn retry_in(alloc: Global, settings: &Settings, phase: &Phase, node: u8) -> Result<Turn, AllocError>
+fn retry_in(
+    alloc: Global,
+    settings: &Settings,
+    phase: &Phase,
+    node: u8,
+) -> Result<Transition, AllocError>
     ensures { IfOk result (Retries settings.now phase.now node) }
 {
     match phase {
         Phase::Idle => Ok(nothing(alloc)),
-        Phase::Creating(creating) => Ok(Turn::Stay(retry_creating(alloc, creating, node)?)),
+        Phase::Creating(creating) => Ok(Transition::Stay(retry_creating(alloc, creating, node)?)),
         Phase::Fencing(fencing) => retry_fencing(alloc, settings, fencing, node),
-        Phase::Opening(opening) => Ok(Turn::Stay(retry_opening(alloc, opening, node)?)),
+        Phase::Opening(opening) => Ok(Transition::Stay(retry_opening(alloc, opening, node)?)),
         Phase::Open(writing) => {
             let birth = entry_of(&writing.session.births, node);
-            Ok(Turn::Stay(bring(alloc, writing, node, birth)?))
+            Ok(Transition::Stay(bring(alloc, writing, node, birth)?))
         }
     }
 }

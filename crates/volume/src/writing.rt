@@ -8,7 +8,7 @@ use crate::actions::{Action, Fault};
 use crate::errands::{Errand, Query, ask_each, push_errand, query_one};
 use crate::page_layout::{MAX_HEADER, are_users, commit_patches, number_patch};
 use crate::phases::{Session, Writing};
-use crate::turns::{Turn, end, nothing, refuse};
+use crate::turns::{Transition, end, nothing, refuse};
 use guard::Reply;
 use log_law::WriterFault;
 use redo_core::{Advance, MAX_NUMBER, Patch, Record, ShapeFault};
@@ -178,7 +178,7 @@ pub(crate) fn hear_writing(
     writing: &mut Writing,
     node: u8,
     reply: Reply,
-) -> Result<Turn, AllocError>
+) -> Result<Transition, AllocError>
     ensures hears { IfOk result (HearsWriting quorum writing.old node reply writing.new) }
     ensures unchanged { OnErr result (writing.new ≡ writing.old) }
 {
@@ -220,7 +220,7 @@ fn hear_segment(
     writing: &mut Writing,
     node: u8,
     reply: SegmentReply,
-) -> Result<Turn, AllocError>
+) -> Result<Transition, AllocError>
     ensures hears { IfOk result (HearsSegment quorum writing.old node reply writing.new) }
     ensures unchanged { OnErr result (writing.new ≡ writing.old) }
 {
@@ -237,7 +237,7 @@ fn hear_front(
     writing: &mut Writing,
     node: u8,
     front: &Front,
-) -> Result<Turn, AllocError>
+) -> Result<Transition, AllocError>
     ensures hears { IfOk result (HearsEpochFront quorum writing.old node front.now writing.new) }
     ensures unchanged { OnErr result (writing.new ≡ writing.old) }
 {
@@ -254,7 +254,7 @@ fn hear_point(
     writing: &mut Writing,
     node: u8,
     point: u64,
-) -> Result<Turn, AllocError>
+) -> Result<Transition, AllocError>
     ensures hears { IfOk result (HearsPoint quorum writing.old node point writing.new) }
     ensures unchanged { OnErr result (writing.new ≡ writing.old) }
 {
@@ -269,7 +269,7 @@ fn hear_point(
     writing.reached = reached;
     writing.durable = commit_point;
     writing.backlog.drop_up_to(commit_point);
-    Ok(Turn::Stay(actions))
+    Ok(Transition::Stay(actions))
 }
 
 /// Raises the point of a node.
@@ -289,7 +289,7 @@ fn bring_late(
     node: u8,
     generation: u64,
     birth: u64,
-) -> Result<Turn, AllocError>
+) -> Result<Transition, AllocError>
     ensures brings { IfOk result (BringsLate writing.old node generation birth writing.new) }
     ensures unchanged { OnErr result (writing.new ≡ writing.old) }
 {
@@ -298,7 +298,7 @@ fn bring_late(
     }
     let actions = bring(alloc, writing, node, Some(birth))?;
     writing.session = writing.session.with_birth(node, birth);
-    Ok(Turn::Stay(actions))
+    Ok(Transition::Stay(actions))
 }
 
 /// Asks a node to take the truncation of the epoch and the records that are not durable, and to report its front; one of which no birth is

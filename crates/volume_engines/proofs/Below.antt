@@ -24,8 +24,8 @@ use Rattle.volume.specs.declared.phases.Phase.{Phase}
 use Rattle.volume.specs.declared.phases.Phase.TheVariants as phase
 use Rattle.volume.specs.declared.phases.Stage.TheVariants as stage
 use Rattle.volume.specs.declared.phases.Writing.{Writing}
-use Rattle.volume.specs.declared.plans.Plan.{Plan}
-use Rattle.volume.specs.declared.turns.Turn.{Turn}
+use Rattle.volume.specs.declared.plans.CutPlan.{CutPlan}
+use Rattle.volume.specs.declared.turns.Transition.{Transition}
 use Rattle.volume.specs.Data.{VolumeData}
 use Rattle.volume.specs.Fencing.{new_fencing}
 use Rattle.volume.specs.Opening.{TakesPlan}
@@ -68,7 +68,7 @@ module _ (run : VolumeRun) (h : History) (stop : ℕ) (content : ReplicaData →
   -- ---- the step that opens the volume
   -- it takes a plan of its own that was accepted, and begins with what its union then has
   record OpensWith (o : Opening) (w : Writing) : Type 0 where
-    plan : Plan
+    plan : CutPlan
     reported : List Bool
     union : State
     at : o.stage ≡ stage.Taking plan reported
@@ -102,7 +102,7 @@ module _ (run : VolumeRun) (h : History) (stop : ℕ) (content : ReplicaData →
       may_hear (event.Answered node shown) = tt
       may_hear other = tt
 
-      hears_with : (node : ℕ) (shown : Reply) (left : Phase) (t : Turn) → Hears (life.states (suc j)).settings (phase.Opening o) node shown left t
+      hears_with : (node : ℕ) (shown : Reply) (left : Phase) (t : Transition) → Hears (life.states (suc j)).settings (phase.Opening o) node shown left t
           → LeavesAfter (Unit {0}) (λ u st. Unit {0}) (OpensWith o) left t
       hears_with node shown (phase.Opening p) t says =
           hears_settling (Unit {0}) (λ u st. Unit {0}) (OpensWith o) (λ k. Unit {0}) (life.states (suc j)).settings.quorum node o tt (λ u st seek on. tt)

@@ -22,8 +22,8 @@ use Rattle.volume.specs.declared.phases.Phase.TheVariants as phase
 use Rattle.volume.specs.declared.phases.Stage.{Stage}
 use Rattle.volume.specs.declared.phases.Stage.TheVariants as stage
 use Rattle.volume.specs.declared.phases.Writing.{Writing}
-use Rattle.volume.specs.declared.plans.Plan.{Plan}
-use Rattle.volume.specs.declared.turns.Turn.{Turn}
+use Rattle.volume.specs.declared.plans.CutPlan.{CutPlan}
+use Rattle.volume.specs.declared.turns.Transition.{Transition}
 use Rattle.volume.specs.Data.{VolumeData}
 use Rattle.volume.specs.Fencing.{new_fencing}
 use Rattle.volume.specs.Opening.{TakesPlan}
@@ -226,7 +226,7 @@ any_agrees quorum node o (reply.Accepted generation birth epoch) = λ plan accep
 any_agrees quorum node o other = tt
 
 module _ (W : Writing → Type 0) (old new : VolumeData) (actions : List Action) (o : Opening) (at : old.phase ≡ phase.Opening o)
-    (opens : (plan : Plan) (union : State) (w : Writing) → Unit {0} → plan.is_pending ≡ false → TakesPlan o.union plan.cut union
+    (opens : (plan : CutPlan) (union : State) (w : Writing) → Unit {0} → plan.is_pending ≡ false → TakesPlan o.union plan.cut union
     → BeginsWriting o.session union plan.cut w → W w) where
   abbrev Holds : Phase → Type 0
   Holds p = PhaseHas (λ plan. Unit {0}) W p
@@ -234,7 +234,7 @@ module _ (W : Writing → Type 0) (old new : VolumeData) (actions : List Action)
   same_opening : new ≡ old → Holds new.phase
   same_opening same = subst Holds (sym (ap (λ (v : VolumeData). v.phase) same ∙ at)) (any_taking o.stage)
 
-  hears_first : (node : ℕ) (told : Reply) (left : Phase) (t : Turn) → Hears old.settings (phase.Opening o) node told left t → Turns old left t actions new → Holds new.phase
+  hears_first : (node : ℕ) (told : Reply) (left : Phase) (t : Transition) → Hears old.settings (phase.Opening o) node told left t → Turns old left t actions new → Holds new.phase
   hears_first node told (phase.Opening p) t says turns =
       turned (λ plan. Unit {0}) W old new (phase.Opening p) t actions
       (hears_taking (λ plan. Unit {0}) W old.settings.quorum node o (any_taking o.stage) opens told p t (any_agrees old.settings.quorum node o told) says) turns

@@ -14,7 +14,7 @@ use Rattle.guard.specs.declared.replies.Reply.TheVariants as reply
 use Rattle.guard.specs.Guarding.{IsUnder}
 use Rattle.volume.specs.declared.actions.Action.TheVariants.{Ask}
 use Rattle.volume.specs.declared.phases.Session.{Session}
-use Rattle.volume.specs.declared.plans.Plan.{Plan}
+use Rattle.volume.specs.declared.plans.CutPlan.{CutPlan}
 use Rattle.volume.specs.Opening.{IsKnownAt}
 use Rattle.volume.specs.Sessions.{IsOwn}
 use Rattle.volume_theorems.specs.Nodes.{Content, VolumeNode, IsOfGeneration}
@@ -105,7 +105,7 @@ module _ (run : VolumeRun) (h : History) (stop : ℕ) (content : ReplicaData →
         }
 
   -- a front that the plan asks for
-  pub own_known : (plan : Plan) (front : Front) → IsHeard run guards e life n Q node generation birth (told.Front front) → node < run.roster
+  pub own_known : (plan : CutPlan) (front : Front) → IsHeard run guards e life n Q node generation birth (told.Front front) → node < run.roster
       → IsKnownAt plan front → IsKnown run h e (life.moments n) node plan
   own_known plan front x within at =
       let p : ℕ = life.given n in

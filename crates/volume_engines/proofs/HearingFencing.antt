@@ -13,8 +13,8 @@ use Rattle.volume.specs.declared.events.Event.TheVariants as event
 use Rattle.volume.specs.declared.fencing.Fencing.{Fencing}
 use Rattle.volume.specs.declared.phases.Opening.{Opening}
 use Rattle.volume.specs.declared.phases.Phase.TheVariants as phase
-use Rattle.volume.specs.declared.turns.Turn.{Turn}
-use Rattle.volume.specs.declared.turns.Turn.TheVariants as turn
+use Rattle.volume.specs.declared.turns.Transition.{Transition}
+use Rattle.volume.specs.declared.turns.Transition.TheVariants as turn
 use Rattle.volume.specs.Asking.{query_to}
 use Rattle.volume.specs.Fencing.{IsFencedQuorum, PullsQuorum, HearsFenced, HearsFencing, GoesOn, RetriesFencing, with_fenced, with_fresh, without_node}
 use Rattle.volume.specs.Settings.{SettingsData}
@@ -36,7 +36,7 @@ use Rattle.volume_engines.proofs.Fencing.{fenced_here, fenced_elsewhere, fenced_
 use Rattle.volume_engines.proofs.Gathering.{begins_knowing}
 
 -- the turn goes on with this opening
-abbrev pub EntersOpening : Turn → Opening → Type 0
+abbrev pub EntersOpening : Transition → Opening → Type 0
 EntersOpening (turn.Enter (phase.Opening p) actions) o = p ≡ o
 EntersOpening other o = ⊥
 
@@ -47,7 +47,7 @@ module _ (run : VolumeRun) (h : History) (stop : ℕ) (content : ReplicaData →
   in_time = is.lives.in_time n step
 
   -- what the step leaves of the opening, whatever the turn
-  abbrev Left : Fencing → Turn → Type 0
+  abbrev Left : Fencing → Transition → Type 0
   Left f t = LeavesTurn run h guards e life (suc n) (phase.Fencing f) (phase.Fencing f) t
 
   abbrev SameMoments : Type 0
@@ -78,12 +78,12 @@ module _ (run : VolumeRun) (h : History) (stop : ℕ) (content : ReplicaData →
         ap (λ (x : VolumeNode). x.birth) node_is ∙ sym says.1,
       )
 
-  nothing_heard : (f : Fencing) (t : Turn) → SameMoments → KnowsFencing run guards e life n f → Stays t [] → Left f t
+  nothing_heard : (f : Fencing) (t : Transition) → SameMoments → KnowsFencing run guards e life n f → Stays t [] → Left f t
   nothing_heard f t same k stays =
       when_stays run h guards e life (suc n) (phase.Fencing f) (phase.Fencing f) t [] stays
       (record { knows = stays_known f same k; right = tt; wider = λ x no. no })
 
-  goes_on : (f g : Fencing) (t : Turn) (asked : List Action) → KnowsFencing run guards e life (suc n) g
+  goes_on : (f g : Fencing) (t : Transition) (asked : List Action) → KnowsFencing run guards e life (suc n) g
       → AllRight run h e (Allowed (phase.Fencing g)) (Own life (suc n)) (life.moments (suc n)) asked → GoesOn s g t asked → Left f t
   goes_on f g t asked k right says = ⊎_elim
       (λ on. when_enters run h guards e life (suc n) (phase.Fencing f) (phase.Fencing f) t (phase.Fencing g) asked on.1
@@ -91,7 +91,7 @@ module _ (run : VolumeRun) (h : History) (stop : ℕ) (content : ReplicaData →
       (λ off. when_stops run h guards e life (suc n) (phase.Fencing f) (phase.Fencing f) t (NoQuorum (s.nodes - count_marked g.lost) s.quorum) off.1)
       says
 
-  pulls : (f new : Fencing) (node birth : ℕ) (t : Turn) → KnowsFencing run guards e life (suc n) new → IsFencedQuorum s new.births
+  pulls : (f new : Fencing) (node birth : ℕ) (t : Transition) → KnowsFencing run guards e life (suc n) new → IsFencedQuorum s new.births
       → ((o : Opening) → EntersOpening t o → Gathers life (suc n) o (run.engines e)) → PullsQuorum s new node birth t → Left f t
   pulls f new node birth (turn.Enter (phase.Opening o) actions) k enough names says =
       let asks : AllRight run h e (Allowed (phase.Opening o)) (Own life (suc n)) (life.moments (suc n)) actions.items =
@@ -111,7 +111,7 @@ module _ (run : VolumeRun) (h : History) (stop : ℕ) (content : ReplicaData →
   pulls f new node birth (turn.Stay actions) k enough names says = absurd says
   pulls f new node birth (turn.End actions) k enough names says = absurd says
 
-  hears_fenced : (f : Fencing) (node generation birth : ℕ) (accepted : Option AcceptedCut) (t : Turn) → node < s.nodes
+  hears_fenced : (f : Fencing) (node generation birth : ℕ) (accepted : Option AcceptedCut) (t : Transition) → node < s.nodes
       → life.events (suc n) ≡ event.Answered node (reply.Fenced generation birth accepted)
       → WasGiven run guards e life (suc n) node (reply.Fenced generation birth accepted) → KnowsFencing run guards e life n f
       → ((o : Opening) → EntersOpening t o → Gathers life (suc n) o (run.engines e)) → generation ≡ f.generation
@@ -144,7 +144,7 @@ module _ (run : VolumeRun) (h : History) (stop : ℕ) (content : ReplicaData →
       (λ enough. pulls f (with_fenced f node birth accepted) node birth t known enough.0 names enough.1)
       says
 
-  pub hears_fencing : (f : Fencing) (node : ℕ) (told : Reply) (t : Turn) → node < s.nodes → life.events (suc n) ≡ event.Answered node told
+  pub hears_fencing : (f : Fencing) (node : ℕ) (told : Reply) (t : Transition) → node < s.nodes → life.events (suc n) ≡ event.Answered node told
       → WasGiven run guards e life (suc n) node told → KnowsFencing run guards e life n f
       → ((o : Opening) → EntersOpening t o → Gathers life (suc n) o (run.engines e)) → HearsFencing s f node told t → Left f t
   hears_fencing f node (reply.Fenced generation birth accepted) t inside at given k names says = ⊎_elim
@@ -173,7 +173,7 @@ module _ (run : VolumeRun) (h : History) (stop : ℕ) (content : ReplicaData →
       says
   hears_fencing f node other t inside at given k names says = nothing_heard f t (heard_at (event.Answered node other) at) k says
 
-  pub retries_fencing : (f : Fencing) (node : ℕ) (t : Turn) → life.events (suc n) ≡ event.Failed node → KnowsFencing run guards e life n f
+  pub retries_fencing : (f : Fencing) (node : ℕ) (t : Transition) → life.events (suc n) ≡ event.Failed node → KnowsFencing run guards e life n f
       → RetriesFencing s f node t → Left f t
   retries_fencing f node t at k says =
       let same : SameMoments = heard_at (event.Failed node) at in

@@ -32,9 +32,9 @@ use Rattle.volume.specs.declared.phases.Phase.TheVariants as phase
 use Rattle.volume.specs.declared.phases.Session.{Session}
 use Rattle.volume.specs.declared.phases.Stage.{Stage}
 use Rattle.volume.specs.declared.phases.Stage.TheVariants as stage
-use Rattle.volume.specs.declared.plans.Plan.{Plan}
-use Rattle.volume.specs.declared.turns.Turn.{Turn}
-use Rattle.volume.specs.declared.turns.Turn.TheVariants as turn
+use Rattle.volume.specs.declared.plans.CutPlan.{CutPlan}
+use Rattle.volume.specs.declared.turns.Transition.{Transition}
+use Rattle.volume.specs.declared.turns.Transition.TheVariants as turn
 use Rattle.volume.specs.Opening.{opened_with, asking_with, asked_of, asked_with, at_stage, with_union, to_each, EndsAlone, ChangesNothing, IsQuorum, GrowsBy, Plans, AsksWith, GoesOnPulling, HearsDelta, HearsSummary, IsKnownAt, PullsAgain, joining_of, AdmitsFresh, ProposesPlan, Knows, HearsAccepted, BeginsEpoch, HearsFront, HearsHeaded, asks_in_stage, HearsLate, HearsLost, HearsOpening, asks_again, retries_opening}
 use Rattle.volume.specs.Resuming.{IsOpened, OpensVolume}
 use Rattle.volume.specs.Sessions.{IsOwn, with_birth}
@@ -84,18 +84,18 @@ if_right run h e Q F t true actions is = is
 if_right run h e Q F t false actions is = tt
 
 -- the votes of a quorum send the plan's truncation
-sent_plan : (run : VolumeRun) (e t : ℕ) (plan : Plan) → NamesPlan plan (run.engines e) → HasVotes run e t plan.cut.epoch → IsCutSent run t plan.cut
+sent_plan : (run : VolumeRun) (e t : ℕ) (plan : CutPlan) → NamesPlan plan (run.engines e) → HasVotes run e t plan.cut.epoch → IsCutSent run t plan.cut
 sent_plan run e t plan names votes = (e, names.cut, votes)
 
 -- and open the epoch of the engine's own one
-opened_plan : (run : VolumeRun) (e t epoch point : ℕ) (plan : Plan) → NamesPlan plan (run.engines e) → plan.is_pending ≡ false
+opened_plan : (run : VolumeRun) (e t epoch point : ℕ) (plan : CutPlan) → NamesPlan plan (run.engines e) → plan.is_pending ≡ false
     → HasVotes run e t plan.cut.epoch → epoch ≡ plan.cut.epoch → point ≡ plan.cut.lo → HasOpenedAt run e t epoch point
 opened_plan run e t epoch point plan names own votes epoch_is point_is = (
   record { own = names.own own ∙ sym epoch_is; accepted = subst (λ (k : ℕ). HasVotes run e t k) (sym epoch_is) votes },
   point_is ∙ (ap (λ (c : CutData). c.lo) (sym names.cut) ∙ ap (λ (k : ℕ). ((run.engines e).cuts k).lo) (sym epoch_is)),
 )
 
-opened_right : (run : VolumeRun) (h : History) (e : ℕ) (Q : SummaryData → Type 0) (F : Fact → Type 0) (t : ℕ) (union : State) (plan : Plan) (actions : List Action)
+opened_right : (run : VolumeRun) (h : History) (e : ℕ) (Q : SummaryData → Type 0) (F : Fact → Type 0) (t : ℕ) (union : State) (plan : CutPlan) (actions : List Action)
     → NamesPlan plan (run.engines e) → plan.is_pending ≡ false → HasVotes run e t plan.cut.epoch → IsOpened union plan.cut actions
     → AllRight run h e Q F t actions
 opened_right run h e Q F t union plan (Opened epoch point header ∷ []) names own votes is = (opened_plan run e t epoch point plan names own votes is.0 is.1, tt)
@@ -114,7 +114,7 @@ module _ (run : VolumeRun) (h : History) (stop : ℕ) (content : ReplicaData →
   abbrev F : Fact → Type 0
   F = Own life n
 
-  abbrev Left : Opening → Turn → Type 0
+  abbrev Left : Opening → Transition → Type 0
   Left new t = LeavesTurn run h guards e life n (phase.Opening old) (phase.Opening new) t
 
   mine : IsOwnGeneration run e old.session.generation
@@ -129,7 +129,7 @@ module _ (run : VolumeRun) (h : History) (stop : ℕ) (content : ReplicaData →
   asked_is (Some s) at = inr at
 
   -- ---- what a turn leaves
-  goes_to : (new o : Opening) (t : Turn) (asked : List Action) → new ≡ o → Wider (phase.Opening old) (phase.Opening o) → KnowsOpening run h guards e life T o
+  goes_to : (new o : Opening) (t : Transition) (asked : List Action) → new ≡ o → Wider (phase.Opening old) (phase.Opening o) → KnowsOpening run h guards e life T o
       → AllRight run h e (Allowed (phase.Opening o)) F T asked → Stays t asked → Left new t
   goes_to new o t asked same wider knows right stays =
       subst (λ (x : Opening). Left x t) (sym same)
@@ -140,10 +140,10 @@ module _ (run : VolumeRun) (h : History) (stop : ℕ) (content : ReplicaData →
   as_before : (s : SummaryData) → Q s → Q s
   as_before s own = own
 
-  idle : (new : Opening) (t : Turn) → ChangesNothing old new t → Left new t
+  idle : (new : Opening) (t : Transition) → ChangesNothing old new t → Left new t
   idle new t says = goes_to new old t [] says.1 as_before k tt says.0
 
-  ends : (new : Opening) (t : Turn) (f : Fault) → EndsAlone old new t f → Left new t
+  ends : (new : Opening) (t : Transition) (f : Fault) → EndsAlone old new t f → Left new t
   ends new t f says = when_stops run h guards e life n (phase.Opening old) (phase.Opening new) t f says.0
 
   knows_on : (u : State) (st : Stage) → KnowsStage run h e T u old.pair st → KnowsOpening run h guards e life T (opened_with old old.session u old.fresh st)
@@ -159,7 +159,7 @@ module _ (run : VolumeRun) (h : History) (stop : ℕ) (content : ReplicaData →
   }
 
   -- ---- what comes after a union is whole
-  plans : (u : State) (new : Opening) (t : Turn) → KnowsUnion run h e T u [] → Plans old u new t → Left new t
+  plans : (u : State) (new : Opening) (t : Transition) → KnowsUnion run h e T u [] → Plans old u new t → Left new t
   plans u new t un says = ⊎_elim
       (λ plan.
       let knows : AreKnown run h e T plan.0 no_nodes = λ i marked. absurd (none_marked i marked) in
@@ -169,7 +169,7 @@ module _ (run : VolumeRun) (h : History) (stop : ℕ) (content : ReplicaData →
       (λ fault. ends new t fault.0 fault.2)
       says
 
-  asks_with : (u : State) (left : List Bool) (asked : Option SummaryData) (new : Opening) (t : Turn) → KnowsUnion run h e T u left → old.asked ≡ None
+  asks_with : (u : State) (left : List Bool) (asked : Option SummaryData) (new : Opening) (t : Transition) → KnowsUnion run h e T u left → old.asked ≡ None
       → AsksWith old left u asked new t → Left new t
   asks_with u left None new t un none says = absurd says
   asks_with u left (Some asked) new t un none says =
@@ -183,7 +183,7 @@ module _ (run : VolumeRun) (h : History) (stop : ℕ) (content : ReplicaData →
       (each_node run h e (Allowed (phase.Opening next)) F T 0 old.session.generation mine old.session.births (errand.Pull asked) (inr refl, k.session.upto))
       says.2
 
-  goes_on_pulling : (u : State) (left : List Bool) (new : Opening) (t : Turn) → KnowsUnion run h e T u left → GoesOnPulling old u left new t → Left new t
+  goes_on_pulling : (u : State) (left : List Bool) (new : Opening) (t : Transition) → KnowsUnion run h e T u left → GoesOnPulling old u left new t → Left new t
   goes_on_pulling u left new t un says = ⊎_elim
       (λ first. asks_with u left new.asked new t un first.1 first.2)
       (λ rest. ⊎_elim
@@ -254,7 +254,7 @@ module _ (run : VolumeRun) (h : History) (stop : ℕ) (content : ReplicaData →
               (at_or_not i node);
         }
 
-    hears_delta : (st : Stage) (delta : DeltaData) (new : Opening) (t : Turn) → IsHeard run guards e life n Q node generation birth (told.Delta delta)
+    hears_delta : (st : Stage) (delta : DeltaData) (new : Opening) (t : Transition) → IsHeard run guards e life n Q node generation birth (told.Delta delta)
         → KnowsStage run h e T old.union old.pair st → HearsDelta old st node delta new t → Left new t
     hears_delta (stage.Pulling left) delta new t x at says = ⊎_elim
         (λ among. ⊎_elim
@@ -274,7 +274,7 @@ module _ (run : VolumeRun) (h : History) (stop : ℕ) (content : ReplicaData →
       (un.facts, (un.means.0, un.means.1.part, un.means.1.position, fills h.readers (log_at h T) un.facts un.means.0 sound un.means.1))
 
   -- ---- summaries
-  hears_summary : (st : Stage) (node : ℕ) (summary : SummaryData) (new : Opening) (t : Turn) → KnowsStage run h e T old.union old.pair st
+  hears_summary : (st : Stage) (node : ℕ) (summary : SummaryData) (new : Opening) (t : Transition) → KnowsStage run h e T old.union old.pair st
       → HearsSummary old st node summary new t → Left new t
   hears_summary (stage.Spreading plan known) node summary new t at says = ⊎_elim
       (λ damaged. ends new t Damaged damaged.1)
@@ -302,10 +302,10 @@ module _ (run : VolumeRun) (h : History) (stop : ℕ) (content : ReplicaData →
       says
 
   -- the step proposes a plan
-  abbrev Names : Opening → Turn → Type 0
-  Names new t = (plan : Plan) (accepted : List Bool) (asked : List Action) → Stays t asked → new.stage ≡ stage.Proposing plan accepted → NamesPlan plan (run.engines e)
+  abbrev Names : Opening → Transition → Type 0
+  Names new t = (plan : CutPlan) (accepted : List Bool) (asked : List Action) → Stays t asked → new.stage ≡ stage.Proposing plan accepted → NamesPlan plan (run.engines e)
 
-  proposes : (plan : Plan) (known : List Bool) (new : Opening) (t : Turn) → Names new t → IsQuorum quorum known
+  proposes : (plan : CutPlan) (known : List Bool) (new : Opening) (t : Transition) → Names new t → IsQuorum quorum known
       → KnowsStage run h e T old.union old.pair (stage.Spreading plan known) → ProposesPlan old plan new t → Left new t
   proposes plan known new t names enough at says = ⊎_elim
       (λ damaged. ends new t Damaged damaged.1)
@@ -322,7 +322,7 @@ module _ (run : VolumeRun) (h : History) (stop : ℕ) (content : ReplicaData →
       sends.3)
       says
 
-  pulls_again : (node : ℕ) (new : Opening) (t : Turn) → KnowsUnion run h e T old.union [] → PullsAgain old node new t → Left new t
+  pulls_again : (node : ℕ) (new : Opening) (t : Transition) → KnowsUnion run h e T old.union [] → PullsAgain old node new t → Left new t
   pulls_again node new t un says = ⊎_elim
       (λ no. idle new t no.1)
       (λ again.
@@ -334,7 +334,7 @@ module _ (run : VolumeRun) (h : History) (stop : ℕ) (content : ReplicaData →
       says
 
   -- ---- the volume is open
-  opens : (u : State) (plan : Plan) (new : Opening) (t : Turn) → HasAsked run e T → NamesPlan plan (run.engines e) → plan.is_pending ≡ false
+  opens : (u : State) (plan : CutPlan) (new : Opening) (t : Transition) → HasAsked run e T → NamesPlan plan (run.engines e) → plan.is_pending ≡ false
       → HasVotes run e T plan.cut.epoch → OpensVolume old.session u plan.cut t → Left new t
   opens u plan new (turn.Enter (phase.Open w) actions) asked names own votes says = record {
     knows = (
@@ -355,7 +355,7 @@ module _ (run : VolumeRun) (h : History) (stop : ℕ) (content : ReplicaData →
       when_stops run h guards e life n (phase.Opening old) (phase.Opening new) (turn.End actions) Damaged says.0
 
   module _ (node generation birth : ℕ) (own : IsOwn old.session node generation birth) (within : node < run.roster) where
-    knows_more : (plan : Plan) (known : List Bool) (front : Front) (new : Opening) (t : Turn)
+    knows_more : (plan : CutPlan) (known : List Bool) (front : Front) (new : Opening) (t : Transition)
         → IsHeard run guards e life n Q node generation birth (told.Front front) → Names new t
         → KnowsStage run h e T old.union old.pair (stage.Spreading plan known) → IsKnownAt plan front
         → Knows quorum old plan (slice_set known node true) new t → Left new t
@@ -373,7 +373,7 @@ module _ (run : VolumeRun) (h : History) (stop : ℕ) (content : ReplicaData →
         says
 
     -- ---- fronts, while the plan is taken
-    begins_epoch : (plan : Plan) (reported : List Bool) (new : Opening) (t : Turn)
+    begins_epoch : (plan : CutPlan) (reported : List Bool) (new : Opening) (t : Transition)
         → KnowsStage run h e T old.union old.pair (stage.Taking plan reported) → BeginsEpoch old plan new t → Left new t
     begins_epoch plan reported new t at says = ⊎_elim
         (λ damaged. ends new t Damaged damaged.1)
@@ -394,7 +394,7 @@ module _ (run : VolumeRun) (h : History) (stop : ℕ) (content : ReplicaData →
         taken.2)
         says
 
-    hears_front : (st : Stage) (front : Front) (new : Opening) (t : Turn) → IsHeard run guards e life n Q node generation birth (told.Front front) → Names new t
+    hears_front : (st : Stage) (front : Front) (new : Opening) (t : Transition) → IsHeard run guards e life n Q node generation birth (told.Front front) → Names new t
         → KnowsStage run h e T old.union old.pair st → HearsFront quorum old st node front new t → Left new t
     hears_front (stage.Spreading plan known) front new t x names at says = ⊎_elim
         (λ later. pulls_again node new t at.0 later.1)
@@ -414,7 +414,7 @@ module _ (run : VolumeRun) (h : History) (stop : ℕ) (content : ReplicaData →
     hears_front (stage.Pulling left) front new t x names at says = idle new t says
     hears_front (stage.Proposing plan accepted) front new t x names at says = idle new t says
 
-    hears_headed : (shown : SegmentReply) (new : Opening) (t : Turn) → IsHeard run guards e life n Q node generation birth shown → Names new t
+    hears_headed : (shown : SegmentReply) (new : Opening) (t : Transition) → IsHeard run guards e life n Q node generation birth shown → Names new t
         → HearsHeaded quorum old node shown new t → Left new t
     hears_headed (told.Delta delta) new t x names says = hears_delta node generation birth own old.stage delta new t x k.at says
     hears_headed (told.Summary summary) new t x names says = hears_summary old.stage node summary new t k.at says
@@ -422,7 +422,7 @@ module _ (run : VolumeRun) (h : History) (stop : ℕ) (content : ReplicaData →
     hears_headed other new t x names says = idle new t says
 
   -- ---- acceptances
-  hears_accepted : (st : Stage) (node generation birth epoch : ℕ) (new : Opening) (t : Turn) → node < run.roster
+  hears_accepted : (st : Stage) (node generation birth epoch : ℕ) (new : Opening) (t : Transition) → node < run.roster
       → WasGiven run guards e life n node (reply.Accepted generation birth epoch) → KnowsStage run h e T old.union old.pair st
       → HearsAccepted quorum old st node epoch new t → Left new t
   hears_accepted (stage.Proposing plan accepted) node generation birth epoch new t within given at says = ⊎_elim
@@ -478,7 +478,7 @@ module _ (run : VolumeRun) (h : History) (stop : ℕ) (content : ReplicaData →
         put_elsewhere old.session.births node i (Some birth) None apart ∙ k.session.own i among;
   }
 
-  hears_late : (node generation birth : ℕ) (new : Opening) (t : Turn) → HearsLate old node generation birth new t → Left new t
+  hears_late : (node generation birth : ℕ) (new : Opening) (t : Transition) → HearsLate old node generation birth new t → Left new t
   hears_late node generation birth new t says = ⊎_elim
       (λ no. idle new t no.1)
       (λ late.
@@ -487,7 +487,7 @@ module _ (run : VolumeRun) (h : History) (stop : ℕ) (content : ReplicaData →
       (stage_asks old.union old.stage generation node (birth_at (with_birth old.session node birth).births node) (mine ∙ sym late.0.0) k.at) late.2)
       says
 
-  hears_lost : (st : Stage) (node : ℕ) (new : Opening) (t : Turn) → HearsLost quorum old st node new t → Left new t
+  hears_lost : (st : Stage) (node : ℕ) (new : Opening) (t : Transition) → HearsLost quorum old st node new t → Left new t
   hears_lost (stage.Pulling left) node new t says = ⊎_elim
       (λ lost. ends new t (NoQuorum lost.1.0 quorum) lost.1.1)
       (λ no. idle new t no.1)
@@ -497,7 +497,7 @@ module _ (run : VolumeRun) (h : History) (stop : ℕ) (content : ReplicaData →
   hears_lost (stage.Taking plan reported) node new t says = idle new t says
 
   -- ---- replies
-  pub hears_opening : (node : ℕ) (shown : Reply) (new : Opening) (t : Turn) → node < run.roster → WasGiven run guards e life n node shown → Names new t
+  pub hears_opening : (node : ℕ) (shown : Reply) (new : Opening) (t : Transition) → node < run.roster → WasGiven run guards e life n node shown → Names new t
       → HearsOpening quorum old node shown new t → Left new t
   hears_opening node (reply.Headed generation birth shown) new t within given names says = ⊎_elim
       (λ own. hears_headed node generation birth own.0 within shown new t (heard run h guards e life n Q node generation birth shown sent given) names own.1)
@@ -528,6 +528,6 @@ module _ (run : VolumeRun) (h : History) (stop : ℕ) (content : ReplicaData →
   asks_right (stage.Proposing plan accepted) node (Some birth) at = stage_asks old.union (stage.Proposing plan accepted) old.session.generation node (Some birth) mine at
   asks_right (stage.Taking plan reported) node (Some birth) at = stage_asks old.union (stage.Taking plan reported) old.session.generation node (Some birth) mine at
 
-  pub retries_in_opening : (node : ℕ) (t : Turn) → Stays t (retries_opening old old.stage node) → Left old t
+  pub retries_in_opening : (node : ℕ) (t : Transition) → Stays t (retries_opening old old.stage node) → Left old t
   retries_in_opening node t says =
       goes_to old old t (retries_opening old old.stage node) refl as_before k (asks_right old.stage node (birth_at old.session.births node) k.at) says

@@ -22,7 +22,7 @@ use Rattle.volume.specs.declared.errands.Query.TheVariants.{Fence}
 use Rattle.volume.specs.declared.phases.Phase.TheVariants as phase
 use Rattle.volume.specs.declared.phases.Session.{Session}
 use Rattle.volume.specs.declared.phases.Writing.{Writing}
-use Rattle.volume.specs.declared.turns.Turn.{Turn}
+use Rattle.volume.specs.declared.turns.Transition.{Transition}
 use Rattle.volume.specs.Asking.{asks_of}
 use Rattle.volume.specs.Turning.{Stays}
 use Rattle.volume.specs.Writing.{errand_of, sends_record, RefusesCall, AddsRecord, WritesPage, EndsTransaction, RaisesDurably, RaisesPoint, brings, stores_of, HearsSegment, HearsWriting}
@@ -135,10 +135,10 @@ module _ (run : VolumeRun) (h : History) (guards : Guards) (e : ℕ) (life : Lif
 
   -- ---- replies
   module _ (old : Writing) (sent : IsCutSent run T old.cut) (mine : IsOwnGeneration run e old.session.generation) (own : HasOwn F old.backlog) where
-    abbrev Left : Writing → Turn → Type 0
+    abbrev Left : Writing → Transition → Type 0
     Left new t = LeavesTurn run h guards e life n (phase.Open old) (phase.Open new) t
 
-    goes_to : (new : Writing) (t : Turn) (actions : List Action) → new.cut ≡ old.cut → new.session.generation ≡ old.session.generation → HasOwn F new.backlog
+    goes_to : (new : Writing) (t : Transition) (actions : List Action) → new.cut ≡ old.cut → new.session.generation ≡ old.session.generation → HasOwn F new.backlog
         → Good actions → Stays t actions → Left new t
     goes_to new t actions same under backlog right stays =
         when_stays run h guards e life n (phase.Open old) (phase.Open new) t actions stays
@@ -152,12 +152,12 @@ module _ (run : VolumeRun) (h : History) (guards : Guards) (e : ℕ) (life : Lif
     as_before : (new : Writing) → new.backlog ≡ old.backlog → HasOwn F new.backlog
     as_before new same = subst (λ (rs : List RecordData). HasOwn F rs) (sym same) own
 
-    idle : (new : Writing) (t : Turn) → Stays t [] → new ≡ old → Left new t
+    idle : (new : Writing) (t : Transition) → Stays t [] → new ≡ old → Left new t
     idle new t stays same =
         goes_to new t [] (ap (λ (w : Writing). w.cut) same) (ap (λ (w : Writing). w.session.generation) same)
         (as_before new (ap (λ (w : Writing). w.backlog) same)) tt stays
 
-    hears_segment : (quorum node : ℕ) (shown : SegmentReply) (new : Writing) (t : Turn) → HearsSegment quorum old node shown new t → Left new t
+    hears_segment : (quorum node : ℕ) (shown : SegmentReply) (new : Writing) (t : Transition) → HearsSegment quorum old node shown new t → Left new t
     hears_segment quorum node (told.Front front) new t says = ⊎_elim
         (λ other. idle new t other.1 other.2)
         (λ mine. ⊎_elim
@@ -169,7 +169,7 @@ module _ (run : VolumeRun) (h : History) (guards : Guards) (e : ℕ) (life : Lif
         says
     hears_segment quorum node other new t says = idle new t says.0 says.1
 
-    hears_late : (node generation birth : ℕ) (new : Writing) (t : Turn) → HearsWriting 0 old node (reply.Admitted generation birth) new t → Left new t
+    hears_late : (node generation birth : ℕ) (new : Writing) (t : Transition) → HearsWriting 0 old node (reply.Admitted generation birth) new t → Left new t
     hears_late node generation birth new t says = ⊎_elim
         (λ no. idle new t no.1 no.2)
         (λ late.
@@ -177,7 +177,7 @@ module _ (run : VolumeRun) (h : History) (guards : Guards) (e : ℕ) (life : Lif
         (as_before new (ap (λ (w : Writing). w.backlog) late.1)) (brings_right old node (Some birth) sent mine own) late.2)
         says
 
-    pub hears_writing : (quorum node : ℕ) (shown : Reply) (new : Writing) (t : Turn) → HearsWriting quorum old node shown new t → Left new t
+    pub hears_writing : (quorum node : ℕ) (shown : Reply) (new : Writing) (t : Transition) → HearsWriting quorum old node shown new t → Left new t
     hears_writing quorum node (reply.Headed generation birth shown) new t says = ⊎_elim
         (λ mine. hears_segment quorum node shown new t mine.1)
         (λ no. idle new t no.1 no.2)
@@ -190,5 +190,5 @@ module _ (run : VolumeRun) (h : History) (guards : Guards) (e : ℕ) (life : Lif
         says
     hears_writing quorum node other new t says = idle new t says.0 says.1
 
-    pub retries_writing : (node : ℕ) (b : Option ℕ) (t : Turn) → Stays t (brings old node b) → Left old t
+    pub retries_writing : (node : ℕ) (b : Option ℕ) (t : Transition) → Stays t (brings old node b) → Left old t
     retries_writing node b t says = goes_to old t (brings old node b) refl refl own (brings_right old node b sent mine own) says

@@ -18,9 +18,9 @@ use Rattle.volume.specs.declared.phases.Session.{Session}
 use Rattle.volume.specs.declared.phases.Stage.{Stage}
 use Rattle.volume.specs.declared.phases.Stage.TheVariants as stage
 use Rattle.volume.specs.declared.phases.Writing.{Writing}
-use Rattle.volume.specs.declared.plans.Plan.{Plan}
-use Rattle.volume.specs.declared.turns.Turn.{Turn}
-use Rattle.volume.specs.declared.turns.Turn.TheVariants as turn
+use Rattle.volume.specs.declared.plans.CutPlan.{CutPlan}
+use Rattle.volume.specs.declared.turns.Transition.{Transition}
+use Rattle.volume.specs.declared.turns.Transition.TheVariants as turn
 use Rattle.volume.specs.Planning.{IsPlan}
 use Rattle.volume.specs.Sets.{birth_at, is_marked}
 use Rattle.volume_theorems.specs.Runs.{VolumeRun, MakesMove, Many}
@@ -84,7 +84,7 @@ pub record KnowsUnion (run : VolumeRun) (h : History) (e t : ℕ) (u : State) (l
   pub given : (i : ℕ) → IsInQuorum run e i → (is_marked left i ≡ true → ⊥) → HasGiven run e t facts i
 
 -- each of the nodes has reported a front of the union's epoch, at or above what the plan keeps
-pub record IsKnown (run : VolumeRun) (h : History) (e t i : ℕ) (plan : Plan) : Type 0 where
+pub record IsKnown (run : VolumeRun) (h : History) (e t i : ℕ) (plan : CutPlan) : Type 0 where
   pub within : i < run.roster
   pub moment : ℕ
   pub before : moment < t
@@ -93,7 +93,7 @@ pub record IsKnown (run : VolumeRun) (h : History) (e t i : ℕ) (plan : Plan) :
   pub next : epoch + 1 ≡ plan.cut.epoch
   pub front : IsFrontAbove run h moment i epoch plan.cut.lo
 
-abbrev pub AreKnown : VolumeRun → History → ℕ → ℕ → Plan → List Bool → Type 0
+abbrev pub AreKnown : VolumeRun → History → ℕ → ℕ → CutPlan → List Bool → Type 0
 AreKnown run h e t plan known = (i : ℕ) → is_marked known i ≡ true → IsKnown run h e t i plan
 
 -- each of the nodes has accepted the truncation
@@ -154,7 +154,7 @@ pub record Leaves (run : VolumeRun) (h : History) (guards : Guards) (e : ℕ) (l
   pub right : AllRight run h e (Allowed new) (Own life n) (life.moments n) actions
   pub wider : Wider old new
 
-abbrev pub LeavesTurn : VolumeRun → History → Guards → ℕ → Life → ℕ → Phase → Phase → Turn → Type 0
+abbrev pub LeavesTurn : VolumeRun → History → Guards → ℕ → Life → ℕ → Phase → Phase → Transition → Type 0
 LeavesTurn run h guards e life n old left (turn.Stay asked) = Leaves run h guards e life n old left asked.items
 LeavesTurn run h guards e life n old left (turn.Enter next asked) = Leaves run h guards e life n old next asked.items
 LeavesTurn run h guards e life n old left (turn.End asked) = Leaves run h guards e life n old phase.Idle asked.items

@@ -5,7 +5,7 @@ use Rattle.volume.specs.declared.fencing.Fencing.{Fencing}
 use Rattle.volume.specs.declared.phases.Opening.{Opening}
 use Rattle.volume.specs.declared.phases.Phase.{Phase}
 use Rattle.volume.specs.declared.phases.Phase.TheVariants as phase
-use Rattle.volume.specs.declared.plans.Plan.{Plan}
+use Rattle.volume.specs.declared.plans.CutPlan.{CutPlan}
 use Rattle.volume.specs.Sets.{is_marked}
 use Rattle.volume_theorems.specs.Runs.{VolumeRun, Engine}
 use Rattle.volume_engines.specs.Lives.{Life, Guards, IsLife}
@@ -34,17 +34,17 @@ same_opening a b same = cc
 
 module _ (life : Life) (count : ℕ) where
   -- ---- the truncations
-  abbrev IsFor : ℕ → Plan → Type 0
+  abbrev IsFor : ℕ → CutPlan → Type 0
   IsFor k p = p.cut.epoch ≡ k
 
-  abbrev IsOwnPlan : Plan → Type 0
+  abbrev IsOwnPlan : CutPlan → Type 0
   IsOwnPlan p = p.is_pending ≡ false
 
-  own_plan_or_not : (p : Plan) → IsOwnPlan p ⊎ (IsOwnPlan p → ⊥)
+  own_plan_or_not : (p : CutPlan) → IsOwnPlan p ⊎ (IsOwnPlan p → ⊥)
   own_plan_or_not p = own_or_not p.is_pending
 
   -- two steps that are both the first are one
-  one_first : (IsSuch : Plan → Type 0) (m n : ℕ) (p q : Plan) → IsFirstPlan life IsSuch m p → IsFirstPlan life IsSuch n q → p ≡ q
+  one_first : (IsSuch : CutPlan → Type 0) (m n : ℕ) (p q : CutPlan) → IsFirstPlan life IsSuch m p → IsFirstPlan life IsSuch n q → p ≡ q
   one_first IsSuch m n p q one two = ⊎_elim
       (λ (early : m < n). absurd (two.first m p early one.proposed one.such))
       (λ (rest : (n < m) ⊎ (m ≡ n)). ⊎_elim
@@ -60,19 +60,19 @@ module _ (life : Life) (count : ℕ) where
   cut_found k (inl has) = has.1.cut
   cut_found k (inr none) = cut_of k 0 0
 
-  cut_is : (k n : ℕ) (plan : Plan) (x : ForEpoch k) → n < count → IsFirstPlan life (IsFor k) n plan → cut_found k x ≡ plan.cut
-  cut_is k n plan (inl has) step first = ap (λ (p : Plan). p.cut) (one_first (IsFor k) has.0 n has.1 plan has.3 first)
+  cut_is : (k n : ℕ) (plan : CutPlan) (x : ForEpoch k) → n < count → IsFirstPlan life (IsFor k) n plan → cut_found k x ≡ plan.cut
+  cut_is k n plan (inl has) step first = ap (λ (p : CutPlan). p.cut) (one_first (IsFor k) has.0 n has.1 plan has.3 first)
   cut_is k n plan (inr none) step first = absurd (none n plan step first.proposed first.such)
 
   -- an epoch above those of all that the first steps propose
   abbrev IsAbove : ℕ → ℕ → Type 0
-  IsAbove n k = (m : ℕ) (p : Plan) → m < n → ProposesAt life m p → p.cut.epoch < k
+  IsAbove n k = (m : ℕ) (p : CutPlan) → m < n → ProposesAt life m p → p.cut.epoch < k
 
-  above_last : (n k : ℕ) (q : Plan) → IsAbove n k → ProposesAt life n q → IsAbove (suc n) (suc (k + q.cut.epoch))
+  above_last : (n k : ℕ) (q : CutPlan) → IsAbove n k → ProposesAt life n q → IsAbove (suc n) (suc (k + q.cut.epoch))
   above_last n k q above at m p low here = ⊎_elim
       (λ (now : m ≡ n).
       let same : p ≡ q = one_in_phase (life.states (suc n)).phase p q (subst (λ (x : ℕ). ProposesAt life x p) now here) at in
-      let epochs : p.cut.epoch ≡ q.cut.epoch = ap (λ (x : Plan). x.cut.epoch) same in
+      let epochs : p.cut.epoch ≡ q.cut.epoch = ap (λ (x : CutPlan). x.cut.epoch) same in
       let under : p.cut.epoch < suc (k + q.cut.epoch) = omega arith in
       under)
       (λ (early : m < n).
@@ -81,7 +81,7 @@ module _ (life : Life) (count : ℕ) where
       under)
       (let way : (m ≡ n) ⊎ (m < n) = grind (arith, low) in way)
 
-  above_none : (n k : ℕ) → IsAbove n k → ((q : Plan) → ProposesAt life n q → ⊥) → IsAbove (suc n) k
+  above_none : (n k : ℕ) → IsAbove n k → ((q : CutPlan) → ProposesAt life n q → ⊥) → IsAbove (suc n) k
   above_none n k above none m p low here = ⊎_elim
       (λ (now : m ≡ n). absurd (none p (subst (λ (x : ℕ). ProposesAt life x p) now here)))
       (λ (early : m < n). above m p early here)
@@ -92,8 +92,8 @@ module _ (life : Life) (count : ℕ) where
   some_above (suc n) =
       let rest : (k : ℕ) × IsAbove n k = some_above n in
       ⊎_elim
-      (λ (has : (p : Plan) × ProposesAt life n p). (suc (rest.0 + has.0.cut.epoch), above_last n rest.0 has.0 rest.1 has.1))
-      (λ (none : (p : Plan) → ProposesAt life n p → ⊥). (rest.0, above_none n rest.0 rest.1 none))
+      (λ (has : (p : CutPlan) × ProposesAt life n p). (suc (rest.0 + has.0.cut.epoch), above_last n rest.0 has.0 rest.1 has.1))
+      (λ (none : (p : CutPlan) → ProposesAt life n p → ⊥). (rest.0, above_none n rest.0 rest.1 none))
       (plan_in_phase (life.states (suc n)).phase)
 
   abbrev ForOwn : Type 0
@@ -103,11 +103,11 @@ module _ (life : Life) (count : ℕ) where
   opens_found (inl has) = has.1.cut.epoch
   opens_found (inr none) = (some_above count).0
 
-  opens_is : (n : ℕ) (plan : Plan) (x : ForOwn) → n < count → IsFirstPlan life IsOwnPlan n plan → opens_found x ≡ plan.cut.epoch
-  opens_is n plan (inl has) step first = ap (λ (p : Plan). p.cut.epoch) (one_first IsOwnPlan has.0 n has.1 plan has.3 first)
+  opens_is : (n : ℕ) (plan : CutPlan) (x : ForOwn) → n < count → IsFirstPlan life IsOwnPlan n plan → opens_found x ≡ plan.cut.epoch
+  opens_is n plan (inl has) step first = ap (λ (p : CutPlan). p.cut.epoch) (one_first IsOwnPlan has.0 n has.1 plan has.3 first)
   opens_is n plan (inr none) step first = absurd (none n plan step first.proposed first.such)
 
-  opens_above : (x : ForOwn) → AreAllPending life count → (n : ℕ) (plan : Plan) → n < count → ProposesAt life n plan → plan.cut.epoch < opens_found x
+  opens_above : (x : ForOwn) → AreAllPending life count → (n : ℕ) (plan : CutPlan) → n < count → ProposesAt life n plan → plan.cut.epoch < opens_found x
   opens_above (inl has) pending n plan step at =
       let no : true ≡ false = sym (pending has.0 has.1 has.2 has.3.proposed) ∙ has.3.such in absurd (cc)
   opens_above (inr none) pending n plan step at = (some_above count).1 n plan step at

@@ -24,8 +24,8 @@ use Rattle.volume.specs.declared.events.Event.TheVariants as event
 use Rattle.volume.specs.declared.phases.Phase.{Phase}
 use Rattle.volume.specs.declared.phases.Phase.TheVariants as phase
 use Rattle.volume.specs.declared.phases.Writing.{Writing}
-use Rattle.volume.specs.declared.turns.Turn.{Turn}
-use Rattle.volume.specs.declared.turns.Turn.TheVariants as turn
+use Rattle.volume.specs.declared.turns.Transition.{Transition}
+use Rattle.volume.specs.declared.turns.Transition.TheVariants as turn
 use Rattle.volume.specs.Asking.{requests_of, asks_of, asks_from}
 use Rattle.volume.specs.Data.{VolumeData}
 use Rattle.volume.specs.Sessions.{IsOwn}
@@ -143,13 +143,13 @@ keeps_all : (w : Writing) → Keeps w w
 keeps_all w = record { generation = refl; cut = refl; writer = refl; reached = refl; durable = refl; backlog = refl }
 
 -- ---- turns
-pub stayed : (old new : VolumeData) (left : Phase) (t : Turn) (actions asked : List Action) → Stays t asked → Turns old left t actions new
+pub stayed : (old new : VolumeData) (left : Phase) (t : Transition) (actions asked : List Action) → Stays t asked → Turns old left t actions new
     → (actions ≡ asked) × (new.phase ≡ left)
 stayed old new left (turn.Stay xs) actions asked stays says = (says.0 ∙ stays, ap (λ (v : VolumeData). v.phase) says.1)
 stayed old new left (turn.Enter next xs) actions asked stays says = absurd stays
 stayed old new left (turn.End xs) actions asked stays says = absurd stays
 
-stopped_at : (old new : VolumeData) (left : Phase) (t : Turn) (actions : List Action) (f : Fault) → StopsWith t f → Turns old left t actions new
+stopped_at : (old new : VolumeData) (left : Phase) (t : Transition) (actions : List Action) (f : Fault) → StopsWith t f → Turns old left t actions new
     → (actions ≡ Refused f ∷ []) × (new.phase ≡ phase.Idle)
 stopped_at old new left (turn.Stay xs) actions f stops says = absurd stops
 stopped_at old new left (turn.Enter next xs) actions f stops says = absurd stops
@@ -221,13 +221,13 @@ module _ (nodes quorum : ℕ) (w : Writing) (actions : List Action) (new : Volum
 
   -- ---- replies
   module _ (old : VolumeData) (node : ℕ) where
-    unchanged : (happens : Event) (x : Writing) (t : Turn) → x ≡ w → emitted happens actions w x ≡ [] → Stays t [] → Turns old (phase.Open x) t actions new
+    unchanged : (happens : Event) (x : Writing) (t : Transition) → x ≡ w → emitted happens actions w x ≡ [] → Stays t [] → Turns old (phase.Open x) t actions new
         → Step happens
     unchanged happens x t same none stays turns =
         let goes = stayed old new (phase.Open x) t actions [] stays turns in
         keeps x goes.1 (subst (λ (y : Writing). Keeps w y) (sym same) (keeps_all w)) (as_listed actions [] goes.0 tt) none
 
-    point_step : (generation birth : ℕ) (front : Front) (x : Writing) (t : Turn) → node < nodes → IsOwn w.session node generation birth
+    point_step : (generation birth : ℕ) (front : Front) (x : Writing) (t : Transition) → node < nodes → IsOwn w.session node generation birth
         → front.epoch ≡ w.cut.epoch → HearsPoint quorum w node front.complete x t → Turns old (phase.Open x) t actions new
         → Step (event.Answered node (reply.Headed generation birth (segment.Front front)))
     point_step generation birth front x t within own epoch says turns =
@@ -250,7 +250,7 @@ module _ (nodes quorum : ℕ) (w : Writing) (actions : List Action) (new : Volum
         hears x node front.complete goes.1 is (record { same = some.2; reached = some.3 }) (inr (some.0, some.1, some.4, some.5, goes.0)) refl)
         says
 
-    segment_step : (generation birth : ℕ) (shown : SegmentReply) (x : Writing) (t : Turn) → node < nodes → IsOwn w.session node generation birth
+    segment_step : (generation birth : ℕ) (shown : SegmentReply) (x : Writing) (t : Transition) → node < nodes → IsOwn w.session node generation birth
         → HearsSegment quorum w node shown x t → Turns old (phase.Open x) t actions new → Step (event.Answered node (reply.Headed generation birth shown))
     segment_step generation birth (segment.Front front) x t within own says turns = ⊎_elim
         (λ other. unchanged (event.Answered node (reply.Headed generation birth (segment.Front front))) x t other.2 refl other.1 turns)
@@ -258,7 +258,7 @@ module _ (nodes quorum : ℕ) (w : Writing) (actions : List Action) (new : Volum
         says
     segment_step generation birth other x t within own says turns = unchanged (event.Answered node (reply.Headed generation birth other)) x t says.1 refl says.0 turns
 
-    late_step : (happens : Event) (generation birth : ℕ) (x : Writing) (t : Turn) → emitted happens actions w x ≡ []
+    late_step : (happens : Event) (generation birth : ℕ) (x : Writing) (t : Transition) → emitted happens actions w x ≡ []
         → BringsLate w node generation birth x t → Turns old (phase.Open x) t actions new → Step happens
     late_step happens generation birth x t none says turns = ⊎_elim
         (λ no. unchanged happens x t no.2 none no.1 turns)
@@ -269,7 +269,7 @@ module _ (nodes quorum : ℕ) (w : Writing) (actions : List Action) (new : Volum
         (as_listed actions (brings w node (Some birth)) goes.0 (brings_silent w node (Some birth))) none)
         says
 
-    reply_step : (shown : Reply) (x : Writing) (t : Turn) → node < nodes → HearsWriting quorum w node shown x t → Turns old (phase.Open x) t actions new
+    reply_step : (shown : Reply) (x : Writing) (t : Transition) → node < nodes → HearsWriting quorum w node shown x t → Turns old (phase.Open x) t actions new
         → Step (event.Answered node shown)
     reply_step (reply.Headed generation birth shown) x t within says turns = ⊎_elim
         (λ own. segment_step generation birth shown x t within own.0 own.1 turns)
@@ -287,7 +287,7 @@ module _ (nodes quorum : ℕ) (w : Writing) (actions : List Action) (new : Volum
         says
     reply_step other x t within says turns = unchanged (event.Answered node other) x t says.1 refl says.0 turns
 
-    retry_step : (b : Option ℕ) (t : Turn) → Stays t (brings w node b) → Turns old (phase.Open w) t actions new → Step (event.Failed node)
+    retry_step : (b : Option ℕ) (t : Transition) → Stays t (brings w node b) → Turns old (phase.Open w) t actions new → Step (event.Failed node)
     retry_step b t says turns =
         let goes = stayed old new (phase.Open w) t actions (brings w node b) says turns in
         keeps w goes.1 (keeps_all w) (as_listed actions (brings w node b) goes.0 (brings_silent w node b)) refl
@@ -307,7 +307,7 @@ module _ (old new : VolumeData) (w : Writing) (actions : List Action) where
   stays_open : (happens : Event) → old.phase ≡ phase.Open w → emitted happens actions w w ≡ [] → AreSilent actions → new ≡ old → Goes happens
   stays_open happens at none silent same = keeps w (ap (λ (v : VolumeData). v.phase) same ∙ at) (keeps_all w) silent none
 
-  hears_open : (node : ℕ) (told : Reply) (p left : Phase) (t : Turn) → p ≡ phase.Open w → node < old.settings.nodes → Hears old.settings p node told left t
+  hears_open : (node : ℕ) (told : Reply) (p left : Phase) (t : Transition) → p ≡ phase.Open w → node < old.settings.nodes → Hears old.settings p node told left t
       → Turns old left t actions new → Goes (event.Answered node told)
   hears_open node told p (phase.Open x) t at within says turns =
       reply_step old.settings.nodes old.settings.quorum w actions new old node told x t within

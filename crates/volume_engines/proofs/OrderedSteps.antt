@@ -15,9 +15,9 @@ use Rattle.volume.specs.declared.phases.Phase.{Phase}
 use Rattle.volume.specs.declared.phases.Phase.TheVariants as phase
 use Rattle.volume.specs.declared.phases.Stage.{Stage}
 use Rattle.volume.specs.declared.phases.Writing.{Writing}
-use Rattle.volume.specs.declared.plans.Plan.{Plan}
-use Rattle.volume.specs.declared.turns.Turn.{Turn}
-use Rattle.volume.specs.declared.turns.Turn.TheVariants as turn
+use Rattle.volume.specs.declared.plans.CutPlan.{CutPlan}
+use Rattle.volume.specs.declared.turns.Transition.{Transition}
+use Rattle.volume.specs.declared.turns.Transition.TheVariants as turn
 use Rattle.volume.specs.Data.{VolumeData, volume_of, at_phase}
 use Rattle.volume.specs.Fencing.{new_fencing, with_fenced, with_fresh, without_node, BeginsOpening, PullsQuorum, GoesOn, HearsFencing, RetriesFencing}
 use Rattle.volume.specs.Settings.{SettingsData}
@@ -40,7 +40,7 @@ within run guards e life n other may = tt
 
 module _ (Past : Before) where
   -- ---- before a quorum is fenced
-  begins : (s : SettingsData) (f : Fencing) (o : Opening) → ((p : Plan) → Past.proposed p → ⊥) → BeginsOpening s f o → OrderedOpening Past o
+  begins : (s : SettingsData) (f : Fencing) (o : Opening) → ((p : CutPlan) → Past.proposed p → ⊥) → BeginsOpening s f o → OrderedOpening Past o
   begins s f o none says = record {
     cuts = λ e low high.
         let none : o.union.book.complete ≡ 0 = ap (λ u. u.book.complete) says.union in absurd (omega arith);
@@ -48,10 +48,10 @@ module _ (Past : Before) where
   }
 
   module _ (s : SettingsData) (f : Fencing) (none : OrderedPhase Past (phase.Fencing f)) where
-    abbrev Left : Turn → Type 0
+    abbrev Left : Transition → Type 0
     Left t = OrderedTurn Past (phase.Fencing f) t
 
-    pulls : (new : Fencing) (node birth : ℕ) (t : Turn) → PullsQuorum s new node birth t → Left t
+    pulls : (new : Fencing) (node birth : ℕ) (t : Transition) → PullsQuorum s new node birth t → Left t
     pulls new node birth (turn.Enter (phase.Opening o) actions) says = begins s new o none.0 says.0
     pulls new node birth (turn.Enter phase.Idle actions) says = absurd says
     pulls new node birth (turn.Enter (phase.Creating c) actions) says = absurd says
@@ -60,16 +60,16 @@ module _ (Past : Before) where
     pulls new node birth (turn.Stay actions) says = absurd says
     pulls new node birth (turn.End actions) says = absurd says
 
-    goes_on : (new : Fencing) (t : Turn) (asked : List Action) → GoesOn s new t asked → Left t
+    goes_on : (new : Fencing) (t : Transition) (asked : List Action) → GoesOn s new t asked → Left t
     goes_on new t asked says = ⊎_elim
         (λ on. on_enter Past (phase.Fencing f) t (phase.Fencing new) asked on.1 none)
         (λ off. on_stop Past (phase.Fencing f) t (NoQuorum _ s.quorum) off.1)
         says
 
-    stays : (t : Turn) → Stays t [] → Left t
+    stays : (t : Transition) → Stays t [] → Left t
     stays t says = on_stay Past (phase.Fencing f) t [] says none
 
-    orders_fencing : (node : ℕ) (shown : Reply) (t : Turn) → HearsFencing s f node shown t → Left t
+    orders_fencing : (node : ℕ) (shown : Reply) (t : Transition) → HearsFencing s f node shown t → Left t
     orders_fencing node (reply.Fenced generation birth accepted) t says = ⊎_elim
         (λ own. ⊎_elim
         (λ few. on_enter Past (phase.Fencing f) t (phase.Fencing (with_fenced f node birth accepted)) [] few.1 none)
@@ -87,7 +87,7 @@ module _ (Past : Before) where
         says
     orders_fencing node other t says = stays t says
 
-    retried_fencing : (node : ℕ) (t : Turn) → RetriesFencing s f node t → Left t
+    retried_fencing : (node : ℕ) (t : Transition) → RetriesFencing s f node t → Left t
     retried_fencing node t says = ⊎_elim
         (λ idle. stays t idle.1)
         (λ lost. goes_on (without_node f node) t _ lost.1)
@@ -95,13 +95,13 @@ module _ (Past : Before) where
 
   -- ---- an open volume
   module _ (quorum : ℕ) (old : Writing) where
-    abbrev Writes : Writing → Turn → Type 0
+    abbrev Writes : Writing → Transition → Type 0
     Writes new t = OrderedTurn Past (phase.Open new) t
 
-    writes_on : (new : Writing) (t : Turn) (asked : List Action) → Stays t asked → Writes new t
+    writes_on : (new : Writing) (t : Transition) (asked : List Action) → Stays t asked → Writes new t
     writes_on new t asked says = on_stay Past (phase.Open new) t asked says tt
 
-    orders_segment : (node : ℕ) (shown : SegmentReply) (new : Writing) (t : Turn) → HearsSegment quorum old node shown new t → Writes new t
+    orders_segment : (node : ℕ) (shown : SegmentReply) (new : Writing) (t : Transition) → HearsSegment quorum old node shown new t → Writes new t
     orders_segment node (told.Front front) new t says = ⊎_elim
         (λ other. writes_on new t [] other.1)
         (λ own. ⊎_elim
@@ -111,13 +111,13 @@ module _ (Past : Before) where
         says
     orders_segment node other new t says = writes_on new t [] says.0
 
-    orders_late : (node generation birth : ℕ) (new : Writing) (t : Turn) → HearsWriting quorum old node (reply.Admitted generation birth) new t → Writes new t
+    orders_late : (node generation birth : ℕ) (new : Writing) (t : Transition) → HearsWriting quorum old node (reply.Admitted generation birth) new t → Writes new t
     orders_late node generation birth new t says = ⊎_elim
         (λ no. writes_on new t [] no.1)
         (λ late. writes_on new t _ late.2)
         says
 
-    orders_writing : (node : ℕ) (shown : Reply) (new : Writing) (t : Turn) → HearsWriting quorum old node shown new t → Writes new t
+    orders_writing : (node : ℕ) (shown : Reply) (new : Writing) (t : Transition) → HearsWriting quorum old node shown new t → Writes new t
     orders_writing node (reply.Headed generation birth shown) new t says = ⊎_elim
         (λ own. orders_segment node shown new t own.1)
         (λ no. writes_on new t [] no.1)
@@ -141,7 +141,7 @@ module _ (Past : Before) where
     unchanged : new ≡ old → Next
     unchanged is = leads old.phase is k
 
-    turned : (left : Phase) (t : Turn) → OrderedTurn Past left t → Turns old left t actions new → Next
+    turned : (left : Phase) (t : Transition) → OrderedTurn Past left t → Turns old left t actions new → Next
     turned left (turn.Stay asked) ordered says = leads left says.1 ordered
     turned left (turn.Enter next asked) ordered says = leads next says.1 ordered
     turned left (turn.End asked) ordered says = leads phase.Idle says.1 tt
@@ -156,7 +156,7 @@ module _ (Past : Before) where
     calls does (phase.Fencing f) says = unchanged says.1
     calls does (phase.Opening o) says = unchanged says.1
 
-    hears : (p left : Phase) (t : Turn) (node : ℕ) (shown : Reply) → old.phase ≡ p → Hears old.settings p node shown left t → Turns old left t actions new → Next
+    hears : (p left : Phase) (t : Transition) (node : ℕ) (shown : Reply) → old.phase ≡ p → Hears old.settings p node shown left t → Turns old left t actions new → Next
     hears phase.Idle left t node shown from says turns =
         turned left t (subst (λ (q : Phase). OrderedTurn Past q t) (sym says.1) (on_stay Past phase.Idle t [] says.0 tt)) turns
     hears (phase.Creating c) left t node shown from says turns = absurd (knows (phase.Creating c) from)
@@ -176,7 +176,7 @@ module _ (Past : Before) where
     hears (phase.Open w) (phase.Fencing f) t node shown from says turns = absurd says
     hears (phase.Open w) (phase.Opening o) t node shown from says turns = absurd says
 
-    retries : (p : Phase) (t : Turn) (node : ℕ) → old.phase ≡ p → Retries old.settings p node t → Turns old p t actions new → Next
+    retries : (p : Phase) (t : Transition) (node : ℕ) → old.phase ≡ p → Retries old.settings p node t → Turns old p t actions new → Next
     retries phase.Idle t node from says turns = turned phase.Idle t (on_stay Past phase.Idle t [] says tt) turns
     retries (phase.Creating c) t node from says turns = absurd (knows (phase.Creating c) from)
     retries (phase.Fencing f) t node from says turns =

@@ -10,7 +10,7 @@ use Rattle.segment_theorems.specs.Means.{MeansAt}
 use Rattle.replica.specs.Parts.{ReplicaData}
 use Rattle.guard.specs.declared.requests.AcceptedCut.{AcceptedCut}
 use Rattle.volume.specs.declared.phases.Opening.{Opening}
-use Rattle.volume.specs.declared.plans.Plan.{Plan}
+use Rattle.volume.specs.declared.plans.CutPlan.{CutPlan}
 use Rattle.volume.specs.Planning.{IsPending, IsPlan, IsOwnCut}
 use Rattle.volume.specs.Sets.{is_marked, count_marked}
 use Rattle.volume_theorems.specs.Nodes.{Content}
@@ -57,7 +57,7 @@ pending_vote : (pair : Option AcceptedCut) (epoch : ℕ) (cut d : CutData) → d
 pending_vote None epoch cut d same is = absurd is
 pending_vote (Some pair) epoch cut d same is = is.0 ∙ sym same
 
-module _ (run : VolumeRun) (h : History) (stop : ℕ) (content : ReplicaData → Content) (guards : Guards) (e t : ℕ) (o : Opening) (plan : Plan) (known : List Bool)
+module _ (run : VolumeRun) (h : History) (stop : ℕ) (content : ReplicaData → Content) (guards : Guards) (e t : ℕ) (o : Opening) (plan : CutPlan) (known : List Bool)
     (follows : FollowsUntil run stop) (emitted : IsEmitted run h stop) (guarded : HasGuards run h stop content guards) (upto : t ≤ stop)
     (best : IsBest run e (vote_of o.pair)) (union : KnowsUnion run h e t o.union [])
     (enough : run.quorum ≤ count_marked known) (are : AreKnown run h e t plan known) (names : NamesPlan plan (run.engines e)) (gathered : HasGathered run e) where

@@ -25,9 +25,9 @@ use Rattle.volume.specs.declared.phases.Phase.TheVariants as phase
 use Rattle.volume.specs.declared.phases.Stage.{Stage}
 use Rattle.volume.specs.declared.phases.Stage.TheVariants as stage
 use Rattle.volume.specs.declared.phases.Writing.{Writing}
-use Rattle.volume.specs.declared.plans.Plan.{Plan}
-use Rattle.volume.specs.declared.turns.Turn.{Turn}
-use Rattle.volume.specs.declared.turns.Turn.TheVariants as turn
+use Rattle.volume.specs.declared.plans.CutPlan.{CutPlan}
+use Rattle.volume.specs.declared.turns.Transition.{Transition}
+use Rattle.volume.specs.declared.turns.Transition.TheVariants as turn
 use Rattle.volume.specs.Asking.{queries_from}
 use Rattle.volume.specs.Data.{VolumeData, volume_of}
 use Rattle.volume.specs.Fencing.{new_fencing, PullsQuorum, GoesOn, HearsFencing, RetriesFencing}
@@ -63,7 +63,7 @@ use Rattle.volume_engines.proofs.Reaching.{HasReported, HaveReported, own_front,
 use Rattle.volume_engines.proofs.TakingSteps.{TakingHas, PhaseHas, TurnHas, Agrees, hears_taking, retries_taking}
 use Rattle.volume_engines.proofs.Writings.{IsAgreed, agreed_later, KnowsWriting, writing_later, writing_keeps, writing_raises, writing_writes, writing_hears, writing_begins}
 
-taking_more : (P Q : Plan → Type 0) → ((plan : Plan) → P plan → Q plan) → (st : Stage) → TakingHas P st → TakingHas Q st
+taking_more : (P Q : CutPlan → Type 0) → ((plan : CutPlan) → P plan → Q plan) → (st : Stage) → TakingHas P st → TakingHas Q st
 taking_more P Q more (stage.Pulling left) is = tt
 taking_more P Q more (stage.Spreading plan known) is = tt
 taking_more P Q more (stage.Proposing plan accepted) is = tt
@@ -78,39 +78,39 @@ queries_silent q node zero = tt
 queries_silent q node (suc count) = (tt, queries_silent q (node + 1) count)
 
 -- what the phase has after a turn
-pub turned : (P : Plan → Type 0) (W : Writing → Type 0) (old new : VolumeData) (left : Phase) (t : Turn) (actions : List Action) → TurnHas P W left t
+pub turned : (P : CutPlan → Type 0) (W : Writing → Type 0) (old new : VolumeData) (left : Phase) (t : Transition) (actions : List Action) → TurnHas P W left t
     → Turns old left t actions new → PhaseHas P W new.phase
 turned P W old new left (turn.Stay asked) actions is says = subst (λ (v : VolumeData). PhaseHas P W v.phase) (sym says.1) is
 turned P W old new left (turn.Enter next asked) actions is says = subst (λ (v : VolumeData). PhaseHas P W v.phase) (sym says.1) is
 turned P W old new left (turn.End asked) actions is says = subst (λ (v : VolumeData). PhaseHas P W v.phase) (sym says.1) tt
 
 -- ---- before a quorum is fenced
-module _ (P : Plan → Type 0) (W : Writing → Type 0) (f : Fencing) where
-  stays_in : (left : Phase) (t : Turn) (asked : List Action) → PhaseHas P W left → Stays t asked → TurnHas P W left t
+module _ (P : CutPlan → Type 0) (W : Writing → Type 0) (f : Fencing) where
+  stays_in : (left : Phase) (t : Transition) (asked : List Action) → PhaseHas P W left → Stays t asked → TurnHas P W left t
   stays_in left (turn.Stay actions) asked is says = is
   stays_in left (turn.Enter next actions) asked is says = absurd says
   stays_in left (turn.End actions) asked is says = tt
 
-  enters_in : (left next : Phase) (t : Turn) (asked : List Action) → PhaseHas P W next → Enters t next asked → TurnHas P W left t
+  enters_in : (left next : Phase) (t : Transition) (asked : List Action) → PhaseHas P W next → Enters t next asked → TurnHas P W left t
   enters_in left next (turn.Stay actions) asked is says = absurd says
   enters_in left next (turn.Enter p actions) asked is says = subst (PhaseHas P W) (sym says.0) is
   enters_in left next (turn.End actions) asked is says = tt
 
-  stops_in : (left : Phase) (t : Turn) (fault : Fault) → StopsWith t fault → TurnHas P W left t
+  stops_in : (left : Phase) (t : Transition) (fault : Fault) → StopsWith t fault → TurnHas P W left t
   stops_in left (turn.Stay actions) fault says = absurd says
   stops_in left (turn.Enter p actions) fault says = absurd says
   stops_in left (turn.End actions) fault says = tt
 
-  abbrev Left : Turn → Type 0
+  abbrev Left : Transition → Type 0
   Left t = TurnHas P W (phase.Fencing f) t
 
-  goes_on : (s : SettingsData) (new : Fencing) (t : Turn) (asked : List Action) → GoesOn s new t asked → Left t
+  goes_on : (s : SettingsData) (new : Fencing) (t : Transition) (asked : List Action) → GoesOn s new t asked → Left t
   goes_on s new t asked says = ⊎_elim
       (λ more. enters_in (phase.Fencing f) (phase.Fencing new) t asked tt more.1)
       (λ few. stops_in (phase.Fencing f) t _ few.1)
       says
 
-  pulls : (s : SettingsData) (new : Fencing) (node birth : ℕ) (t : Turn) → PullsQuorum s new node birth t → Left t
+  pulls : (s : SettingsData) (new : Fencing) (node birth : ℕ) (t : Transition) → PullsQuorum s new node birth t → Left t
   pulls s new node birth (turn.Enter (phase.Opening o) actions) says = subst (TakingHas P) (sym says.0.stage) tt
   pulls s new node birth (turn.Enter phase.Idle actions) says = tt
   pulls s new node birth (turn.Enter (phase.Creating c) actions) says = tt
@@ -119,7 +119,7 @@ module _ (P : Plan → Type 0) (W : Writing → Type 0) (f : Fencing) where
   pulls s new node birth (turn.Stay actions) says = tt
   pulls s new node birth (turn.End actions) says = tt
 
-  fences : (s : SettingsData) (node : ℕ) (shown : Reply) (t : Turn) → HearsFencing s f node shown t → Left t
+  fences : (s : SettingsData) (node : ℕ) (shown : Reply) (t : Transition) → HearsFencing s f node shown t → Left t
   fences s node (reply.Fenced generation birth accepted) t says = ⊎_elim
       (λ own. ⊎_elim
       (λ few. enters_in (phase.Fencing f) (phase.Fencing _) t [] tt few.1)
@@ -137,7 +137,7 @@ module _ (P : Plan → Type 0) (W : Writing → Type 0) (f : Fencing) where
       says
   fences s node other t says = stays_in (phase.Fencing f) t [] tt says
 
-  refences : (s : SettingsData) (node : ℕ) (t : Turn) → RetriesFencing s f node t → Left t
+  refences : (s : SettingsData) (node : ℕ) (t : Transition) → RetriesFencing s f node t → Left t
   refences s node t says = ⊎_elim
       (λ no. stays_in (phase.Fencing f) t [] tt no.1)
       (λ yes. goes_on s _ t _ yes.1)
@@ -145,7 +145,7 @@ module _ (P : Plan → Type 0) (W : Writing → Type 0) (f : Fencing) where
 
 module _ (run : VolumeRun) (h : History) (stop : ℕ) (content : ReplicaData → Content) (guards : Guards) (e : ℕ) (life : Life) (count : ℕ)
     (is : IsLifeIn run h stop content guards e life count) where
-  abbrev Plan_at : ℕ → Plan → Type 0
+  abbrev Plan_at : ℕ → CutPlan → Type 0
   Plan_at n plan = IsAgreed run e (life.moments n) plan
 
   abbrev Has : ℕ → Phase → Type 0
@@ -253,11 +253,11 @@ module _ (run : VolumeRun) (h : History) (stop : ℕ) (content : ReplicaData →
           }
       agrees node other within given = tt
 
-      opens : (plan : Plan) (union : State) (w : Writing) → Plan_at (suc n) plan → plan.is_pending ≡ false → TakesPlan o.union plan.cut union
+      opens : (plan : CutPlan) (union : State) (w : Writing) → Plan_at (suc n) plan → plan.is_pending ≡ false → TakesPlan o.union plan.cut union
           → BeginsWriting o.session union plan.cut w → KnowsWriting run h e life (suc n) w
       opens plan union w agreed own taken begins = writing_begins run h e life (suc n) o.session union plan w opening.session.generation agreed own begins
 
-      hears_on : (node : ℕ) (shown : Reply) (left : Phase) (t : Turn) → node < run.roster → WasGiven run guards e life (suc n) node shown → Has n (phase.Opening o)
+      hears_on : (node : ℕ) (shown : Reply) (left : Phase) (t : Transition) → node < run.roster → WasGiven run guards e life (suc n) node shown → Has n (phase.Opening o)
           → Hears Old.settings (phase.Opening o) node shown left t → Turns Old left t (life.actions (suc n)) New → Has (suc n) New.phase
       hears_on node shown (phase.Opening p) t within given has says turns =
           turned (Plan_at (suc n)) (KnowsWriting run h e life (suc n)) Old New (phase.Opening p) t (life.actions (suc n))
@@ -268,25 +268,25 @@ module _ (run : VolumeRun) (h : History) (stop : ℕ) (content : ReplicaData →
       hears_on node shown (phase.Fencing f) t within given has says turns = absurd says
       hears_on node shown (phase.Open w) t within given has says turns = absurd says
 
-      retries_on : (node : ℕ) (t : Turn) → Has n (phase.Opening o) → Retries Old.settings (phase.Opening o) node t
+      retries_on : (node : ℕ) (t : Transition) → Has n (phase.Opening o) → Retries Old.settings (phase.Opening o) node t
           → Turns Old (phase.Opening o) t (life.actions (suc n)) New → Has (suc n) New.phase
       retries_on node t has says turns =
           turned (Plan_at (suc n)) (KnowsWriting run h e life (suc n)) Old New (phase.Opening o) t (life.actions (suc n))
           (retries_taking (Plan_at (suc n)) (KnowsWriting run h e life (suc n)) Old.settings.quorum node o (later (phase.Opening o) has) opens t says) turns
 
     -- ---- any other phase
-    idle_on : (left : Phase) (t : Turn) → Stays t [] → left ≡ phase.Idle → TurnHas (Plan_at (suc n)) (KnowsWriting run h e life (suc n)) left t
+    idle_on : (left : Phase) (t : Transition) → Stays t [] → left ≡ phase.Idle → TurnHas (Plan_at (suc n)) (KnowsWriting run h e life (suc n)) left t
     idle_on left (turn.Stay asked) stays same = subst (Has (suc n)) (sym same) tt
     idle_on left (turn.Enter next asked) stays same = absurd stays
     idle_on left (turn.End asked) stays same = tt
 
-    abbrev Turned : Phase → Turn → Type 0
+    abbrev Turned : Phase → Transition → Type 0
     Turned left t = TurnHas (Plan_at (suc n)) (KnowsWriting run h e life (suc n)) left t
 
-    ends_turn : (left : Phase) (t : Turn) → Turned left t → Turns Old left t (life.actions (suc n)) New → Has (suc n) New.phase
+    ends_turn : (left : Phase) (t : Transition) → Turned left t → Turns Old left t (life.actions (suc n)) New → Has (suc n) New.phase
     ends_turn left t has turns = turned (Plan_at (suc n)) (KnowsWriting run h e life (suc n)) Old New left t (life.actions (suc n)) has turns
 
-    hears_in : (p left : Phase) (t : Turn) (node : ℕ) (shown : Reply) → IsShut p → Old.phase ≡ p → node < Old.settings.nodes
+    hears_in : (p left : Phase) (t : Transition) (node : ℕ) (shown : Reply) → IsShut p → Old.phase ≡ p → node < Old.settings.nodes
         → WasGiven run guards e life (suc n) node shown → Has n p → Hears Old.settings p node shown left t → Turns Old left t (life.actions (suc n)) New
         → Has (suc n) New.phase
     hears_in phase.Idle left t node shown shut at within given has says turns = ends_turn left t (idle_on left t says.0 says.1) turns
@@ -300,7 +300,7 @@ module _ (run : VolumeRun) (h : History) (stop : ℕ) (content : ReplicaData →
         hears_on o at node shown left t (let roster : Old.settings.nodes ≡ run.roster = nodes_are in omega arith) given has says turns
     hears_in (phase.Open w) left t node shown shut at within given has says turns = absurd shut
 
-    retries_in : (p : Phase) (t : Turn) (node : ℕ) → IsShut p → Old.phase ≡ p → Has n p → Retries Old.settings p node t
+    retries_in : (p : Phase) (t : Transition) (node : ℕ) → IsShut p → Old.phase ≡ p → Has n p → Retries Old.settings p node t
         → Turns Old p t (life.actions (suc n)) New → Has (suc n) New.phase
     retries_in phase.Idle t node shut at has says turns = ends_turn phase.Idle t (idle_on phase.Idle t says refl) turns
     retries_in (phase.Creating c) t node shut at has says turns = absurd (subst (λ (p : Phase). KnowsPhase run h guards e life n p) at knows.knows)

@@ -23,9 +23,9 @@ use Rattle.volume.specs.declared.phases.Phase.TheVariants as phase
 use Rattle.volume.specs.declared.phases.Stage.{Stage}
 use Rattle.volume.specs.declared.phases.Stage.TheVariants as stage
 use Rattle.volume.specs.declared.phases.Writing.{Writing}
-use Rattle.volume.specs.declared.plans.Plan.{Plan}
-use Rattle.volume.specs.declared.turns.Turn.{Turn}
-use Rattle.volume.specs.declared.turns.Turn.TheVariants as turn
+use Rattle.volume.specs.declared.plans.CutPlan.{CutPlan}
+use Rattle.volume.specs.declared.turns.Transition.{Transition}
+use Rattle.volume.specs.declared.turns.Transition.TheVariants as turn
 use Rattle.volume.specs.Data.{VolumeData}
 use Rattle.volume.specs.Opening.{IsQuorum}
 use Rattle.volume.specs.Planning.{IsOwnCut}
@@ -69,7 +69,7 @@ call_refused does old new actions (phase.Fencing f) shut says = refusal old new 
 call_refused does old new actions (phase.Opening o) shut says = refusal old new _ actions says
 call_refused does old new actions (phase.Open w) shut says = absurd shut
 
-pub turned_leaves : (F : Type 0) (H : State → Stage → Type 0) (W : Writing → Type 0) (old new : VolumeData) (left : Phase) (t : Turn) (actions : List Action)
+pub turned_leaves : (F : Type 0) (H : State → Stage → Type 0) (W : Writing → Type 0) (old new : VolumeData) (left : Phase) (t : Transition) (actions : List Action)
     → LeavesAfter F H W left t → Turns old left t actions new → LeavesIn F H W new.phase actions
 turned_leaves F H W old new left (turn.Stay asked) actions is says =
     subst (λ (v : VolumeData). LeavesIn F H W v.phase actions) (sym says.1) (subst (λ (xs : List Action). LeavesIn F H W left xs) (sym says.0) is)
@@ -83,9 +83,9 @@ MayHear Heard other = Unit {0}
 
 module _ (F : Type 0) (H : State → Stage → Type 0) (W : Writing → Type 0) (Heard : ℕ → Reply → Type 0) (old new : VolumeData) (actions : List Action) (p : Phase)
     (at : old.phase ≡ p) (shut : IsShut p) (same : AllHave (λ c. ⊥) actions → LeavesIn F H W p actions)
-    (hears : (node : ℕ) (shown : Reply) (left : Phase) (t : Turn) → node < old.settings.nodes → Heard node shown → Hears old.settings p node shown left t
+    (hears : (node : ℕ) (shown : Reply) (left : Phase) (t : Transition) → node < old.settings.nodes → Heard node shown → Hears old.settings p node shown left t
     → LeavesAfter F H W left t)
-    (retries : (node : ℕ) (t : Turn) → Retries old.settings p node t → LeavesAfter F H W p t) where
+    (retries : (node : ℕ) (t : Transition) → Retries old.settings p node t → LeavesAfter F H W p t) where
   stays_in : IsNothing old actions new → LeavesIn F H W new.phase actions
   stays_in none = subst (λ (q : Phase). LeavesIn F H W q actions) (sym (ap (λ (v : VolumeData). v.phase) none.0 ∙ at)) (same none.1)
 
@@ -140,7 +140,7 @@ module _ (run : VolumeRun) (h : History) (stop : ℕ) (content : ReplicaData →
 
   -- Since step `first` the opening proposes the plan of its own; until then it has proposed pending ones alone. The union means facts that the
   -- log had by then.
-  pub record IsSettled (n first : ℕ) (u : State) (plan : Plan) : Type 0 where
+  pub record IsSettled (n first : ℕ) (u : State) (plan : CutPlan) : Type 0 where
     pub own : plan.is_pending ≡ false
     pub upto : first ≤ n
     pub none : NoneOwn first
@@ -148,13 +148,13 @@ module _ (run : VolumeRun) (h : History) (stop : ℕ) (content : ReplicaData →
     pub cut : IsOwnCut u plan.cut
 
   -- node i has accepted the plan since then
-  abbrev pub HasVoted : ℕ → ℕ → Plan → ℕ → Type 0
+  abbrev pub HasVoted : ℕ → ℕ → CutPlan → ℕ → Type 0
   HasVoted n first plan i = (s : ℕ) × (life.moments first ≤ s) × (s < life.moments n) × MakesMove run s i (Accepts e plan.cut.epoch)
 
-  abbrev pub HaveVoted : ℕ → ℕ → Plan → List Bool → Type 0
+  abbrev pub HaveVoted : ℕ → ℕ → CutPlan → List Bool → Type 0
   HaveVoted n first plan accepted = (i : ℕ) → is_marked accepted i ≡ true → (i < run.roster) × HasVoted n first plan i
 
-  abbrev pub IsUnsettled : ℕ → Plan → Type 0
+  abbrev pub IsUnsettled : ℕ → CutPlan → Type 0
   IsUnsettled n plan = (plan.is_pending ≡ true) × NoneOwn n
 
   abbrev pub SettledStage : ℕ → State → Stage → Type 0
@@ -189,11 +189,11 @@ module _ (run : VolumeRun) (h : History) (stop : ℕ) (content : ReplicaData →
   heard_by n other may = tt
 
   module _ (n : ℕ) (step : suc n < count) where
-    voted_later : (first : ℕ) (plan : Plan) (i : ℕ) → HasVoted n first plan i → HasVoted (suc n) first plan i
+    voted_later : (first : ℕ) (plan : CutPlan) (i : ℕ) → HasVoted n first plan i → HasVoted (suc n) first plan i
     voted_later first plan i x =
         let before : x.0 < life.moments n = x.2 in let next : life.moments n ≤ life.moments (suc n) = is.lives.in_time n step in (x.0, x.1, omega arith, x.3)
 
-    settled_later : (first : ℕ) (u : State) (plan : Plan) → IsSettled n first u plan → IsSettled (suc n) first u plan
+    settled_later : (first : ℕ) (u : State) (plan : CutPlan) → IsSettled n first u plan → IsSettled (suc n) first u plan
     settled_later first u plan s =
         record { own = s.own; upto = (let low : first ≤ n = s.upto in omega arith); none = s.none; union = s.union; cut = s.cut }
 
@@ -209,17 +209,17 @@ module _ (run : VolumeRun) (h : History) (stop : ℕ) (content : ReplicaData →
       none_now : (st : Stage) → o.stage ≡ st → NoneOwn n → ((c : CutData) → CutOf st c → c.epoch < (run.engines e).opens) → Own
       none_now st same none low = none_more (CutOf st) n none (subst (λ (x : Stage). AllHave (CutOf x) (life.actions n)) same after.1) low
 
-      pending_now : (plan : Plan) (accepted : List Bool) → o.stage ≡ stage.Proposing plan accepted → IsUnsettled n plan → Own
+      pending_now : (plan : CutPlan) (accepted : List Bool) → o.stage ≡ stage.Proposing plan accepted → IsUnsettled n plan → Own
       pending_now plan accepted same x =
           let stage_at : KnowsStage run h e (life.moments n) o.union o.pair (stage.Proposing plan accepted) =
           subst (KnowsStage run h e (life.moments n) o.union o.pair) same opening.at in
           none_now (stage.Proposing plan accepted) same x.1 (λ c of.
           let below : plan.cut.epoch < (run.engines e).opens = stage_at.3.pending x.0 in
-          let one : plan.cut.epoch ≡ of.0.cut.epoch = ap (λ (q : Plan). q.cut.epoch) of.1 in
+          let one : plan.cut.epoch ≡ of.0.cut.epoch = ap (λ (q : CutPlan). q.cut.epoch) of.1 in
           let two : of.0.cut.epoch ≡ c.epoch = ap (λ (d : CutData). d.epoch) of.2 in
           omega arith)
 
-      taking_now : (plan : Plan) (reported : List Bool) → o.stage ≡ stage.Taking plan reported → IsUnsettled n plan → Own
+      taking_now : (plan : CutPlan) (reported : List Bool) → o.stage ≡ stage.Taking plan reported → IsUnsettled n plan → Own
       taking_now plan reported same x = none_now (stage.Taking plan reported) same x.1 (λ c of. absurd of.1)
 
       -- the same stage, one step later
@@ -251,7 +251,7 @@ module _ (run : VolumeRun) (h : History) (stop : ℕ) (content : ReplicaData →
       gathers u (stage.Proposing plan accepted) none on = absurd on
       gathers u (stage.Taking plan reported) none on = absurd on
 
-      begins : (plan : Plan) (known : List Bool) → o.stage ≡ stage.Spreading plan known → SettledStage (suc n) o.union (stage.Proposing plan no_nodes)
+      begins : (plan : CutPlan) (known : List Bool) → o.stage ≡ stage.Spreading plan known → SettledStage (suc n) o.union (stage.Proposing plan no_nodes)
       begins plan known same =
           let none : Own = has_later (stage.Spreading plan known) same (subst (SettledStage n o.union) same after.0) in
           let stage_at : KnowsStage run h e (life.moments n) o.union o.pair (stage.Spreading plan known) =
@@ -310,7 +310,7 @@ module _ (run : VolumeRun) (h : History) (stop : ℕ) (content : ReplicaData →
         vote_of other given = tt
 
         -- it came after the plan was proposed
-        counted : (first : ℕ) (plan : Plan) (accepted : List Bool) → o.stage ≡ stage.Proposing plan accepted → IsSettled n first o.union plan
+        counted : (first : ℕ) (plan : CutPlan) (accepted : List Bool) → o.stage ≡ stage.Proposing plan accepted → IsSettled n first o.union plan
             → HaveVoted n first plan accepted → IsVote plan.cut.epoch → HaveVoted (suc n) first plan (slice_set accepted node true)
         counted first plan accepted same s votes v i marked =
             let stage_at : KnowsStage run h e (life.moments n) o.union o.pair (stage.Proposing plan accepted) =
@@ -334,14 +334,14 @@ module _ (run : VolumeRun) (h : History) (stop : ℕ) (content : ReplicaData →
             (λ (old : is_marked accepted i ≡ true). let y = votes i old in (y.0, voted_later first plan i y.1))
             (marked_more accepted node i marked)
 
-        counts : (plan : Plan) (accepted : List Bool) → o.stage ≡ stage.Proposing plan accepted → IsVote plan.cut.epoch
+        counts : (plan : CutPlan) (accepted : List Bool) → o.stage ≡ stage.Proposing plan accepted → IsVote plan.cut.epoch
             → SettledStage (suc n) o.union (stage.Proposing plan (slice_set accepted node true))
         counts plan accepted same v = ⊎_elim
             (λ x. inl (x.0, pending_now plan accepted same x))
             (λ x. inr (x.0, settled_later x.0 o.union plan x.1, counted x.0 plan accepted same x.1 x.2 v))
             (let has : SettledStage n o.union (stage.Proposing plan accepted) = subst (SettledStage n o.union) same after.0 in has)
 
-        agrees : (quorum : ℕ) → quorum ≡ run.quorum → (plan : Plan) (accepted : List Bool) → o.stage ≡ stage.Proposing plan accepted → IsVote plan.cut.epoch
+        agrees : (quorum : ℕ) → quorum ≡ run.quorum → (plan : CutPlan) (accepted : List Bool) → o.stage ≡ stage.Proposing plan accepted → IsVote plan.cut.epoch
             → IsQuorum quorum (slice_set accepted node true) → SettledStage (suc n) o.union (stage.Taking plan no_nodes)
         agrees quorum q_is plan accepted same v enough = ⊎_elim
             (λ x. inl (x.0, pending_now plan accepted same x))
@@ -353,7 +353,7 @@ module _ (run : VolumeRun) (h : History) (stop : ℕ) (content : ReplicaData →
             ))
             (let has : SettledStage n o.union (stage.Proposing plan accepted) = subst (SettledStage n o.union) same after.0 in has)
 
-      reports : (plan : Plan) (reported more : List Bool) → o.stage ≡ stage.Taking plan reported → SettledStage (suc n) o.union (stage.Taking plan more)
+      reports : (plan : CutPlan) (reported more : List Bool) → o.stage ≡ stage.Taking plan reported → SettledStage (suc n) o.union (stage.Taking plan more)
       reports plan reported more same = has_later (stage.Taking plan reported) same (subst (SettledStage n o.union) same after.0)
 
       has_now : SettledStage (suc n) o.union o.stage
@@ -362,10 +362,10 @@ module _ (run : VolumeRun) (h : History) (stop : ℕ) (content : ReplicaData →
       seeks : (u : State) (st : Stage) → Seeks o.stage → IsGathering st → SettledStage (suc n) u st
       seeks u st seek on = gathers u st (none_seeking o.stage refl seek after.0) on
 
-      abbrev Next : Phase → Turn → Type 0
+      abbrev Next : Phase → Transition → Type 0
       Next left t = LeavesAfter Own (SettledStage (suc n)) (λ w. Unit {0}) left t
 
-      hears_on : (node : ℕ) (shown : Reply) (left : Phase) (t : Turn) → node < (life.states (suc n)).settings.nodes → WasGiven run guards e life (suc n) node shown
+      hears_on : (node : ℕ) (shown : Reply) (left : Phase) (t : Transition) → node < (life.states (suc n)).settings.nodes → WasGiven run guards e life (suc n) node shown
           → Hears (life.states (suc n)).settings (phase.Opening o) node shown left t → Next left t
       hears_on node shown (phase.Opening p) t inside given says =
           let nodes : (life.states (suc n)).settings.nodes ≡ run.roster = ap (λ (s : SettingsData). s.nodes) (knows run h stop content guards e life count is n step).settings ∙ is.lives.nodes in
@@ -378,7 +378,7 @@ module _ (run : VolumeRun) (h : History) (stop : ℕ) (content : ReplicaData →
       hears_on node shown (phase.Fencing f) t inside given says = absurd says
       hears_on node shown (phase.Open w) t inside given says = absurd says
 
-      retries_on : (node : ℕ) (t : Turn) → Retries (life.states (suc n)).settings (phase.Opening o) node t → Next (phase.Opening o) t
+      retries_on : (node : ℕ) (t : Transition) → Retries (life.states (suc n)).settings (phase.Opening o) node t → Next (phase.Opening o) t
       retries_on node t says =
           retries_settling Own (SettledStage (suc n)) (λ w. Unit {0}) (λ k. ⊥) (life.states (suc n)).settings.quorum node o has_now seeks begins
           (λ plan accepted same v. absurd v) (λ plan accepted same v enough. absurd v) reports (λ plan reported u w same own taken starts. tt) t says
@@ -396,10 +396,10 @@ module _ (run : VolumeRun) (h : History) (stop : ℕ) (content : ReplicaData →
       none_fencing : NoneOwn (suc n)
       none_fencing = none_more (λ c. ⊥) n after.0 after.1 (λ c no. absurd no)
 
-      abbrev Fences : Phase → Turn → Type 0
+      abbrev Fences : Phase → Transition → Type 0
       Fences left t = LeavesAfter (NoneOwn (suc n)) (SettledStage (suc n)) (λ w. Unit {0}) left t
 
-      fences_on : (node : ℕ) (shown : Reply) (left : Phase) (t : Turn) → Hears (life.states (suc n)).settings (phase.Fencing f) node shown left t → Fences left t
+      fences_on : (node : ℕ) (shown : Reply) (left : Phase) (t : Transition) → Hears (life.states (suc n)).settings (phase.Fencing f) node shown left t → Fences left t
       fences_on node shown left t says =
           subst (λ (p : Phase). Fences p t) (sym says.1)
           (fences_settling (NoneOwn (suc n)) (SettledStage (suc n)) (λ w. Unit {0}) f none_fencing (λ u left. none_fencing)

@@ -28,9 +28,9 @@ use Rattle.volume.specs.declared.phases.Phase.TheVariants as phase
 use Rattle.volume.specs.declared.phases.Stage.{Stage}
 use Rattle.volume.specs.declared.phases.Stage.TheVariants as stage
 use Rattle.volume.specs.declared.phases.Writing.{Writing}
-use Rattle.volume.specs.declared.plans.Plan.{Plan}
-use Rattle.volume.specs.declared.turns.Turn.{Turn}
-use Rattle.volume.specs.declared.turns.Turn.TheVariants as turn
+use Rattle.volume.specs.declared.plans.CutPlan.{CutPlan}
+use Rattle.volume.specs.declared.turns.Transition.{Transition}
+use Rattle.volume.specs.declared.turns.Transition.TheVariants as turn
 use Rattle.volume.specs.Asking.{requests_of, asks_of, asks_from, asks_at, queries_from, query_to}
 use Rattle.volume.specs.Fencing.{PullsQuorum, GoesOn, HearsFencing, RetriesFencing}
 use Rattle.volume.specs.Opening.{opened_with, asking_with, asked_with, AsksWith, at_stage, with_union, to_each, EndsAlone, ChangesNothing, IsQuorum, Plans, GoesOnPulling, HearsDelta, HearsSummary, PullsAgain, joining_of, AdmitsFresh, ProposesPlan, Knows, HearsAccepted, TakesPlan, BeginsEpoch, HearsFront, HearsHeaded, asks_in_stage, HearsLate, HearsLost, HearsOpening, asks_again, retries_opening}
@@ -61,7 +61,7 @@ ErrandHas P other = Unit {0}
 
 -- the truncation of the plan that is proposed at the stage
 abbrev pub CutOf : Stage → CutData → Type 0
-CutOf st cut = (plan : Plan) × IsPlanOf st plan × (plan.cut ≡ cut)
+CutOf st cut = (plan : CutPlan) × IsPlanOf st plan × (plan.cut ≡ cut)
 
 module _ (P : CutData → Type 0) where
   requests_have : (generation birth : ℕ) (er : Errand) → ErrandHas P er → AllByRecursion (RequestHas P) (requests_of generation birth er)
@@ -164,7 +164,7 @@ LeavesIn F H W (phase.Opening o) asked = H o.union o.stage × AllHave (CutOf o.s
 LeavesIn F H W (phase.Open w) asked = W w
 LeavesIn F H W other asked = Unit {0}
 
-abbrev pub LeavesAfter : Type 0 → (State → Stage → Type 0) → (Writing → Type 0) → Phase → Turn → Type 0
+abbrev pub LeavesAfter : Type 0 → (State → Stage → Type 0) → (Writing → Type 0) → Phase → Transition → Type 0
 LeavesAfter F H W left (turn.Stay asked) = LeavesIn F H W left asked.items
 LeavesAfter F H W left (turn.Enter next asked) = LeavesIn F H W next asked.items
 LeavesAfter F H W left (turn.End asked) = Unit {0}
@@ -172,38 +172,38 @@ LeavesAfter F H W left (turn.End asked) = Unit {0}
 -- ---- an opening
 module _ (F : Type 0) (H : State → Stage → Type 0) (W : Writing → Type 0) (V : ℕ → Type 0) (quorum node : ℕ) (old : Opening) (has : H old.union old.stage)
     (seeks : (u : State) (st : Stage) → Seeks old.stage → IsGathering st → H u st)
-    (begins : (plan : Plan) (known : List Bool) → old.stage ≡ stage.Spreading plan known → H old.union (stage.Proposing plan no_nodes))
-    (counts : (plan : Plan) (accepted : List Bool) → old.stage ≡ stage.Proposing plan accepted → V plan.cut.epoch
+    (begins : (plan : CutPlan) (known : List Bool) → old.stage ≡ stage.Spreading plan known → H old.union (stage.Proposing plan no_nodes))
+    (counts : (plan : CutPlan) (accepted : List Bool) → old.stage ≡ stage.Proposing plan accepted → V plan.cut.epoch
     → H old.union (stage.Proposing plan (slice_set accepted node true)))
-    (agrees : (plan : Plan) (accepted : List Bool) → old.stage ≡ stage.Proposing plan accepted → V plan.cut.epoch
+    (agrees : (plan : CutPlan) (accepted : List Bool) → old.stage ≡ stage.Proposing plan accepted → V plan.cut.epoch
     → IsQuorum quorum (slice_set accepted node true) → H old.union (stage.Taking plan no_nodes))
-    (reports : (plan : Plan) (reported more : List Bool) → old.stage ≡ stage.Taking plan reported → H old.union (stage.Taking plan more))
-    (opens : (plan : Plan) (reported : List Bool) (u : State) (w : Writing) → old.stage ≡ stage.Taking plan reported → plan.is_pending ≡ false
+    (reports : (plan : CutPlan) (reported more : List Bool) → old.stage ≡ stage.Taking plan reported → H old.union (stage.Taking plan more))
+    (opens : (plan : CutPlan) (reported : List Bool) (u : State) (w : Writing) → old.stage ≡ stage.Taking plan reported → plan.is_pending ≡ false
     → TakesPlan old.union plan.cut u → BeginsWriting old.session u plan.cut w → W w) where
-  abbrev Left : Opening → Turn → Type 0
+  abbrev Left : Opening → Transition → Type 0
   Left new t = LeavesAfter F H W (phase.Opening new) t
 
-  stays : (new : Opening) (t : Turn) (asked : List Action) → Stays t asked → H new.union new.stage → AllHave (CutOf new.stage) asked → Left new t
+  stays : (new : Opening) (t : Transition) (asked : List Action) → Stays t asked → H new.union new.stage → AllHave (CutOf new.stage) asked → Left new t
   stays new (turn.Stay actions) asked says is all = (is, subst (AllHave (CutOf new.stage)) (sym says) all)
   stays new (turn.Enter next actions) asked says is all = absurd says
   stays new (turn.End actions) asked says is all = absurd says
 
-  stops : (new : Opening) (t : Turn) (f : Fault) → StopsWith t f → Left new t
+  stops : (new : Opening) (t : Transition) (f : Fault) → StopsWith t f → Left new t
   stops new (turn.Stay actions) f says = absurd says
   stops new (turn.Enter next actions) f says = absurd says
   stops new (turn.End actions) f says = tt
 
-  goes_to : (new o : Opening) (t : Turn) (asked : List Action) → new ≡ o → Stays t asked → H o.union o.stage → AllHave (CutOf o.stage) asked → Left new t
+  goes_to : (new o : Opening) (t : Transition) (asked : List Action) → new ≡ o → Stays t asked → H o.union o.stage → AllHave (CutOf o.stage) asked → Left new t
   goes_to new o t asked same says is all = subst (λ (x : Opening). Left x t) (sym same) (stays o t asked says is all)
 
-  idle : (new : Opening) (t : Turn) → ChangesNothing old new t → Left new t
+  idle : (new : Opening) (t : Transition) → ChangesNothing old new t → Left new t
   idle new t says = goes_to new old t [] says.1 says.0 has tt
 
-  ends : (new : Opening) (t : Turn) (f : Fault) → EndsAlone old new t f → Left new t
+  ends : (new : Opening) (t : Transition) (f : Fault) → EndsAlone old new t f → Left new t
   ends new t f says = stops new t f says.0
 
   -- ---- pulling
-  plans : (u : State) (new : Opening) (t : Turn) → Seeks old.stage → Plans old u new t → Left new t
+  plans : (u : State) (new : Opening) (t : Transition) → Seeks old.stage → Plans old u new t → Left new t
   plans u new t seek says = ⊎_elim
       (λ plan.
       let next : Stage = stage.Spreading plan.0 no_nodes in
@@ -212,7 +212,7 @@ module _ (F : Type 0) (H : State → Stage → Type 0) (W : Writing → Type 0) 
       (λ fault. ends new t fault.0 fault.2)
       says
 
-  asks_with : (u : State) (left : List Bool) (asked : Option SummaryData) (new : Opening) (t : Turn) → Seeks old.stage → AsksWith old left u asked new t
+  asks_with : (u : State) (left : List Bool) (asked : Option SummaryData) (new : Opening) (t : Transition) → Seeks old.stage → AsksWith old left u asked new t
       → Left new t
   asks_with u left None new t seek says = absurd says
   asks_with u left (Some asked) new t seek says =
@@ -220,7 +220,7 @@ module _ (F : Type 0) (H : State → Stage → Type 0) (W : Writing → Type 0) 
       goes_to new (asking_with old u asked next) t (to_each old (errand.Pull asked)) says.1 says.2 (seeks u next seek tt)
       (each_has (CutOf next) 0 old.session.generation old.session.births (errand.Pull asked) tt)
 
-  goes_on_pulling : (u : State) (left : List Bool) (new : Opening) (t : Turn) → Seeks old.stage → GoesOnPulling old u left new t → Left new t
+  goes_on_pulling : (u : State) (left : List Bool) (new : Opening) (t : Transition) → Seeks old.stage → GoesOnPulling old u left new t → Left new t
   goes_on_pulling u left new t seek says = ⊎_elim
       (λ first. asks_with u left new.asked new t seek first.2)
       (λ rest. ⊎_elim
@@ -229,7 +229,7 @@ module _ (F : Type 0) (H : State → Stage → Type 0) (W : Writing → Type 0) 
       rest)
       says
 
-  hears_delta : (st : Stage) (delta : DeltaData) (new : Opening) (t : Turn) → old.stage ≡ st → HearsDelta old st node delta new t → Left new t
+  hears_delta : (st : Stage) (delta : DeltaData) (new : Opening) (t : Transition) → old.stage ≡ st → HearsDelta old st node delta new t → Left new t
   hears_delta (stage.Pulling left) delta new t at says = ⊎_elim
       (λ among. ⊎_elim
       (λ damaged. ends new t Damaged damaged.1)
@@ -242,7 +242,7 @@ module _ (F : Type 0) (H : State → Stage → Type 0) (W : Writing → Type 0) 
   hears_delta (stage.Taking plan reported) delta new t at says = idle new t says
 
   -- ---- spreading
-  hears_summary : (st : Stage) (summary : SummaryData) (new : Opening) (t : Turn) → HearsSummary old st node summary new t → Left new t
+  hears_summary : (st : Stage) (summary : SummaryData) (new : Opening) (t : Transition) → HearsSummary old st node summary new t → Left new t
   hears_summary (stage.Spreading plan known) summary new t says = ⊎_elim
       (λ damaged. ends new t Damaged damaged.1)
       (λ fills.
@@ -260,7 +260,7 @@ module _ (F : Type 0) (H : State → Stage → Type 0) (W : Writing → Type 0) 
       (each_has P 0 old.session.generation old.fresh (errand.Join old.summary some.0 (joining_of old some.1)) tt))
       says
 
-  proposes : (plan : Plan) (known : List Bool) (new : Opening) (t : Turn) → old.stage ≡ stage.Spreading plan known → ProposesPlan old plan new t → Left new t
+  proposes : (plan : CutPlan) (known : List Bool) (new : Opening) (t : Transition) → old.stage ≡ stage.Spreading plan known → ProposesPlan old plan new t → Left new t
   proposes plan known new t at says = ⊎_elim
       (λ damaged. ends new t Damaged damaged.1)
       (λ sends.
@@ -271,7 +271,7 @@ module _ (F : Type 0) (H : State → Stage → Type 0) (W : Writing → Type 0) 
       (each_has (CutOf next) 0 old.session.generation old.session.births (errand.Propose plan.cut) (plan, refl, refl))))
       says
 
-  pulls_again : (new : Opening) (t : Turn) → Seeks old.stage → PullsAgain old node new t → Left new t
+  pulls_again : (new : Opening) (t : Transition) → Seeks old.stage → PullsAgain old node new t → Left new t
   pulls_again new t seek says = ⊎_elim
       (λ no. idle new t no.1)
       (λ again.
@@ -281,7 +281,7 @@ module _ (F : Type 0) (H : State → Stage → Type 0) (W : Writing → Type 0) 
       (one_has (CutOf next) node old.session.generation (birth_at old.session.births node) (errand.Pull (asked_with old)) tt))
       says
 
-  knows_more : (plan : Plan) (known more : List Bool) (new : Opening) (t : Turn) → old.stage ≡ stage.Spreading plan known → Knows quorum old plan more new t
+  knows_more : (plan : CutPlan) (known more : List Bool) (new : Opening) (t : Transition) → old.stage ≡ stage.Spreading plan known → Knows quorum old plan more new t
       → Left new t
   knows_more plan known more new t at says = ⊎_elim
       (λ few.
@@ -290,7 +290,7 @@ module _ (F : Type 0) (H : State → Stage → Type 0) (W : Writing → Type 0) 
       says
 
   -- ---- taking
-  opens_volume : (plan : Plan) (reported : List Bool) (u : State) (new : Opening) (t : Turn) → old.stage ≡ stage.Taking plan reported → plan.is_pending ≡ false
+  opens_volume : (plan : CutPlan) (reported : List Bool) (u : State) (new : Opening) (t : Transition) → old.stage ≡ stage.Taking plan reported → plan.is_pending ≡ false
       → TakesPlan old.union plan.cut u → OpensVolume old.session u plan.cut t → Left new t
   opens_volume plan reported u new (turn.Enter (phase.Open w) actions) at own taken says = opens plan reported u w at own taken says.0
   opens_volume plan reported u new (turn.Enter phase.Idle actions) at own taken says = absurd says.0
@@ -300,7 +300,7 @@ module _ (F : Type 0) (H : State → Stage → Type 0) (W : Writing → Type 0) 
   opens_volume plan reported u new (turn.Stay actions) at own taken says = absurd says.0
   opens_volume plan reported u new (turn.End actions) at own taken says = tt
 
-  begins_epoch : (plan : Plan) (reported : List Bool) (new : Opening) (t : Turn) → old.stage ≡ stage.Taking plan reported → BeginsEpoch old plan new t → Left new t
+  begins_epoch : (plan : CutPlan) (reported : List Bool) (new : Opening) (t : Transition) → old.stage ≡ stage.Taking plan reported → BeginsEpoch old plan new t → Left new t
   begins_epoch plan reported new t at says = ⊎_elim
       (λ damaged. ends new t Damaged damaged.1)
       (λ taken. ⊎_elim
@@ -309,7 +309,7 @@ module _ (F : Type 0) (H : State → Stage → Type 0) (W : Writing → Type 0) 
       taken.2)
       says
 
-  hears_front : (st : Stage) (front : Front) (new : Opening) (t : Turn) → old.stage ≡ st → HearsFront quorum old st node front new t → Left new t
+  hears_front : (st : Stage) (front : Front) (new : Opening) (t : Transition) → old.stage ≡ st → HearsFront quorum old st node front new t → Left new t
   hears_front (stage.Spreading plan known) front new t at says = ⊎_elim
       (λ later. pulls_again new t (subst Seeks (sym at) tt) later.1)
       (λ rest. ⊎_elim
@@ -328,14 +328,14 @@ module _ (F : Type 0) (H : State → Stage → Type 0) (W : Writing → Type 0) 
   hears_front (stage.Pulling left) front new t at says = idle new t says
   hears_front (stage.Proposing plan accepted) front new t at says = idle new t says
 
-  hears_headed : (shown : SegmentReply) (new : Opening) (t : Turn) → HearsHeaded quorum old node shown new t → Left new t
+  hears_headed : (shown : SegmentReply) (new : Opening) (t : Transition) → HearsHeaded quorum old node shown new t → Left new t
   hears_headed (told.Delta delta) new t says = hears_delta old.stage delta new t refl says
   hears_headed (told.Summary summary) new t says = hears_summary old.stage summary new t says
   hears_headed (told.Front front) new t says = hears_front old.stage front new t refl says
   hears_headed other new t says = idle new t says
 
   -- ---- acceptances
-  hears_accepted : (st : Stage) (epoch : ℕ) (new : Opening) (t : Turn) → old.stage ≡ st → V epoch → HearsAccepted quorum old st node epoch new t → Left new t
+  hears_accepted : (st : Stage) (epoch : ℕ) (new : Opening) (t : Transition) → old.stage ≡ st → V epoch → HearsAccepted quorum old st node epoch new t → Left new t
   hears_accepted (stage.Proposing plan accepted) epoch new t at vote says = ⊎_elim
       (λ no. idle new t no.1)
       (λ yes.
@@ -353,7 +353,7 @@ module _ (F : Type 0) (H : State → Stage → Type 0) (W : Writing → Type 0) 
   hears_accepted (stage.Taking plan reported) epoch new t at vote says = idle new t says
 
   -- ---- nodes that come late, or are lost
-  hears_late : (generation birth : ℕ) (new : Opening) (t : Turn) → HearsLate old node generation birth new t → Left new t
+  hears_late : (generation birth : ℕ) (new : Opening) (t : Transition) → HearsLate old node generation birth new t → Left new t
   hears_late generation birth new t says = ⊎_elim
       (λ no. idle new t no.1)
       (λ late.
@@ -362,7 +362,7 @@ module _ (F : Type 0) (H : State → Stage → Type 0) (W : Writing → Type 0) 
       (stage_asks old.stage generation node (birth_at (with_birth old.session node birth).births node)))
       says
 
-  hears_lost : (st : Stage) (new : Opening) (t : Turn) → HearsLost quorum old st node new t → Left new t
+  hears_lost : (st : Stage) (new : Opening) (t : Transition) → HearsLost quorum old st node new t → Left new t
   hears_lost (stage.Pulling left) new t says = ⊎_elim
       (λ lost. ends new t (NoQuorum lost.1.0 quorum) lost.1.1)
       (λ no. idle new t no.1)
@@ -372,7 +372,7 @@ module _ (F : Type 0) (H : State → Stage → Type 0) (W : Writing → Type 0) 
   hears_lost (stage.Taking plan reported) new t says = idle new t says
 
   -- ---- replies
-  pub hears_settling : (shown : Reply) (new : Opening) (t : Turn) → VoteOf V shown → HearsOpening quorum old node shown new t → Left new t
+  pub hears_settling : (shown : Reply) (new : Opening) (t : Transition) → VoteOf V shown → HearsOpening quorum old node shown new t → Left new t
   hears_settling (reply.Headed generation birth shown) new t vote says = ⊎_elim
       (λ own. hears_headed shown new t own.1)
       (λ no. idle new t no.1)
@@ -390,38 +390,38 @@ module _ (F : Type 0) (H : State → Stage → Type 0) (W : Writing → Type 0) 
   hears_settling (reply.Fresh birth) new t vote says = hears_lost old.stage new t says
   hears_settling other new t vote says = idle new t says
 
-  pub retries_settling : (t : Turn) → Stays t (retries_opening old old.stage node) → Left old t
+  pub retries_settling : (t : Transition) → Stays t (retries_opening old old.stage node) → Left old t
   retries_settling t says =
       goes_to old old t (retries_opening old old.stage node) refl says has (again_asks old old.stage node (birth_at old.session.births node))
 
 -- ---- before a quorum is fenced
 module _ (F : Type 0) (H : State → Stage → Type 0) (W : Writing → Type 0) (f : Fencing) (none : F) (first : (u : State) (left : List Bool) → H u (stage.Pulling left)) where
-  abbrev Fences : Turn → Type 0
+  abbrev Fences : Transition → Type 0
   Fences t = LeavesAfter F H W (phase.Fencing f) t
 
-  stays_fencing : (t : Turn) → Stays t [] → Fences t
+  stays_fencing : (t : Transition) → Stays t [] → Fences t
   stays_fencing (turn.Stay actions) says = (none, subst (AllHave (λ c. ⊥)) (sym says) tt)
   stays_fencing (turn.Enter next actions) says = absurd says
   stays_fencing (turn.End actions) says = absurd says
 
-  enters : (new : Fencing) (t : Turn) (asked : List Action) → Enters t (phase.Fencing new) asked → AllHave (λ c. ⊥) asked → Fences t
+  enters : (new : Fencing) (t : Transition) (asked : List Action) → Enters t (phase.Fencing new) asked → AllHave (λ c. ⊥) asked → Fences t
   enters new (turn.Stay actions) asked says all = absurd says
   enters new (turn.Enter p actions) asked says all =
       subst (λ (q : Phase). LeavesIn F H W q actions.items) (sym says.0) (none, subst (AllHave (λ c. ⊥)) (sym says.1) all)
   enters new (turn.End actions) asked says all = absurd says
 
-  stops_fencing : (t : Turn) (fault : Fault) → StopsWith t fault → Fences t
+  stops_fencing : (t : Transition) (fault : Fault) → StopsWith t fault → Fences t
   stops_fencing (turn.Stay actions) fault says = absurd says
   stops_fencing (turn.Enter p actions) fault says = absurd says
   stops_fencing (turn.End actions) fault says = tt
 
-  goes_on : (s : SettingsData) (new : Fencing) (t : Turn) (asked : List Action) → AllHave (λ c. ⊥) asked → GoesOn s new t asked → Fences t
+  goes_on : (s : SettingsData) (new : Fencing) (t : Transition) (asked : List Action) → AllHave (λ c. ⊥) asked → GoesOn s new t asked → Fences t
   goes_on s new t asked all says = ⊎_elim
       (λ more. enters new t asked more.1 all)
       (λ few. stops_fencing t _ few.1)
       says
 
-  pulls : (s : SettingsData) (new : Fencing) (node birth : ℕ) (t : Turn) → PullsQuorum s new node birth t → Fences t
+  pulls : (s : SettingsData) (new : Fencing) (node birth : ℕ) (t : Transition) → PullsQuorum s new node birth t → Fences t
   pulls s new node birth (turn.Enter (phase.Opening o) actions) says = (
     subst (λ (st : Stage). H o.union st) (sym says.0.stage) (first o.union _),
     subst (AllHave (CutOf o.stage)) (sym says.1) (one_has (CutOf o.stage) node new.generation (Some birth) (errand.Pull o.summary) tt),
@@ -433,7 +433,7 @@ module _ (F : Type 0) (H : State → Stage → Type 0) (W : Writing → Type 0) 
   pulls s new node birth (turn.Stay actions) says = absurd says
   pulls s new node birth (turn.End actions) says = absurd says
 
-  pub fences_settling : (s : SettingsData) (node : ℕ) (shown : Reply) (t : Turn) → HearsFencing s f node shown t → Fences t
+  pub fences_settling : (s : SettingsData) (node : ℕ) (shown : Reply) (t : Transition) → HearsFencing s f node shown t → Fences t
   fences_settling s node (reply.Fenced generation birth accepted) t says = ⊎_elim
       (λ own. ⊎_elim
       (λ few. enters _ t [] few.1 tt)
@@ -451,7 +451,7 @@ module _ (F : Type 0) (H : State → Stage → Type 0) (W : Writing → Type 0) 
       says
   fences_settling s node other t says = stays_fencing t says
 
-  pub refences_settling : (s : SettingsData) (node : ℕ) (t : Turn) → RetriesFencing s f node t → Fences t
+  pub refences_settling : (s : SettingsData) (node : ℕ) (t : Transition) → RetriesFencing s f node t → Fences t
   refences_settling s node t says = ⊎_elim
       (λ no. stays_fencing t no.1)
       (λ yes. goes_on s _ t (query_to (query.Fence f.generation) node) (query_has (λ c. ⊥) node (query.Fence f.generation)) yes.1)

@@ -28,9 +28,9 @@ use Rattle.volume.specs.declared.phases.Phase.TheVariants as phase
 use Rattle.volume.specs.declared.phases.Stage.{Stage}
 use Rattle.volume.specs.declared.phases.Stage.TheVariants as stage
 use Rattle.volume.specs.declared.phases.Writing.{Writing}
-use Rattle.volume.specs.declared.plans.Plan.{Plan}
-use Rattle.volume.specs.declared.turns.Turn.{Turn}
-use Rattle.volume.specs.declared.turns.Turn.TheVariants as turn
+use Rattle.volume.specs.declared.plans.CutPlan.{CutPlan}
+use Rattle.volume.specs.declared.turns.Transition.{Transition}
+use Rattle.volume.specs.declared.turns.Transition.TheVariants as turn
 use Rattle.volume.specs.Data.{VolumeData, volume_of, at_phase}
 use Rattle.volume.specs.Fencing.{new_fencing}
 use Rattle.volume.specs.Settings.{SettingsData}
@@ -70,7 +70,7 @@ use Rattle.volume_engines.proofs.HearingOpening.{hears_opening, retries_in_openi
 use Rattle.volume_engines.proofs.HearingWriting.{page_right, end_right, raise_right, hears_writing, retries_writing}
 
 -- ---- what a turn says of the phase after it
-enters_phase : (old new : VolumeData) (left : Phase) (t : Turn) (actions : List Action) (o : Opening) → EntersOpening t o → Turns old left t actions new
+enters_phase : (old new : VolumeData) (left : Phase) (t : Transition) (actions : List Action) (o : Opening) → EntersOpening t o → Turns old left t actions new
     → new.phase ≡ phase.Opening o
 enters_phase old new left (turn.Enter (phase.Opening p) asked) actions o same says =
     ap (λ (v : VolumeData). v.phase) says.1 ∙ ap (λ (x : Opening). phase.Opening x) same
@@ -81,7 +81,7 @@ enters_phase old new left (turn.Enter (phase.Open w) asked) actions o same says 
 enters_phase old new left (turn.Stay asked) actions o same says = absurd same
 enters_phase old new left (turn.End asked) actions o same says = absurd same
 
-stays_phase : (old new : VolumeData) (left : Phase) (t : Turn) (actions asked : List Action) → Stays t asked → Turns old left t actions new → new.phase ≡ left
+stays_phase : (old new : VolumeData) (left : Phase) (t : Transition) (actions asked : List Action) → Stays t asked → Turns old left t actions new → new.phase ≡ left
 stays_phase old new left (turn.Stay xs) actions asked stays says = ap (λ (v : VolumeData). v.phase) says.1
 stays_phase old new left (turn.Enter next xs) actions asked stays says = absurd stays
 stays_phase old new left (turn.End xs) actions asked stays says = absurd stays
@@ -131,7 +131,7 @@ module _ (run : VolumeRun) (h : History) (stop : ℕ) (content : ReplicaData →
         → Leaves run h guards e life (suc n) p q (life.actions (suc n))
     leaves_as p q asked same leaves = subst (λ (xs : List Action). Leaves run h guards e life (suc n) p q xs) (sym same) leaves
 
-    turned : (p left : Phase) (t : Turn) → old.phase ≡ p → LeavesTurn run h guards e life (suc n) p left t → Turns old left t (life.actions (suc n)) new
+    turned : (p left : Phase) (t : Transition) → old.phase ≡ p → LeavesTurn run h guards e life (suc n) p left t → Turns old left t (life.actions (suc n)) new
         → Knows (suc n) new
     turned p left (turn.Stay asked) from leaves says = leads p left from says.1 (leaves_as p left asked.items says.0 leaves)
     turned p left (turn.Enter next asked) from leaves says = leads p next from says.1 (leaves_as p next asked.items says.0 leaves)
@@ -237,7 +237,7 @@ module _ (run : VolumeRun) (h : History) (stop : ℕ) (content : ReplicaData →
       phase_after : (p : Phase) → new.phase ≡ p → (life.states (suc (suc n))).phase ≡ p
       phase_after p to = ap (λ (v : VolumeData). v.phase) after ∙ to
 
-      hears : (p left : Phase) (t : Turn) (node : ℕ) (told : Reply) → old.phase ≡ p → node < old.settings.nodes
+      hears : (p left : Phase) (t : Transition) (node : ℕ) (told : Reply) → old.phase ≡ p → node < old.settings.nodes
           → life.events (suc n) ≡ event.Answered node told → WasGiven run guards e life (suc n) node told
           → Hears old.settings p node told left t → Turns old left t (life.actions (suc n)) new → Knows (suc n) new
       hears phase.Idle left t node told from inside at given says turns =
@@ -253,7 +253,7 @@ module _ (run : VolumeRun) (h : History) (stop : ℕ) (content : ReplicaData →
           (knows_of (phase.Fencing f) from) names says.0 in
           turned (phase.Fencing f) left t from (subst (λ (q : Phase). LeavesTurn run h guards e life (suc n) (phase.Fencing f) q t) (sym says.1) leaves) turns
       hears (phase.Opening o) (phase.Opening p) t node told from inside at given says turns =
-          let names : (plan : Plan) (accepted : List Bool) (asked : List Action) → Stays t asked → p.stage ≡ stage.Proposing plan accepted → NamesPlan plan (run.engines e) =
+          let names : (plan : CutPlan) (accepted : List Bool) (asked : List Action) → Stays t asked → p.stage ≡ stage.Proposing plan accepted → NamesPlan plan (run.engines e) =
           λ plan accepted asked stays proposing.
           names_plan life count (run.engines e) is.names (plans_in_order run guards e life count is.lives) (suc n) plan step
           (subst (λ (ph : Phase). IsPlanIn ph plan)
@@ -277,7 +277,7 @@ module _ (run : VolumeRun) (h : History) (stop : ℕ) (content : ReplicaData →
       hears (phase.Open w) (phase.Opening o) t node told from inside at given says turns = absurd says
 
       -- ---- broken connections
-      retries : (p : Phase) (t : Turn) (node : ℕ) → old.phase ≡ p → life.events (suc n) ≡ event.Failed node → Retries old.settings p node t
+      retries : (p : Phase) (t : Transition) (node : ℕ) → old.phase ≡ p → life.events (suc n) ≡ event.Failed node → Retries old.settings p node t
           → Turns old p t (life.actions (suc n)) new → Knows (suc n) new
       retries phase.Idle t node from at says turns =
           turned phase.Idle phase.Idle t from

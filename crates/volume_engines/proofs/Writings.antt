@@ -11,7 +11,7 @@ use Rattle.redo_core.proofs.Members.{none_in, here, filtered}
 use Rattle.volume.specs.declared.phases.Phase.TheVariants as phase
 use Rattle.volume.specs.declared.phases.Session.{Session}
 use Rattle.volume.specs.declared.phases.Writing.{Writing}
-use Rattle.volume.specs.declared.plans.Plan.{Plan}
+use Rattle.volume.specs.declared.plans.CutPlan.{CutPlan}
 use Rattle.volume.specs.Resuming.{BeginsWriting}
 use Rattle.volume.specs.Writing.{WritesRecord, RaisesDurably, records_above, with_reached}
 use Rattle.volume_theorems.specs.Runs.{VolumeRun, MakesMove, Many}
@@ -28,7 +28,7 @@ use Rattle.volume_engines.proofs.Reaching.{HasReported, HaveReported, have_later
 
 -- ---- the truncation that is taken
 -- the plan is the engine's, and a quorum has accepted it
-pub record IsAgreed (run : VolumeRun) (e t : ℕ) (plan : Plan) : Type 0 where
+pub record IsAgreed (run : VolumeRun) (e t : ℕ) (plan : CutPlan) : Type 0 where
   pub below : ℕ
   pub epoch : plan.cut.epoch ≡ suc below
   pub named : NamesPlan plan (run.engines e)
@@ -39,7 +39,7 @@ many_earlier : (run : VolumeRun) (e s t k : ℕ) → s ≤ t → Many run (λ i.
 many_earlier run e s t k order many =
     (many.0, many.1, λ i among. let x = many.2 i among in let before : x.0 < s = x.1 in (x.0, omega arith, x.2))
 
-pub agreed_later : (run : VolumeRun) (e s t : ℕ) (plan : Plan) → s ≤ t → IsAgreed run e s plan → IsAgreed run e t plan
+pub agreed_later : (run : VolumeRun) (e s t : ℕ) (plan : CutPlan) → s ≤ t → IsAgreed run e s plan → IsAgreed run e t plan
 agreed_later run e s t plan order is = record {
   below = is.below;
   epoch = is.epoch;
@@ -47,7 +47,7 @@ agreed_later run e s t plan order is = record {
   accepted = many_earlier run e s t plan.cut.epoch order is.accepted;
 }
 
-pub agreed_opened : (run : VolumeRun) (e t : ℕ) (plan : Plan) → plan.is_pending ≡ false → IsAgreed run e t plan → HasOpenedBy run t e plan.cut.epoch
+pub agreed_opened : (run : VolumeRun) (e t : ℕ) (plan : CutPlan) → plan.is_pending ≡ false → IsAgreed run e t plan → HasOpenedBy run t e plan.cut.epoch
 agreed_opened run e t plan own is = record { own = is.named.own own; accepted = is.accepted }
 
 -- ---- an open volume
@@ -171,7 +171,7 @@ none_reached zero i some = let no : 0 < 0 = some in absurd (omega arith)
 none_reached (suc m) zero some = let no : 0 < 0 = some in absurd (omega arith)
 none_reached (suc m) (suc i) some = none_reached m i some
 
-pub writing_begins : (run : VolumeRun) (h : History) (e : ℕ) (life : Life) (n : ℕ) (session : Session) (union : State) (plan : Plan) (w : Writing)
+pub writing_begins : (run : VolumeRun) (h : History) (e : ℕ) (life : Life) (n : ℕ) (session : Session) (union : State) (plan : CutPlan) (w : Writing)
     → session.generation ≡ life.generation → IsAgreed run e (life.moments n) plan → plan.is_pending ≡ false → BeginsWriting session union plan.cut w
     → KnowsWriting run h e life n w
 writing_begins run h e life n session union plan w same is own begins = record {

@@ -7,7 +7,7 @@ use Rattle.volume.specs.declared.events.Event.TheVariants as event
 use Rattle.volume.specs.declared.fencing.Fencing.{Fencing}
 use Rattle.volume.specs.declared.phases.Opening.{Opening}
 use Rattle.volume.specs.declared.phases.Phase.TheVariants as phase
-use Rattle.volume.specs.declared.plans.Plan.{Plan}
+use Rattle.volume.specs.declared.plans.CutPlan.{CutPlan}
 use Rattle.volume.specs.Sets.{is_marked}
 use Rattle.volume_theorems.specs.Runs.{VolumeRun, Engine}
 use Rattle.volume_engines.specs.Lives.{Life, Guards, IsLife}
@@ -34,14 +34,14 @@ pub record Gathers (life : Life) (n : ℕ) (o : Opening) (e : Engine) : Type 0 w
   pub fenced : (i : ℕ) → e.fenced i ≡ fenced_by life (suc n) i
 
 -- step n is the first one after which the machine proposes such a plan
-pub record IsFirstPlan (life : Life) (IsSuch : Plan → Type 0) (n : ℕ) (plan : Plan) : Type 0 where
+pub record IsFirstPlan (life : Life) (IsSuch : CutPlan → Type 0) (n : ℕ) (plan : CutPlan) : Type 0 where
   pub proposed : ProposesAt life n plan
   pub such : IsSuch plan
-  pub first : (m : ℕ) (other : Plan) → m < n → ProposesAt life m other → ¬ (IsSuch other)
+  pub first : (m : ℕ) (other : CutPlan) → m < n → ProposesAt life m other → ¬ (IsSuch other)
 
 -- only pending truncations are proposed in the first steps
 abbrev pub AreAllPending : Life → ℕ → Type 0
-AreAllPending life count = (n : ℕ) (plan : Plan) → n < count → ProposesAt life n plan → plan.is_pending ≡ true
+AreAllPending life count = (n : ℕ) (plan : CutPlan) → n < count → ProposesAt life n plan → plan.is_pending ≡ true
 
 -- The engine of the run has the name of what the first steps of the life show: its generation, its quorum, the truncation that is first proposed
 -- for each epoch, and the epoch of the first one that the engine makes itself; while there is none, an epoch above those of all pending ones.
@@ -49,9 +49,9 @@ pub record IsEngineOf (life : Life) (count : ℕ) (e : Engine) : Type 0 where
   pub generation : e.generation ≡ life.generation
   pub gathers : (n : ℕ) (f : Fencing) (o : Opening) → n < count → (life.states n).phase ≡ phase.Fencing f
       → (life.states (suc n)).phase ≡ phase.Opening o → Gathers life n o e
-  pub cuts : (n : ℕ) (plan : Plan) → n < count → IsFirstPlan life (λ p. p.cut.epoch ≡ plan.cut.epoch) n plan → e.cuts plan.cut.epoch ≡ plan.cut
-  pub opens : (n : ℕ) (plan : Plan) → n < count → IsFirstPlan life (λ p. p.is_pending ≡ false) n plan → e.opens ≡ plan.cut.epoch
-  pub above : AreAllPending life count → (n : ℕ) (plan : Plan) → n < count → ProposesAt life n plan → plan.cut.epoch < e.opens
+  pub cuts : (n : ℕ) (plan : CutPlan) → n < count → IsFirstPlan life (λ p. p.cut.epoch ≡ plan.cut.epoch) n plan → e.cuts plan.cut.epoch ≡ plan.cut
+  pub opens : (n : ℕ) (plan : CutPlan) → n < count → IsFirstPlan life (λ p. p.is_pending ≡ false) n plan → e.opens ≡ plan.cut.epoch
+  pub above : AreAllPending life count → (n : ℕ) (plan : CutPlan) → n < count → ProposesAt life n plan → plan.cut.epoch < e.opens
 
 -- For each life there is such an engine.
 abbrev pub LivesNameEngines : Type 0

@@ -5,7 +5,7 @@ use case_io::{Row, eight, nth, size, word};
 use log_law::{CheckFault, check_log};
 use redo_core::{Fact, LawFault, Roster};
 use reference_model::{
-    Position, Standing, anchor, complete_epoch, complete_point, covers, first_fault, is_alive,
+    ModelStanding, Position, anchor, complete_epoch, complete_point, covers, first_fault, is_alive,
     is_linked, min_point, page_at, point, points, position, same, standing,
 };
 use std::alloc::{AllocError, Global};
@@ -111,8 +111,8 @@ fn told(facts: &[Fact], row: &Row) -> Answer {
         "min_point" => Answer::Number(min_point(&eight(row.words))),
         "is_linked" => Answer::Flag(is_linked(facts, view, row.number(1))),
         "is_alive" => Answer::Flag(is_alive(facts, view, epoch, number)),
-        "waits" => Answer::Flag(standing(facts, view, epoch, number) == Standing::Waiting),
-        "is_dead" => Answer::Flag(standing(facts, view, epoch, number) == Standing::Dead),
+        "waits" => Answer::Flag(standing(facts, view, epoch, number) == ModelStanding::Waiting),
+        "is_dead" => Answer::Flag(standing(facts, view, epoch, number) == ModelStanding::Dead),
         _ => Answer::Unknown,
     }
 }

@@ -13,13 +13,13 @@ use std::{io, mem, thread};
 
 /// A trail with its length, and the number of reads, which is no part of the state that it keeps.
 #[derive(Drop)]
-pub struct Diary {
+pub struct CountedTrail {
     trail: Vec<(u64, u64)>,
     count: usize,
     looks: u64,
 }
 
-impl Trailed for Diary {
+impl Trailed for CountedTrail {
     ghost use Rattle.std.specs.Prelude.{◌≡◌, ◌≤◌, length};
     ghost use Rattle.std.proofs.Common.{le_refl, le_trans};
 
@@ -34,11 +34,11 @@ impl Trailed for Diary {
     ghost transitive = { λ a b c first next. le_trans first next };
 }
 
-impl Diary {
-    fn new(alloc: Global) -> Diary
+impl CountedTrail {
+    fn new(alloc: Global) -> CountedTrail
         ensures { (result.trail.items ≡ []) × (result.count ≡ 0) }
     {
-        Diary {
+        CountedTrail {
             trail: Vec::new(alloc),
             count: 0,
             looks: 0,
@@ -80,8 +80,8 @@ impl Diary {
 // Appends an entry. The state is returned on both paths.
 fn append<R: Wait>(
     rt: &R,
-    lock: &Lock<Diary>,
-    pass: &mut Pass<Diary>,
+    lock: &Lock<CountedTrail>,
+    pass: &mut Pass<CountedTrail>,
     log_place: u64,
 ) -> Result<(), AllocError>
     requires { IsIdlePass lock.now.id pass.old }
@@ -104,11 +104,11 @@ fn append<R: Wait>(
 // Appends entries at the log indices from `first` on.
 fn append_all<R: Wait>(
     rt: &R,
-    lock: &Lock<Diary>,
-    mut pass: Pass<Diary>,
+    lock: &Lock<CountedTrail>,
+    mut pass: Pass<CountedTrail>,
     first: u64,
     count: u64,
-) -> Result<Pass<Diary>, AllocError>
+) -> Result<Pass<CountedTrail>, AllocError>
     requires pass { IsIdlePass lock.now.id pass }
     requires range { first + count < 2 ^ 64 }
     ensures { IfOk result (λ p. IsIdlePass lock.now.id p) }
@@ -122,20 +122,20 @@ fn append_all<R: Wait>(
 /// A lock with two passes.
 #[derive(Drop)]
 pub struct Diaries {
-    lock: Lock<Diary>,
-    one: Pass<Diary>,
-    other: Pass<Diary>,
+    lock: Lock<CountedTrail>,
+    one: Pass<CountedTrail>,
+    other: Pass<CountedTrail>,
     ghost idle: { IsIdlePass lock.id one × IsIdlePass lock.id other },
 }
 
-type Opened = (Lock<Diary>, Vec<Pass<Diary>>);
+type Opened = (Lock<CountedTrail>, Vec<Pass<CountedTrail>>);
 
 fn open_lock(alloc: Global, passes: u64) -> Result<Opened, AllocError>
     requires { (0 < passes) × (passes ≤ MAX_PASSES) }
     ensures idle { IfOk result (λ t. AreIdle t.0.id t.1.items) }
     ensures count { IfOk result (λ t. length t.1.items ≡ passes) }
 {
-    or_fault(Lock::open(alloc, Diary::new(alloc), passes))
+    or_fault(Lock::open(alloc, CountedTrail::new(alloc), passes))
 }
 
 fn opened(alloc: Global) -> Result<Diaries, AllocError> {
@@ -193,7 +193,11 @@ pub fn close<R: Wait>(rt: &R, diaries: &mut Box<Diaries>, row: &Row) -> io::Resu
 }
 
 // The first pass goes into an empty list.
-fn closed_by_one<R: Wait>(rt: &R, diaries: Diaries, mut passes: Vec<Pass<Diary>>) -> Diary
+fn closed_by_one<R: Wait>(
+    rt: &R,
+    diaries: Diaries,
+    mut passes: Vec<Pass<CountedTrail>>,
+) -> CountedTrail
     requires { (passes.items ≡ []) × (0 < vec_capacity passes) }
 {
     let Diaries {
@@ -206,14 +210,14 @@ fn closed_by_one<R: Wait>(rt: &R, diaries: Diaries, mut passes: Vec<Pass<Diary>>
 }
 
 // What a pass's thread returns.
-type Back = Result<Pass<Diary>, AllocError>;
+type Back = Result<Pass<CountedTrail>, AllocError>;
 
 // Two threads append 1000 entries each, by a pass of their own.
 fn append_twice<R: Threads + Wait + Sync>(
     rt: &R,
-    lock: &Lock<Diary>,
-    one: Pass<Diary>,
-    other: Pass<Diary>,
+    lock: &Lock<CountedTrail>,
+    one: Pass<CountedTrail>,
+    other: Pass<CountedTrail>,
 ) -> (Back, Back)
     requires { IsIdlePass lock.now.id one × IsIdlePass lock.now.id other }
     ensures one { IfOk result.0 (λ p. IsIdlePass lock.now.id p) }
@@ -232,7 +236,10 @@ fn append_twice<R: Threads + Wait + Sync>(
     )
 }
 
-fn appended_twice<R: Threads + Wait + Sync>(rt: &R, alloc: Global) -> Result<Diary, AllocError> {
+fn appended_twice<R: Threads + Wait + Sync>(
+    rt: &R,
+    alloc: Global,
+) -> Result<CountedTrail, AllocError> {
     let Diaries { lock, one, other } = opened(alloc)?;
     let (one, other) = append_twice(rt, &lock, one, other);
     let passes = Vec::from_array(alloc, [one?, other?])?;

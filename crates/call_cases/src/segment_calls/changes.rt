@@ -4,7 +4,7 @@ use crate::keeping::done;
 use crate::outcomes::{committed, discard, fold, taken, tidied};
 use crate::segment_calls::bench::Fixture;
 use crate::segment_calls::pairs;
-use crate::segment_calls::questions::{Shown, show};
+use crate::segment_calls::questions::{ShownSegment, show};
 use case_io::Row;
 use redo_core::Fact;
 use segment_core::{Folded, MergeTransaction, Segment};
@@ -44,7 +44,7 @@ fn shown_in_union(
     first: Fact,
     second: Fact,
     third: Fact,
-) -> Result<Shown, AllocError> {
+) -> Result<ShownSegment, AllocError> {
     let mut saved = segment.savepoint()?;
     let mut union = MergeTransaction::begin(segment, &mut saved);
     let _first = union.take(first);

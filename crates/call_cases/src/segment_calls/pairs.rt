@@ -4,8 +4,8 @@ use crate::segment_calls::bench::Fixture;
 use crate::segment_calls::questions;
 use case_io::Row;
 use redo_core::{Key, Record};
-use segment_core::Segment;
-use segment_join::{covers, join, kept_of, same};
+use segment_core::{Segment, kept_of};
+use segment_join::{covers, join, same};
 use std::alloc::{AllocError, Global};
 
 /// Whether the one covers the other, the other the one, and whether they mean the same.

@@ -8,10 +8,10 @@ use std::alloc::AllocError;
 
 /// What a segment has: its front and base point, how many records it stores, the least key of a stored record, how many images it
 /// stores, and the versions of the pages 7 and 8.
-pub type Shown = (Front, u64, usize, Option<Key>, usize, (u64, u64));
+pub type ShownSegment = (Front, u64, usize, Option<Key>, usize, (u64, u64));
 
 /// What the segment has.
-pub fn show(segment: &Segment) -> Result<Shown, AllocError> {
+pub fn show(segment: &Segment) -> Result<ShownSegment, AllocError> {
     let held = segment.stored()?.len();
     let (least, images) = (segment.key_after(None), segment.pages().len());
     let versions = (segment.version(7), segment.version(8));

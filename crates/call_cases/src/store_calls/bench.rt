@@ -3,7 +3,7 @@ use crate::keeping::renew;
 use crate::store_calls::log_changes;
 use case_io::Row;
 use epoch_book::EpochBook;
-use hot_log::{HotLog, View};
+use hot_log::{BookView, HotLog};
 use page_base::BaseStore;
 use redo_core::Roster;
 use std::alloc::{AllocError, Global};
@@ -24,8 +24,8 @@ pub struct Fixture {
 
 impl Fixture {
     /// The view of `log` by `book`.
-    pub fn view(&self) -> View<'_> {
-        View {
+    pub fn view(&self) -> BookView<'_> {
+        BookView {
             book: &self.book,
             held: &self.log,
         }

@@ -4,7 +4,7 @@ use crate::outcomes::numbers;
 use crate::store_calls::bench::Fixture;
 use crate::store_calls::book_calls;
 use case_io::Row;
-use hot_log::{Steps, View};
+use hot_log::{BookView, Steps};
 use redo_core::Record;
 use std::alloc::AllocError;
 
@@ -19,7 +19,7 @@ fn record(found: Option<&Record>) -> Answer {
 }
 
 // The greatest linked LSN, and how many records the search for it visits.
-fn linked(view: View, row: &Row) -> Result<Answer, AllocError> {
+fn linked(view: BookView, row: &Row) -> Result<Answer, AllocError> {
     let (from, limit) = (row.number(0), row.number(1));
     let mut steps = Steps::new();
     let linked = view.linked_counted(from, limit.max(from), &mut steps);
@@ -65,7 +65,7 @@ fn held(bench: &Fixture, row: &Row) -> Answer {
 }
 
 // The answer of a query of the chain from an LSN on, or of another call.
-fn chain(view: View, row: &Row) -> Answer {
+fn chain(view: BookView, row: &Row) -> Answer {
     let (first, second) = (row.number(0), row.number(1));
     match row.name {
         "linked_to" => Answer::Number(view.linked_to(first, second.max(first))),
@@ -80,7 +80,7 @@ fn chain(view: View, row: &Row) -> Answer {
 }
 
 // The first or the last record of a page.
-fn of_page(view: View, row: &Row) -> Answer {
+fn of_page(view: BookView, row: &Row) -> Answer {
     let (page, from, to) = (row.short(0), row.number(1), row.number(2));
     match row.name {
         "next_of" => record(view.next_of(page, from, to)),

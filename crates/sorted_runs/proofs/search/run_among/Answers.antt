@@ -5,9 +5,6 @@ use Rattle.std.specs.Ordering.{is_ge, is_lt}
 use Rattle.sorted_runs.proofs.Halved.{lower_half, one_run}
 use Rattle.sorted_runs.proofs.search.run_among.Goals as goal
 
-not_below : (p : Ordering) → is_ge p ≡ true → is_lt p ≡ false
-not_below p e = search rules
-
 pub returns-then-is_ge : goal.returns-then-is_ge
 returns-then-is_ge g c = grind (arith, common_steps)
 

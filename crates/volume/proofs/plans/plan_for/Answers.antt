@@ -6,11 +6,11 @@ use Rattle.segment_core.specs.Reading.{IsFrontOf}
 use Rattle.segment_core.specs.declared.answers.Front.{Front}
 use Rattle.guard.specs.declared.requests.AcceptedCut.{AcceptedCut}
 use Rattle.volume.specs.declared.actions.Fault.{Fault}
-use Rattle.volume.specs.declared.plans.Plan.{Plan}
+use Rattle.volume.specs.declared.plans.CutPlan.{CutPlan}
 use Rattle.volume.specs.Planning.{IsPending, IsCommitPoint, IsOwnPlan, MakesPlan, FindsPoint}
 use Rattle.volume.proofs.plans.plan_for.Goals as goal
 
-own_made : (union : State) (pair : Option AcceptedCut) (front : Front) (lo : ℕ) (made : Result Plan Fault)
+own_made : (union : State) (pair : Option AcceptedCut) (front : Front) (lo : ℕ) (made : Result CutPlan Fault)
     → IsFrontOf union front → IsCommitPoint union front.complete lo → ((cut : CutData) → IsPending pair front.epoch cut → ⊥)
     → IsOwnPlan front.epoch lo front.complete made → MakesPlan union pair made
 own_made union pair front lo (Err fault) own at none is = (front, own, inr (lo, at, is))

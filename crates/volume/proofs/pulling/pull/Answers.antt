@@ -3,12 +3,12 @@ use Rattle.std.specs.declared.alloc.AllocError.{AllocError}
 use Rattle.messages.specs.Deltas.{DeltaData}
 use Rattle.segment_theorems.specs.State.{State}
 use Rattle.volume.specs.declared.phases.Opening.{Opening}
-use Rattle.volume.specs.declared.turns.Turn.{Turn}
+use Rattle.volume.specs.declared.turns.Transition.{Transition}
 use Rattle.volume.specs.Opening.{asked_with, GrowsBy, GoesOnPulling, Pulls}
 use Rattle.volume.proofs.pulling.pull.Goals as goal
 
 -- the union has what the node has
-pulled : (old : Opening) (node : ℕ) (left : List Bool) (delta : DeltaData) (union : State) (new : Opening) (r : Result Turn AllocError)
+pulled : (old : Opening) (node : ℕ) (left : List Bool) (delta : DeltaData) (union : State) (new : Opening) (r : Result Transition AllocError)
     → GrowsBy old.union (asked_with old) delta union → IfOk r (GoesOnPulling old union (slice_set left node false) new) → IfOk r (Pulls old node left delta new)
 pulled old node left delta union new (Ok turn) grows goes = inr (union, grows, goes)
 pulled old node left delta union new (Err why) grows goes = goes

@@ -4,15 +4,15 @@ use Rattle.redo_core.specs.Data.{CutData}
 use Rattle.segment_theorems.specs.State.{State}
 use Rattle.volume.specs.declared.actions.Fault.TheVariants.{Damaged}
 use Rattle.volume.specs.declared.phases.Session.{Session}
-use Rattle.volume.specs.declared.turns.Turn.{Turn}
-use Rattle.volume.specs.declared.turns.Turn.TheVariants.{Stay, Enter, End}
+use Rattle.volume.specs.declared.turns.Transition.{Transition}
+use Rattle.volume.specs.declared.turns.Transition.TheVariants.{Stay, Enter, End}
 use Rattle.volume.specs.Planning.{RefusesRead}
 use Rattle.volume.specs.Resuming.{OpensVolume, RefusesPage}
 use Rattle.volume.specs.Turning.{StopsWith}
 use Rattle.volume.proofs.resuming.open_volume.Goals as goal
 
 -- an opening may end where a page is refused
-ends_damaged : (session : Session) (union : State) (cut : CutData) (told : Turn) → RefusesPage union cut.lo
+ends_damaged : (session : Session) (union : State) (cut : CutData) (told : Transition) → RefusesPage union cut.lo
     → StopsWith told Damaged → OpensVolume session union cut told
 ends_damaged session union cut (Stay actions) refuses stops = absurd stops
 ends_damaged session union cut (Enter phase actions) refuses stops = absurd stops

@@ -5,7 +5,6 @@ use Rattle.segment_theorems.specs.State.{State, state_of, version_of}
 use Rattle.segment_theorems.specs.HasMeaning.{HasAnchor}
 use Rattle.segment_theorems.specs.Promises.{KeepsMeaning}
 use Rattle.segment_core.specs.Forgetting.{DiscardsJust}
-use Rattle.segment_core.proofs.Chain.{own_anchor}
 use Rattle.segment_core.proofs.Following.{removal_keeps_points}
 use Rattle.segment_core.proofs.Forget.{discards_keep}
 use Rattle.segment_core.proofs.segment.Segment.discard.Goals as goal
@@ -16,10 +15,6 @@ before c = state_of c.self.inside.book c.self.inside.hot c.self.inside.base c.se
 
 unfoldable after : goal.After-discard → State
 after c = state_of c.self.inside.book c.discard.new.hot c.self.inside.points.anchor c.self.inside.store
-
-own : (c : goal.After-discard) → HasAnchor (before c) c.self.inside.points.anchor
-unfolding before
-own c = own_anchor c.self.inside.book c.self.inside.hot c.self.inside.base c.self.inside.store c.self.inside.points.anchor c.self.invariant.4.anchor
 
 just : (c : goal.After-discard) → DiscardsJust (before c) (after c)
 unfolding before after

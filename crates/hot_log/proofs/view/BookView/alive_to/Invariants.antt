@@ -1,0 +1,12 @@
+use Rattle.std.proofs.Common.{◌≡◌}
+use Rattle.redo_core.specs.Data.{RecordData}
+use Rattle.hot_log.proofs.Climb.{up_to}
+use Rattle.hot_log.proofs.Descent.{Under}
+use Rattle.hot_log.proofs.view.BookView.alive_to.Given as goal
+
+-- what is left is at or below the key
+abbrev pub invariant-loop-redo : goal.invariant-loop-redo
+invariant-loop-redo l = Under l.self.book.now l.self.held.now (λ (r : RecordData). r.page ≡ l.page) l.number l.at
+
+abbrev pub decreases-loop-redo : goal.decreases-loop-redo
+decreases-loop-redo l = up_to l.at l.self.held.now
