@@ -7,7 +7,7 @@ use Rattle.guard.specs.Refusing.{IsGuardRefusal, IsAfterGuardRefusal}
 use Rattle.guard.specs.declared.replies.Reply.{Reply}
 use Rattle.node_stream.specs.FrameReading.{many_in}
 use Rattle.node_stream.specs.GuardReading.{guard_request}
-use Rattle.node_stream.specs.GuardTelling.{guard_told, sure_for}
+use Rattle.node_stream.specs.GuardTelling.{guard_text, sure_for}
 use Rattle.node_stream.specs.Telling.{fault_text, rendered}
 use Rattle.node_stream.specs.Telling.BodyData.{Text}
 use Rattle.node_stream.specs.declared.asked.GuardAsked.{GuardAsked}
@@ -45,7 +45,7 @@ abbrev pub protocol : Form → Spoken
 protocol form = record {
   many = many_by form;
   asks = guard_request form;
-  reply = guard_told form;
+  reply = guard_text form;
   fault = λ why. text_in form (fault_text form why);
   memory = text_in form (codes "memory");
   long = text_in form (over_limit form);

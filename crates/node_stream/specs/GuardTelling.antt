@@ -41,31 +41,31 @@ abbrev pub guard_head : Reply → List ℕ
 guard_head (reply.Headed generation birth told) = heading generation birth
 guard_head told = []
 
--- what is told behind it of a reply; a page is shown through the window
-abbrev pub guard_said : Window → Reply → BodyData
-guard_said w (reply.Status generation birth is_member front accepted) =
+-- the body of the reply behind it; a page is shown through the window
+abbrev pub guard_body : Window → Reply → BodyData
+guard_body w (reply.Status generation birth is_member front accepted) =
     guard_numbers (codes "status") (status_numbers generation birth is_member front) accepted
-guard_said w (reply.Fenced generation birth accepted) = guard_numbers (codes "fenced") (generation ∷ birth ∷ []) accepted
-guard_said w (reply.Stale generation) = Text (numbered (codes "stale") (generation ∷ []))
-guard_said w (reply.Fresh birth) = Text (numbered (codes "fresh") (birth ∷ []))
-guard_said w (reply.Headed generation birth told) = body_of w told
-guard_said w (reply.Accepted generation birth epoch) = Text (numbered (codes "accepted") (generation ∷ birth ∷ epoch ∷ []))
-guard_said w (reply.Admitted generation birth) = Text (numbered (codes "admitted") (generation ∷ birth ∷ []))
-guard_said w reply.Member = Text (codes "member")
-guard_said w (reply.Stranger birth) = Text (numbered (codes "stranger") (birth ∷ []))
-guard_said w (reply.Behind epoch complete) = Text (numbered (codes "behind") (epoch ∷ complete ∷ []))
-guard_said w reply.Unguarded = Text (codes "unguarded")
-guard_said w (reply.Plain told) = body_of w told
+guard_body w (reply.Fenced generation birth accepted) = guard_numbers (codes "fenced") (generation ∷ birth ∷ []) accepted
+guard_body w (reply.Stale generation) = Text (numbered (codes "stale") (generation ∷ []))
+guard_body w (reply.Fresh birth) = Text (numbered (codes "fresh") (birth ∷ []))
+guard_body w (reply.Headed generation birth told) = body_of w told
+guard_body w (reply.Accepted generation birth epoch) = Text (numbered (codes "accepted") (generation ∷ birth ∷ epoch ∷ []))
+guard_body w (reply.Admitted generation birth) = Text (numbered (codes "admitted") (generation ∷ birth ∷ []))
+guard_body w reply.Member = Text (codes "member")
+guard_body w (reply.Stranger birth) = Text (numbered (codes "stranger") (birth ∷ []))
+guard_body w (reply.Behind epoch complete) = Text (numbered (codes "behind") (epoch ∷ complete ∷ []))
+guard_body w reply.Unguarded = Text (codes "unguarded")
+guard_body w (reply.Plain told) = body_of w told
 
 -- the line of a reply, with its LF, or its frame
-abbrev pub guard_told : Form → Window → Reply → List ℕ
-guard_told form w told = rendered form (guard_head told) (guard_said w told)
+abbrev pub guard_text : Form → Window → Reply → List ℕ
+guard_text form w told = rendered form (guard_head told) (guard_body w told)
 
 abbrev pub guard_line : Window → Reply → List ℕ
-guard_line = guard_told stream.Lines
+guard_line = guard_text stream.Lines
 
 abbrev pub guard_frame : Window → Reply → List ℕ
-guard_frame = guard_told stream.Frames
+guard_frame = guard_text stream.Frames
 
 -- ---- memory and room
 -- The replies whose answer takes memory. None of them is to a request that has changed more than a refusal does.

@@ -57,14 +57,42 @@ pub fn ended(form: Form, mut text: Short) -> Answer
 
 /// A text behind a head that has room for it.
 #[tactic(auto, using(crate::proofs::Rendered::short_behind))]
-fn short(form: Form, mut head: Short, text: &[u8]) -> Answer
-    requires { length head.items + length text.now < 256 }
-    ensures text { text_of result ≡ rendered form head.items (Text text.now) }
+fn joined(form: Form, head: &[u8], text: &[u8]) -> Answer
+    requires { length head.now + length text.now < 256 }
+    ensures text { text_of result ≡ rendered form head.now (Text text.now) }
     ensures few { length (text_of result) ≤ 256 }
-    ensures frame { form ≡ stream.Frames → length (text_of result) ≡ length head.items + length text.now }
+    ensures frame { form ≡ stream.Frames → length (text_of result) ≡ length head.now + length text.now }
 {
-    put(&mut head, text);
-    ended(form, head)
+    let mut all = Short::new();
+    put(&mut all, head);
+    put(&mut all, text);
+    ended(form, all)
+}
+
+/// The same, of a fixed text: a frame without a head is the text itself.
+fn fixed(form: Form, head: &[u8], text: &'static str) -> Answer
+    requires { length head.now + length text.now < 256 }
+    ensures text { text_of result ≡ rendered form head.now (Text text.now) }
+    ensures few { length (text_of result) ≤ 256 }
+    ensures frame { form ≡ stream.Frames → length (text_of result) ≡ length head.now + length text.now }
+{
+    match form {
+        Form::Frames if head.is_empty() => Answer::Fixed(text),
+        _ => joined(form, head, text.as_bytes()),
+    }
+}
+
+/// The same, of a short text.
+fn short(form: Form, head: &[u8], text: Short) -> Answer
+    requires { length head.now + length text.items < 256 }
+    ensures text { text_of result ≡ rendered form head.now (Text text.items) }
+    ensures few { length (text_of result) ≤ 256 }
+    ensures frame { form ≡ stream.Frames → length (text_of result) ≡ length head.now + length text.items }
+{
+    if head.is_empty() {
+        return ended(form, text);
+    }
+    joined(form, head, text.as_slice())
 }
 
 /// A text that was made, behind a head.
@@ -113,40 +141,38 @@ fn digits(alloc: Global, word: &str, bytes: &[u8]) -> Result<Vec<u8>, AllocError
 fn valued(
     alloc: Global,
     form: Form,
-    head: Short,
+    head: &[u8],
     word: &'static str,
     bytes: Vec<u8>,
 ) -> Result<Answer, AllocError>
-    requires head { length head.items ≤ 45 }
+    requires head { length head.now ≤ 45 }
     requires body { IsBody (ReplyBody.Bytes word bytes) }
-    ensures text { IfOk result (λ a. text_of a ≡ rendered form head.items (body_data (ReplyBody.Bytes word.entry bytes))) }
+    ensures text { IfOk result (λ a. text_of a ≡ rendered form head.now (body_data (ReplyBody.Bytes word.entry bytes))) }
     ensures short { form ≡ stream.Frames → IfOk result (λ a. IsShort (text_of a)) }
 {
     match form {
         Form::Lines => {
             let text = digits(alloc, word, &bytes[word.len() + 1..])?;
-            made(alloc, form, head.as_slice(), text)
+            made(alloc, form, head, text)
         }
-        Form::Frames if bytes.len() > LONGEST => {
-            Ok(short(form, head, too_long(word).as_slice()))
-        }
-        Form::Frames => made(alloc, form, head.as_slice(), bytes),
+        Form::Frames if bytes.len() > LONGEST => Ok(short(form, head, too_long(word))),
+        Form::Frames => made(alloc, form, head, bytes),
     }
 }
 
 /// The line or the frame of a body, behind a head. It fails only if memory runs out, and not for a text that is fixed or short.
-pub fn render(alloc: Global, form: Form, head: Short, body: ReplyBody) -> Result<Answer, AllocError>
-    requires head { length head.items ≤ 45 }
+pub fn render(alloc: Global, form: Form, head: &[u8], body: ReplyBody) -> Result<Answer, AllocError>
+    requires head { length head.now ≤ 45 }
     requires body { IsBody body }
-    ensures text { IfOk result (λ a. text_of a ≡ rendered form head.items (body_data body)) }
+    ensures text { IfOk result (λ a. text_of a ≡ rendered form head.now (body_data body)) }
     ensures short { form ≡ stream.Frames → IfOk result (λ a. IsShort (text_of a)) }
-    ensures long { form ≡ stream.Frames → IfOk result (λ a. length head.items + 17 < length (text_of a) → IsLong body) }
+    ensures long { form ≡ stream.Frames → IfOk result (λ a. length head.now + 17 < length (text_of a) → IsLong body) }
     ensures memory { OnErr result (IsLong body) }
 {
     match body {
-        ReplyBody::Fixed(text) => Ok(short(form, head, text.as_bytes())),
-        ReplyBody::Short(text) => Ok(short(form, head, text.as_slice())),
-        ReplyBody::Made(text) => made(alloc, form, head.as_slice(), text),
+        ReplyBody::Fixed(text) => Ok(fixed(form, head, text)),
+        ReplyBody::Short(text) => Ok(short(form, head, text)),
+        ReplyBody::Made(text) => made(alloc, form, head, text),
         ReplyBody::Bytes(word, bytes) => valued(alloc, form, head, word, bytes),
     }
 }

@@ -4,8 +4,9 @@ ghost use Rattle.std.specs.Prelude.{◌≡◌, ◌+◌, ◌*◌, ◌≤◌, ◌<
 ghost use Rattle.framing.specs.AnswerText.{text_of};
 ghost use Rattle.framing.specs.Frames.{IsShort};
 ghost use Rattle.node_stream.specs.Asking.{IsInside};
-ghost use Rattle.node_stream.specs.GuardTelling.{guard_numbers, status_numbers, heading, guard_told, NeedsMemory, sure_of};
-ghost use Rattle.node_stream.specs.Telling.{rendered};
+ghost use Rattle.node_stream.specs.GuardTelling.{guard_numbers, status_numbers, heading, guard_text, NeedsMemory, sure_of};
+ghost use Rattle.node_stream.specs.Telling.{numbered, body_of, rendered, TakesMemory};
+ghost use Rattle.node_stream.specs.Telling.BodyData.{Text};
 ghost use Rattle.node_stream.specs.declared.job.Form.TheVariants as stream;
 
 use crate::answers::body;
@@ -46,6 +47,33 @@ fn paired(form: Form, word: &str, numbers: &[u64], pair: Option<AcceptedCut>) ->
     ended(form, text)
 }
 
+/// A word and numbers.
+fn numbered(form: Form, word: &str, numbers: &[u64]) -> Answer
+    requires { length word.now + 21 * length numbers.now ≤ 132 }
+    ensures text { text_of result ≡ rendered form [] (Text (numbered word.now numbers.now)) }
+    ensures few { length (text_of result) ≤ 220 }
+{
+    ended(form, worded(word, numbers))
+}
+
+/// The reply of the replica, behind a head.
+fn headed(
+    alloc: Global,
+    form: Form,
+    window: Window,
+    head: &[u8],
+    reply: &replica::Reply,
+) -> Result<Answer, AllocError>
+    requires inside { IsInside window }
+    requires few { length head.now ≤ 45 }
+    ensures text { IfOk result (λ a. text_of a ≡ rendered form head.now (body_of window reply.now)) }
+    ensures short { form ≡ stream.Frames → IfOk result (λ a. IsShort (text_of a)) }
+    ensures long { form ≡ stream.Frames → IfOk result (λ a. length head.now + 17 < length (text_of a) → TakesMemory reply.now) }
+    ensures memory { OnErr result (TakesMemory reply.now) }
+{
+    render(alloc, form, head, body(alloc, window, reply)?)
+}
+
 /// The numbers of a node's status; its membership is 1 for a member.
 fn status_numbers(generation: u64, birth: u64, is_member: bool, front: Front) -> [u64; 6]
     ensures { result ≡ status_numbers generation birth is_member front }
@@ -63,7 +91,7 @@ pub fn answer(
     reply: &Reply,
 ) -> Result<Answer, AllocError>
     requires { IsInside window }
-    ensures text { IfOk result (λ a. text_of a ≡ guard_told form window reply.now) }
+    ensures text { IfOk result (λ a. text_of a ≡ guard_text form window reply.now) }
     ensures short { form ≡ stream.Frames → IfOk result (λ a. IsShort (text_of a)) }
     ensures long { form ≡ stream.Frames → IfOk result (λ a. sure_of reply.now < length (text_of a) → NeedsMemory reply.now) }
     ensures memory { OnErr result (NeedsMemory reply.now) }
@@ -84,35 +112,30 @@ pub fn answer(
             birth,
             accepted,
         } => Ok(paired(form, "fenced", &[*generation, *birth], *accepted)),
-        Reply::Stale(generation) => Ok(ended(form, worded("stale", &[*generation]))),
-        Reply::Fresh(birth) => Ok(ended(form, worded("fresh", &[*birth]))),
+        Reply::Stale(generation) => Ok(numbered(form, "stale", &[*generation])),
+        Reply::Fresh(birth) => Ok(numbered(form, "fresh", &[*birth])),
         Reply::Headed {
             generation,
             birth,
             reply: own,
-        } => render(
-            alloc,
-            form,
-            head(*generation, *birth),
-            body(alloc, window, own)?,
-        ),
+        } => {
+            let head = head(*generation, *birth);
+            headed(alloc, form, window, head.as_slice(), own)
+        }
         Reply::Accepted {
             generation,
             birth,
             epoch,
-        } => Ok(ended(
-            form,
-            worded("accepted", &[*generation, *birth, u64::from(*epoch)]),
-        )),
+        } => Ok(numbered(form, "accepted", &[*generation, *birth, u64::from(*epoch)])),
         Reply::Admitted { generation, birth } => {
-            Ok(ended(form, worded("admitted", &[*generation, *birth])))
+            Ok(numbered(form, "admitted", &[*generation, *birth]))
         }
-        Reply::Member => Ok(ended(form, worded("member", &[]))),
-        Reply::Stranger(birth) => Ok(ended(form, worded("stranger", &[*birth]))),
+        Reply::Member => Ok(numbered(form, "member", &[])),
+        Reply::Stranger(birth) => Ok(numbered(form, "stranger", &[*birth])),
         Reply::Behind { epoch, complete } => {
-            Ok(ended(form, worded("behind", &[u64::from(*epoch), *complete])))
+            Ok(numbered(form, "behind", &[u64::from(*epoch), *complete]))
         }
-        Reply::Unguarded => Ok(ended(form, worded("unguarded", &[]))),
-        Reply::Plain(own) => render(alloc, form, Short::new(), body(alloc, window, own)?),
+        Reply::Unguarded => Ok(numbered(form, "unguarded", &[])),
+        Reply::Plain(own) => headed(alloc, form, window, &[], own),
     }
 }
