@@ -46,7 +46,8 @@ use Rattle.replica.specs.declared.replies.Reply.TheVariants as reply
 use Rattle.replica.specs.Parts.{ReplicaData}
 use Rattle.replica.specs.Replying.{taken_reply, refusal_reply, fault_reply, read_reply, tidied_reply, delta_reply, absorbed_reply, unfinished_reply, united_reply}
 use Rattle.replica.specs.AtSegment.{CommitsPlan}
-use Rattle.replica.specs.Gossiping.{SumsUp, limited_reply}
+use Rattle.gossip_core.specs.Calls.{SumsUp}
+use Rattle.replica.specs.Gossiping.{limited_reply}
 use Rattle.replica.specs.Hydrating.{MakesSegment, Finishes, StandsFor, EndsInUnion, UnitesMade}
 use Rattle.replica.specs.Machine.{IsReply}
 use Rattle.replica.specs.Meaning.{BringsDelta, ReplicaMeans}
@@ -87,9 +88,9 @@ module _ (roster : ℕ) (log facts : List Fact) (s : State) (sound : IsSound ros
   sound_state : IsSoundState s
   sound_state = (roster, log, facts, sound, means)
 
-  summed : (summary : SummaryData) (told : Reply) → SumsUp s summary told → ReportsSummary roster facts told
-  summed summary told sums =
-      (summary, λ m is. sums.meaning m ((meaning_law log facts s m (log_of_sound roster log sound) means).1 is), sums.is)
+  summed : (summary : SummaryData) (told : Reply) → SumsUp s summary → told ≡ reply.Summary summary → ReportsSummary roster facts told
+  summed summary told sums is =
+      (summary, λ m h. sums.meaning m ((meaning_law log facts s m (log_of_sound roster log sound) means).1 h), is)
 
   delta_told : (summary : SummaryData) (told : Reply) (answer : Result DeltaData ReadFault) → IfOk answer (FillsSummary s summary)
       → IfErr answer (λ e. IsSoundState s → e ≡ fault.Memory) → told ≡ delta_reply answer → (told ≡ reply.Memory) ⊎ ReportsDelta roster facts summary told
@@ -246,20 +247,20 @@ replies_as roster log facts brought begun old new (request.Read page point) told
     record { p = means.0; position = means.1.position; answer = t.answer; tells = t.facts roster log facts means.0 sound means.1; is = t.is }
 replies_as roster log facts brought begun old new request.Ask told sound means fills brings says = ⊎_elim
     (λ (lacks : told ≡ reply.Memory). inl lacks)
-    (λ (sums : (summary : SummaryData) × SumsUp old.cached.segment summary told).
-    inr (summed roster log facts old.cached.segment sound means sums.0 told sums.1))
+    (λ (sums : (summary : SummaryData) × SumsUp old.cached.segment summary × (told ≡ reply.Summary summary)).
+    inr (summed roster log facts old.cached.segment sound means sums.0 told sums.1 sums.2))
     says.0
 replies_as roster log facts brought begun old new (request.Answer summary) told sound means fills brings says =
-    let t = says.0 in delta_told roster log facts old.cached.segment sound means summary told t.answer t.fills t.sound t.is
+    let t = says.0 in delta_told roster log facts old.cached.segment sound means summary told t.answer t.replies.fills t.replies.sound t.is
 replies_as roster log facts brought begun old new (request.AnswerWithin summary most) told sound means fills brings says =
     let t = says.0 in
     let r = t.replies in ⊎_elim
     (λ (lacks : t.whole ≡ reply.Memory). inl (within_memory most t.whole told lacks t.is))
     (λ (tells : ReportsDelta roster facts summary t.whole). inr (t.whole, tells, t.is))
-    (delta_told roster log facts old.cached.segment sound means summary t.whole r.answer r.fills r.sound r.is)
+    (delta_told roster log facts old.cached.segment sound means summary t.whole r.answer r.replies.fills r.replies.sound r.is)
 replies_as roster log facts brought begun old new (request.Absorb summary delta) told sound means fills brings says =
     let t = says.0 in
-    absorbed roster log facts old.cached.segment sound means summary delta told t.answer brought brings t.answers t.refused t.sound t.is
+    absorbed roster log facts old.cached.segment sound means summary delta told t.answer brought brings t.absorbs.answers t.absorbs.refused t.absorbs.sound t.is
 replies_as roster log facts brought begun old new (request.Fold page) told sound means fills brings says =
     let t = says.0 in folded roster log facts old.cached.segment sound means old.cached new.cached told t.plan refl t.sound t.commits
 replies_as roster log facts brought begun old new request.Discard told sound means fills brings says = says.0.is

@@ -22,7 +22,7 @@ use Rattle.replica.specs.declared.replies.Reply.TheVariants as reply
 use Rattle.replica.specs.Parts.{ReplicaData, empty_replica}
 use Rattle.replica.specs.Replying.{delta_reply, fault_reply, unfinished_reply}
 use Rattle.gossip_core.specs.Sizes.{delta_len}
-use Rattle.replica.specs.Gossiping.{RepliesTo, RepliesWithin, limited_reply}
+use Rattle.replica.specs.Gossiping.{TellsDelta, RepliesWithin, limited_reply}
 use Rattle.replica.specs.Hydrating.{Pieces, MakesSegment, Finishes, StandsFor, EndsInUnion, UnitesMade}
 use Rattle.replica.specs.Machine.{IsReply}
 use Rattle.replica.specs.Meaning.{Turn, facts_after, BringsDelta, BringsStaging, ReplicaMeans}
@@ -86,10 +86,10 @@ module _ (roster : ℕ) (log : List Fact) (sound : IsSound roster log) where
   answered_more turns node t old new summary delta facts told stands says w = ⊎_elim
       (λ (earlier : WasReplied facts_at turns (request.Answer summary) (reply.Delta delta) facts). told.deltas summary delta facts (inl earlier))
       (λ (now : (t.asked ≡ request.Answer summary) × (t.told ≡ reply.Delta delta) × (facts ≡ facts_at turns node)).
-      let does : RepliesTo old.cached.segment summary (reply.Delta delta) =
-      subst (λ (r : Reply). RepliesTo old.cached.segment summary r) now.1 (subst (λ (a : Request). IsReply old a t.told new) now.0 says).0 in
+      let does : TellsDelta old.cached.segment summary (reply.Delta delta) =
+      subst (λ (r : Reply). TellsDelta old.cached.segment summary r) now.1 (subst (λ (a : Request). IsReply old a t.told new) now.0 says).0 in
       subst (λ fs. BringsDelta roster log summary delta fs) (sym now.2)
-      (delta_by (facts_at turns node) old.cached.segment summary delta does.answer stands.means does.fills does.is))
+      (delta_by (facts_at turns node) old.cached.segment summary delta does.answer stands.means does.replies.fills does.is))
       (replied_last facts_at turns node t (request.Answer summary) (reply.Delta delta) facts w)
 
   limited_more : (turns : List (ℕ × Turn)) (node : ℕ) (t : Turn) (old new : ReplicaData) (most : ℕ) (summary : SummaryData) (delta : DeltaData)
@@ -102,7 +102,7 @@ module _ (roster : ℕ) (log : List Fact) (sound : IsSound roster log) where
       subst (λ (r : Reply). RepliesWithin old.cached.segment summary most r) now.1 (subst (λ (a : Request). IsReply old a t.told new) now.0 says).0 in
       let whole : does.whole ≡ reply.Delta delta = within_delta most does.whole delta does.is in
       subst (λ fs. BringsDelta roster log summary delta fs) (sym now.2)
-      (delta_by (facts_at turns node) old.cached.segment summary delta does.replies.answer stands.means does.replies.fills (sym whole ∙ does.replies.is)))
+      (delta_by (facts_at turns node) old.cached.segment summary delta does.replies.answer stands.means does.replies.replies.fills (sym whole ∙ does.replies.is)))
       (replied_last facts_at turns node t (request.AnswerWithin summary most) (reply.Delta delta) facts w)
 
   told_more : (turns : List (ℕ × Turn)) (node : ℕ) (t : Turn) (old new : ReplicaData) → HaveTold roster log turns → Stands roster log turns node old

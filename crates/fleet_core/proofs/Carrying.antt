@@ -9,6 +9,7 @@ use Rattle.redo_core.specs.declared.refusal.Refused.{Refused}
 use Rattle.segment_core.specs.declared.answers.Taken.{Taken}
 use Rattle.segment_core.specs.declared.answers.ReadFault.{ReadFault}
 use Rattle.segment_core.specs.declared.answers.Refusal.{Refusal}
+use Rattle.gossip_core.specs.Calls.{SumsUp, AbsorbsDelta}
 use Rattle.gossip_core.specs.declared.absorbing.AbsorbRefusal.{AbsorbRefusal}
 use Rattle.script_steps.specs.declared.steps.Step.{Step}
 use Rattle.script_steps.specs.declared.steps.Step.TheVariants as step
@@ -20,7 +21,7 @@ use Rattle.fleet_core.specs.Machine.{Message, messages_after}
 use Rattle.fleet_core.specs.Messages.{question_in, answer_in, lacking, missing_message, AreMade}
 use Rattle.fleet_core.specs.Refused.{IsRefusal}
 use Rattle.fleet_core.specs.Replying.{taken_reply, read_reply, absorbed_reply}
-use Rattle.fleet_core.specs.MessageCalls.{Makes, SumsUp, Asks, MakesAnswer, AnswersQuestion, AnswersNumber, AbsorbsDelta, AbsorbsAnswer, AbsorbsNumber}
+use Rattle.fleet_core.specs.MessageCalls.{Makes, Asks, MakesAnswer, AnswersQuestion, AnswersNumber, AbsorbsAnswer, AbsorbsNumber}
 use Rattle.fleet_core.specs.Calls.{Takes, NodeCalls}
 use Rattle.fleet_core.specs.AtNode.{OwnFollows, IsCarriedOut}
 use Rattle.fleet_core.proofs.Following.{follows_taken}

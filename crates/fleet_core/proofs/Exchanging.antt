@@ -13,6 +13,7 @@ use Rattle.segment_theorems.proofs.Same.{meaning_law}
 use Rattle.segment_core.specs.declared.answers.ReadFault.{ReadFault}
 use Rattle.segment_core.specs.declared.answers.ReadFault.TheVariants as fault
 use Rattle.segment_core.specs.declared.answers.Refusal.TheVariants as refusal
+use Rattle.gossip_core.specs.Calls.{SumsUp, RepliesTo, AbsorbsDelta}
 use Rattle.gossip_core.specs.declared.absorbing.AbsorbRefusal.{AbsorbRefusal}
 use Rattle.gossip_core.specs.declared.absorbing.AbsorbRefusal.TheVariants.{Refused as RefusedFor, Uncovered as UncoveredBy}
 use Rattle.gossip_core.specs.declared.answering.Shown.{Shown}
@@ -28,8 +29,7 @@ use Rattle.fleet_core.specs.Replies.{RepliesAbsorb, NodeReplies}
 use Rattle.fleet_core.specs.Replies.{RepliesNumber}
 use Rattle.fleet_core.specs.Replying.{fault_reply, refusal_reply, absorbed_reply}
 use Rattle.fleet_core.specs.Messages.{question_in, answer_in, AsksWith, AnswersWith, IsMade, AreMade}
-use Rattle.fleet_core.specs.MessageCalls.{Makes, SumsUp, Asks, RepliesTo, MakesAnswer, AnswersQuestion, AnswersNumber}
-use Rattle.fleet_core.specs.MessageCalls.{AbsorbsDelta, AbsorbsAnswer, AbsorbsNumber}
+use Rattle.fleet_core.specs.MessageCalls.{Makes, Asks, MakesAnswer, AnswersQuestion, AnswersNumber, AbsorbsAnswer, AbsorbsNumber}
 use Rattle.fleet_core.specs.AtNode.{NodeFollows}
 use Rattle.fleet_core.proofs.Places.{zip_count}
 use Rattle.fleet_core.proofs.Numbering.{both_there, still_asked, made_more, AnswersBoth, questions_alike, answers_alike}

@@ -1,20 +1,11 @@
 -- What the steps with messages do over any facts: each reply, and each message, is that of the segment's call.
-use Rattle.std.specs.Prelude.{◌≡◌, ℕ, ◌+◌, ◌<◌, ◌⊎◌, ◌↔◌, List, [], ◌∷◌, ◌++◌, length, Result, Ok, Err, IfOk, IfErr, OnOk, OnErr, MatchOption}
-use Rattle.redo_core.specs.Meaning.{Meaning}
+use Rattle.std.specs.Prelude.{◌≡◌, ℕ, ◌+◌, ◌⊎◌, List, [], ◌∷◌, ◌++◌, length, Result, Ok, Err, MatchOption}
 use Rattle.messages.specs.Summaries.{SummaryData}
 use Rattle.messages.specs.Deltas.{DeltaData}
 use Rattle.segment_theorems.specs.State.{State}
-use Rattle.segment_theorems.specs.HasMeaning.{HasMeaning}
-use Rattle.segment_core.specs.Forgetting.{IsSoundState, IsWhole, IsFirstBreak}
 use Rattle.segment_core.specs.declared.answers.ReadFault.{ReadFault}
-use Rattle.segment_core.specs.declared.answers.ReadFault.TheVariants as fault
-use Rattle.segment_core.specs.declared.answers.Refusal.TheVariants as refusal
-use Rattle.gossip_core.specs.Summarizing.{Summarizes, IsSummaryOf}
-use Rattle.gossip_core.specs.Replying.{AnswersSummary, FillsSummary, IsLeastBreak}
-use Rattle.gossip_core.specs.Absorbing.{MeansBoth, IsOfOneLog, Answers, AbsorbsInto, RefusesAbsorb, ReportsRoster}
+use Rattle.gossip_core.specs.Calls.{SumsUp, RepliesTo, AbsorbsDelta}
 use Rattle.gossip_core.specs.declared.absorbing.AbsorbRefusal.{AbsorbRefusal}
-use Rattle.gossip_core.specs.declared.absorbing.AbsorbRefusal.TheVariants.{Refused as RefusedFor, Uncovered as UncoveredBy}
-use Rattle.gossip_core.specs.declared.answering.Shown.{Shown}
 use Rattle.fleet_core.specs.declared.replies.Reply.{Reply}
 use Rattle.fleet_core.specs.declared.replies.Reply.TheVariants.{Message as MessageIs, NoMessage, Memory}
 use Rattle.fleet_core.specs.declared.making.Made.{Made}
@@ -28,26 +19,12 @@ Makes messages message reply made =
     ((reply ≡ Memory) × (made ≡ messages)) ⊎ ((reply ≡ MessageIs (length messages + 1)) × (made ≡ messages ++ message ∷ []))
 
 -- ---- asking
--- the segment sums up what it has
-pub record SumsUp (s : State) (summary : SummaryData) : Type 0 where
-  pub own : Summarizes s summary
-  pub meaning : (m : Meaning) → HasMeaning s m → IsSummaryOf m summary
-
 -- the summary is made a message
 abbrev pub Asks : State → List Made → Reply → List Made → Type 0
 Asks s messages reply made =
     ((reply ≡ Memory) × (made ≡ messages)) ⊎ ((summary : SummaryData) × SumsUp s summary × Makes messages (Question summary) reply made)
 
 -- ---- answering
--- the segment replies to a summary
-pub record RepliesTo (s : State) (summary : SummaryData) (answer : Result DeltaData ReadFault) : Type 0 where
-  pub fills : IfOk answer (FillsSummary s summary)
-  pub sound : IfErr answer (λ e. IsSoundState s → e ≡ fault.Memory)
-  pub answers : IfOk answer (AnswersSummary s summary)
-  pub refused : IfErr answer (λ e. (e ≡ fault.Memory) ⊎ ((summary.anchor < s.base) × IsLeastBreak s e))
-  pub whole : IfOk answer (λ d. summary.anchor < s.base → IsWhole s)
-  pub broken : (page n : ℕ) → (answer ≡ Err (fault.BrokenBlockChain page n)) ↔ ((summary.anchor < s.base) × IsFirstBreak s page n)
-
 -- the delta is made a message, which names the question
 abbrev pub MakesAnswer : List Made → ℕ → Result DeltaData ReadFault → Reply → List Made → Type 0
 MakesAnswer messages number (Ok delta) reply made = Makes messages (Answer number delta) reply made
@@ -65,16 +42,7 @@ AnswersNumber s messages number reply made =
     (λ summary. AnswersQuestion s messages number summary reply made)
 
 -- ---- absorbing
--- the segment absorbs a delta that was made for a summary
-pub record AbsorbsDelta (old : State) (summary : SummaryData) (delta : DeltaData) (answer : Result (Unit {0}) AbsorbRefusal) (new : State) : Type 0 where
-  pub means : OnOk answer (MeansBoth old summary delta new)
-  pub sound : IfErr answer (λ e. IsOfOneLog old summary delta → (e ≡ RefusedFor refusal.Memory) ⊎ ((shown : Shown) × (e ≡ UncoveredBy shown)))
-  pub absorbs : OnOk answer (AbsorbsInto old delta new)
-  pub answers : OnOk answer (Answers old summary)
-  pub refused : IfErr answer (RefusesAbsorb old summary delta)
-  pub roster : ReportsRoster old delta answer
-  pub unchanged : OnErr answer (new ≡ old)
-
+-- the answer is absorbed, and what the segment answers is replied
 pub record AbsorbsAnswer (old : State) (summary : SummaryData) (delta : DeltaData) (reply : Reply) (new : State) : Type 0 where
   pub answer : Result (Unit {0}) AbsorbRefusal
   pub absorbs : AbsorbsDelta old summary delta answer new

@@ -61,9 +61,6 @@ guard_body w (reply.Plain told) = body_of w told
 abbrev pub guard_text : Form → Window → Reply → List ℕ
 guard_text form w told = rendered form (guard_head told) (guard_body w told)
 
-abbrev pub guard_line : Window → Reply → List ℕ
-guard_line = guard_text stream.Lines
-
 abbrev pub guard_frame : Window → Reply → List ℕ
 guard_frame = guard_text stream.Frames
 

@@ -146,10 +146,7 @@ abbrev pub rendered : Form → List ℕ → BodyData → List ℕ
 rendered Lines head said = head ++ line said
 rendered Frames head said = frame_behind head (frame said)
 
--- the line of a reply, with its LF, and its frame
-abbrev pub line_of : Window → Reply → List ℕ
-line_of w told = line (body_of w told)
-
+-- the frame of a reply
 abbrev pub frame_of : Window → Reply → List ℕ
 frame_of w told = frame (body_of w told)
 

@@ -13,7 +13,7 @@ use Rattle.gossip_core.proofs.OneReply.{one_reply}
 use Rattle.replica.specs.declared.replies.Reply.{Reply}
 use Rattle.replica.specs.declared.replies.Reply.TheVariants as reply
 use Rattle.replica.specs.Replying.{delta_reply, fault_reply}
-use Rattle.replica.specs.Gossiping.{RepliesTo, RepliesWithin, limited_reply}
+use Rattle.replica.specs.Gossiping.{TellsDelta, RepliesWithin, limited_reply}
 
 -- a broken chain is reported exactly where pages are to be sent and there is one
 abbrev pub ReportsBroken : (A : Type 0) → State → SummaryData → Result A ReadFault → Type 0
@@ -54,15 +54,14 @@ too_large s summary most size is whole broken lt = record {
   whole = reply.Delta is.delta;
   replies = record {
     answer = Ok is.delta;
-    fills = is.fills;
-    sound = tt;
-    answers = is.answers;
-    refused = tt;
-    whole = whole;
-    broken = λ page n. (
-      λ (e : Ok is.delta ≡ Err (fault.BrokenBlockChain page n)). absurd (cc),
-      λ h. let e : Ok size ≡ Err (fault.BrokenBlockChain page n) = (broken page n).1 h in absurd (cc),
-    );
+    replies = record {
+      fills = is.fills;
+      sound = tt;
+      answers = is.answers;
+      refused = tt;
+      whole = whole;
+      broken = still_whole ℕ DeltaData s summary size is.delta broken;
+    };
     is = refl;
   };
   is = is_large most is.delta (subst (λ n. most < n) is.is lt);
@@ -79,12 +78,12 @@ sized s summary most size (Ok d) is le answers =
 sized s summary most size (Err f) is le answers = tt
 
 -- the delta has no more
-pub not_large : (s : State) (summary : SummaryData) (most size : ℕ) (told : Reply) → IsReplySize s summary size → size ≤ most → RepliesTo s summary told
+pub not_large : (s : State) (summary : SummaryData) (most size : ℕ) (told : Reply) → IsReplySize s summary size → size ≤ most → TellsDelta s summary told
     → RepliesWithin s summary most told
 not_large s summary most size told is le replies = record {
   whole = told;
   replies = replies;
-  is = subst (λ r. r ≡ limited_reply most r) (sym replies.is) (fits_by most replies.answer (sized s summary most size replies.answer is le replies.answers));
+  is = subst (λ r. r ≡ limited_reply most r) (sym replies.is) (fits_by most replies.answer (sized s summary most size replies.answer is le replies.replies.answers));
 }
 
 -- there is no delta
@@ -95,15 +94,17 @@ unsized s summary most f sound refused broken = record {
   whole = fault_reply f;
   replies = record {
     answer = Err f;
-    fills = tt;
-    sound = sound;
-    answers = tt;
-    refused = refused;
-    whole = tt;
-    broken = λ page n. (
-      λ (e : Err f ≡ Err (fault.BrokenBlockChain page n)). (broken page n).0 (let g : f ≡ fault.BrokenBlockChain page n = cc in ap (λ x. Err x) g),
-      λ h. let e : Err f ≡ Err (fault.BrokenBlockChain page n) = (broken page n).1 h in let g : f ≡ fault.BrokenBlockChain page n = cc in ap (λ x. Err x) g,
-    );
+    replies = record {
+      fills = tt;
+      sound = sound;
+      answers = tt;
+      refused = refused;
+      whole = tt;
+      broken = λ page n. (
+        λ (e : Err f ≡ Err (fault.BrokenBlockChain page n)). (broken page n).0 (let g : f ≡ fault.BrokenBlockChain page n = cc in ap (λ x. Err x) g),
+        λ h. let e : Err f ≡ Err (fault.BrokenBlockChain page n) = (broken page n).1 h in let g : f ≡ fault.BrokenBlockChain page n = cc in ap (λ x. Err x) g,
+      );
+    };
     is = refl;
   };
   is = no_delta most f;

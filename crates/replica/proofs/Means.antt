@@ -78,10 +78,6 @@ absorbed roster log facts brought old new summary delta (Ok done) stood brings m
 absorbed roster log facts brought old new summary delta (Err why) stood brings means same =
     subst (λ l. Means roster log l new) (sym (refused_absorb facts brought summary delta why)) (stays roster log facts old new same stood.means)
 
-kept_segment : (answer : Result (Unit {0}) AbsorbRefusal) (old new : Cached) → OnErr answer (new ≡ old) → OnErr answer (new.segment ≡ old.segment)
-kept_segment (Ok done) old new same = tt
-kept_segment (Err why) old new same = ap (λ c. c.segment) same
-
 -- ---- tidy
 tidied : (roster : ℕ) (log facts : List Fact) (old new : Cached) (answer : Result (Unit {0}) ReadFault) → Stood roster log facts old.segment
     → OnOk answer (KeepsMeaning old.segment new.segment) → OnErr answer (new ≡ old) → Means roster log facts new.segment
@@ -178,8 +174,8 @@ step_means roster log facts brought old (request.AnswerWithin summary most) told
 step_means roster log facts brought old (request.Absorb summary delta) told new sound brings says m =
     let t = says.0 in
     subst (λ r. Means roster log (facts_after facts brought (request.Absorb summary delta) r) new.cached.segment) (sym t.is)
-    (absorbed roster log facts brought old.cached.segment new.cached.segment summary delta t.answer (record { sound = sound; means = m }) brings t.means
-    (kept_segment t.answer old.cached new.cached t.unchanged))
+    (absorbed roster log facts brought old.cached.segment new.cached.segment summary delta t.answer (record { sound = sound; means = m }) brings
+    t.absorbs.means t.absorbs.unchanged)
 step_means roster log facts brought old (request.Fold page) told new sound brings says m = says.0.keeps roster log facts sound m
 step_means roster log facts brought old request.Discard told new sound brings says m = says.0.keeps roster log facts sound m
 step_means roster log facts brought old request.Tidy told new sound brings says m =

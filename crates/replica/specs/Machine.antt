@@ -5,7 +5,7 @@ use Rattle.replica.specs.declared.requests.Request.TheVariants as request
 use Rattle.replica.specs.declared.replies.Reply.{Reply}
 use Rattle.replica.specs.Parts.{ReplicaData, SameBeside}
 use Rattle.replica.specs.AtSegment.{Opens, Takes, Fronts, ReportsGap, ReportsStatus, Reads, Folds, Discards, TidiesUp, ReportsNext}
-use Rattle.replica.specs.Gossiping.{Asks, RepliesTo, RepliesWithin, Absorbs}
+use Rattle.replica.specs.Gossiping.{Asks, TellsDelta, RepliesWithin, Absorbs}
 use Rattle.replica.specs.Hydrating.{FreezesAs, Pieces, Stages, AddsTo, Finishes, EndsInUnion}
 
 abbrev pub IsReply : ReplicaData → Request → Reply → ReplicaData → Type 0
@@ -16,7 +16,7 @@ IsReply old request.Gap told new = ReportsGap old.cached.segment told × (new �
 IsReply old request.State told new = ReportsStatus old.cached.segment told × (new ≡ old)
 IsReply old (request.Read page point) told new = Reads old.cached page point told new.cached × SameBeside old new
 IsReply old request.Ask told new = Asks old.cached.segment told × (new ≡ old)
-IsReply old (request.Answer summary) told new = RepliesTo old.cached.segment summary told × (new ≡ old)
+IsReply old (request.Answer summary) told new = TellsDelta old.cached.segment summary told × (new ≡ old)
 IsReply old (request.AnswerWithin summary most) told new = RepliesWithin old.cached.segment summary most told × (new ≡ old)
 IsReply old (request.Absorb summary delta) told new = Absorbs old.cached summary delta told new.cached × SameBeside old new
 IsReply old (request.Fold page) told new = Folds old.cached page told new.cached × SameBeside old new

@@ -1,10 +1,8 @@
 //! The requests of gossip.
-ghost use Rattle.std.specs.Prelude.{◌≡◌, ◌<◌, ◌⊎◌, ◌↔◌, ℕ, Err, IfOk, IfErr};
-ghost use Rattle.segment_core.specs.Forgetting.{IsSoundState, IsWhole, IsFirstBreak};
-ghost use Rattle.segment_core.specs.declared.answers.ReadFault.TheVariants.{Memory as MemoryOf, BrokenBlockChain as BrokenAt};
-ghost use Rattle.gossip_core.specs.Replying.{AnswersSummary, FillsSummary, IsLeastBreak};
+ghost use Rattle.std.specs.Prelude.{◌≡◌, ◌⊎◌};
+ghost use Rattle.gossip_core.specs.Calls.{RepliesTo};
 ghost use Rattle.replica.specs.declared.replies.Reply.TheVariants.{Memory as MemoryReply, Summary as SummaryReply};
-ghost use Rattle.replica.specs.Gossiping.{Asks, RepliesTo, RepliesWithin, Absorbs};
+ghost use Rattle.replica.specs.Gossiping.{Asks, TellsDelta, RepliesWithin, Absorbs};
 
 use crate::boxes::Boxed;
 use crate::replies::Reply;
@@ -37,12 +35,7 @@ fn summary_reply(alloc: Global, summary: Summary) -> Reply
 
 /// What the segment has beyond a summary, as its reply has it.
 fn boxed_answer(segment: &Segment, summary: &Summary) -> Result<Boxed<Delta>, ReadFault>
-    ensures fills { IfOk result (FillsSummary segment.now summary.now) }
-    ensures sound { IfErr result (λ e. IsSoundState segment.now → e ≡ MemoryOf) }
-    ensures answers { IfOk result (AnswersSummary segment.now summary.now) }
-    ensures refused { IfErr result (λ e. (e ≡ MemoryOf) ⊎ ((summary.now.anchor < segment.now.base) × IsLeastBreak segment.now e)) }
-    ensures whole { IfOk result (λ _. summary.now.anchor < segment.now.base → IsWhole segment.now) }
-    ensures broken { (page n : ℕ) → (result ≡ Err (BrokenAt page n)) ↔ ((summary.now.anchor < segment.now.base) × IsFirstBreak segment.now page n) }
+    ensures replies { RepliesTo segment.now summary.now result }
 {
     match reply(segment, summary) {
         Ok(delta) => match Boxed::new(segment.allocator(), delta) {
@@ -55,7 +48,7 @@ fn boxed_answer(segment: &Segment, summary: &Summary) -> Result<Boxed<Delta>, Re
 
 /// Returns what the segment has beyond a summary.
 pub(crate) fn answer(segment: &Segment, summary: &Summary) -> Reply
-    ensures replies { RepliesTo segment.now summary.now result }
+    ensures replies { TellsDelta segment.now summary.now result }
 {
     delta_reply(boxed_answer(segment, summary))
 }

@@ -1,8 +1,7 @@
 -- What is wrong with a line of a word and numbers.
 use Rattle.std.specs.Prelude.{◌≡◌, ◌<◌, ◌+◌, ◌-◌, ℕ, List, [], ◌∷◌, length, slice_index, Some, None, bytes_eq, MatchBool}
 use Rattle.redo_core.specs.Shape.{page_len}
-use Rattle.text.specs.Fields.{Form, form, of_one, numbers_of}
-use Rattle.script_text.specs.Script.{positive}
+use Rattle.text.specs.Fields.{Form, numbers_of}
 use Rattle.script_text.specs.declared.reasons.LineReason.{LineReason}
 use Rattle.script_text.specs.declared.reasons.LineReason.TheVariants.{UnknownWord, Zero, PastPage}
 use Rattle.script_text.specs.FieldReasons.{IsFieldReason}
@@ -22,7 +21,3 @@ abbrev pub IsReasonBy : {A : Type 0} → List (Form A) → List (List ℕ) → L
 IsReasonBy forms [] reason = reason ≡ UnknownWord
 IsReasonBy [] (word ∷ fields) reason = reason ≡ UnknownWord
 IsReasonBy (f ∷ forms) (word ∷ fields) reason = MatchBool (bytes_eq word f.word) (IsFormReason f fields reason) (IsReasonBy forms (word ∷ fields) reason)
-
--- lines of that word and one number from 1 to the limit
-abbrev pub count_form : List ℕ → ℕ → Form ℕ
-count_form word limit = form word (limit ∷ []) (of_one positive)
