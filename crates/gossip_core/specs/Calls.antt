@@ -1,4 +1,4 @@
--- All that a call promises, in one relation each: the machines that make these calls are defined by them.
+-- What each call does, in one relation: the machines that make these calls are defined by them. The contracts promise these clauses one by one.
 use Rattle.std.specs.Prelude.{◌≡◌, ℕ, ◌<◌, ◌⊎◌, ◌↔◌, Result, Err, IfOk, IfErr, OnOk, OnErr}
 use Rattle.redo_core.specs.Meaning.{Meaning}
 use Rattle.messages.specs.Summaries.{SummaryData}

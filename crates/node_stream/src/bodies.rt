@@ -160,7 +160,8 @@ fn valued(
     }
 }
 
-/// The line or the frame of a body, behind a head. It fails only if memory runs out, and not for a text that is fixed or short.
+/// The line or the frame of a body, behind a head. It fails where memory runs out, or a text that was made is
+/// longer than a frame may be; never for a body of at most 17 bytes that is fixed or short.
 pub fn render(alloc: Global, form: Form, head: &[u8], body: ReplyBody) -> Result<Answer, AllocError>
     requires head { length head.now ≤ 45 }
     requires body { IsBody body }

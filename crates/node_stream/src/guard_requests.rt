@@ -106,7 +106,8 @@ fn read_lone(alloc: Global, form: Form, text: &[u8]) -> Result<GuardAsked, LineE
 
 /// What a line, without its LF, or a frame asks of a guard.
 ///
-/// Errors: `Fault` where it encodes no request, with the first cause from left to right, and in a frame never `Hex`; and `Memory`.
+/// Errors: `Fault` where it encodes no request, with the first cause from left to right but the limit of `answer` first, and in a frame never
+/// `Hex`; and `Memory`.
 #[tactic(auto, unfolding(crate::specs::GuardReading::guard_words))]
 pub fn read_request(alloc: Global, form: Form, text: &[u8]) -> Result<GuardAsked, LineError>
     ensures asks { Gives (λ x. x) result (guard_request form text.now) }

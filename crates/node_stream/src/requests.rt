@@ -76,7 +76,7 @@ fn read_words(alloc: Global, words: &[&[u8]]) -> Result<Asked, LineError>
 
 /// What a line asks.
 ///
-/// Errors: `Fault` where it encodes no request, with the first cause from left to right, and `Memory`.
+/// Errors: `Fault` where it encodes no request, with the first cause from left to right but the limit of `answer` first, and `Memory`.
 #[tactic(auto, using(crate::proofs::FirstWords::first_words))]
 pub fn read_line(alloc: Global, line: &[u8]) -> Result<Asked, LineError>
     ensures asks { Gives (λ x. x) result (request_of line.now) }

@@ -23,7 +23,7 @@ pub struct Call {
     keys: Option<usize>,
 }
 
-/// How many calls a diary has room for.
+/// How many calls a gate has room for.
 const ROOM: usize = 256;
 
 /// A gate that lets everything through, and records each call. It may watch a node.
@@ -35,7 +35,7 @@ pub struct RecordingGate<'r, R: Wait> {
 }
 
 impl<'r, R: Wait> RecordingGate<'r, R> {
-    /// A diary with no calls, which watches `node` where there is one.
+    /// A gate without calls, which watches `node` where there is one.
     pub fn open(
         rt: &'r R,
         alloc: Global,

@@ -20,7 +20,7 @@ returns c =
           answers = e.answers;
           refused = e.refused;
           roster = e.roster;
-          unchanged = kept_segment c.absorb.result c.args.cached.old c.args.cached.new e.unchanged;
+          unchanged = kept_segment c.absorb.result _ _ e.unchanged;
         };
         drops = e.drops;
         unchanged = e.unchanged;
