@@ -94,13 +94,13 @@ delta_says run e t Q old new (segment.Answer summary) d right says = record {
   summary = summary;
   own = right.0;
   after = right.1;
-  fills = filled old.cached.segment summary d says.0.answer says.0.fills says.0.is;
+  fills = filled old.cached.segment summary d says.0.answer says.0.replies.fills says.0.is;
 }
 delta_says run e t Q old new segment.Front d right says = let no : told.Delta d ≡ told.Front says.0.front = says.0.is in absurd (cc)
 delta_says run e t Q old new (segment.Take fact) d right says = absurd (taken_no_delta d says.0.answer says.0.is)
 delta_says run e t Q old new segment.Ask d right says = ⊎_elim
     (λ (none : told.Delta d ≡ told.Memory). absurd (cc))
-    (λ some. let no : told.Delta d ≡ told.Summary some.0 = some.1.is in absurd (cc))
+    (λ some. let no : told.Delta d ≡ told.Summary some.0 = some.2 in absurd (cc))
     says.0
 delta_says run e t Q old new (segment.Absorb summary delta) d right says = absurd (absorbed_no_delta d says.0.answer says.0.is)
 delta_says run e t Q old new asked d right says = absurd right
@@ -113,7 +113,7 @@ front_says run e t Q old new segment.Front f right says = (right, says.0)
 front_says run e t Q old new (segment.Take fact) f right says = absurd (taken_no_front f says.0.answer says.0.is)
 front_says run e t Q old new segment.Ask f right says = ⊎_elim
     (λ (none : told.Front f ≡ told.Memory). absurd (cc))
-    (λ some. let no : told.Front f ≡ told.Summary some.0 = some.1.is in absurd (cc))
+    (λ some. let no : told.Front f ≡ told.Summary some.0 = some.2 in absurd (cc))
     says.0
 front_says run e t Q old new (segment.Absorb summary delta) f right says = absurd (absorbed_no_front f says.0.answer says.0.is)
 front_says run e t Q old new asked f right says = absurd right
