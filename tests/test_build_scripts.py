@@ -71,6 +71,12 @@ def test_builds_once(tree):
     assert tree.leftovers() == []
 
 
+def test_what_make_has_built_is_not_built_again(tree):
+    subprocess.run([tree.top / "tools/build.py", "fleet", "fleet_node"], env=tree.settings(), capture_output=True, check=True)
+    for script in ("fleet", "fleet-node"):
+        assert tree.run(script) == (7, ANSWER, False)
+
+
 def test_follows_links(tree):
     link = tree.bin / "linked"
     link.symlink_to(tree.top / "fleet")

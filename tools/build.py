@@ -5,8 +5,9 @@
     build.py fleet fleet_node node_c
 
 `rt` builds one crate after another. This builds each crate as soon as those below it are built, and then lets `rt` have the
-last word on each crate that was named. Standard error shows the progress: one line on a terminal, else a line for each crate.
-Status 1 where a crate is not proved; its messages are printed.
+last word on each crate that was named. A program then has the mark `out/built` beside it, with the time at which the build began:
+the scripts `fleet` and `fleet-node` build again where a source is newer. Standard error shows the progress: one line on a terminal,
+else a line for each crate. Status 1 where a crate is not proved; its messages are printed.
 """
 
 import argparse
@@ -58,6 +59,14 @@ def weigh(name):
 
 def is_program(name):
     return (ROOT / "crates" / name / "src/main.rt").exists()
+
+
+def mark_programs(names, began):
+    """Says of each program among the crates that it has all that was written before some time, in nanoseconds."""
+    for name in filter(is_program, names):
+        mark = ROOT / "crates" / name / "out/built"
+        mark.touch()
+        os.utime(mark, ns=(began, began))
 
 
 def stale(crates, order):
@@ -165,9 +174,12 @@ def main():
         parser.error(f"crates.txt has no crate {unknown[0]}")
     for number in (signal.SIGTERM, signal.SIGHUP):
         signal.signal(number, signal.default_int_handler)
+    with tempfile.NamedTemporaryFile() as started:
+        began = os.stat(started.name).st_mtime_ns
     build = Build(crates, args.crate, args.jobs)
     try:
         build.run()
+        mark_programs(args.crate, began)
     except FileNotFoundError:
         sys.exit("rt is not on the path; README.md says what is needed")
     except KeyboardInterrupt:
