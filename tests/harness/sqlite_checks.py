@@ -136,7 +136,8 @@ def work_change(world, change):
 
 
 def check_readers(world):
-    """Transfers between accounts in one process leave each reader's sum as it is in another one."""
+    """Transfers between accounts in one process leave each reader's sum as it is in another one. The writer keeps all points readable: a reader
+    that the system stops for a while would lose its own, after a thousand commits in a fraction of a second."""
     ours = world.open()
     ours.execute("create table accounts(id integer primary key, amount, filler)")
     ours.execute("with recursive c(n) as (select 0 union all select n + 1 from c where n < 299) insert into accounts select n, 100, hex(zeroblob(200)) from c")
@@ -158,7 +159,7 @@ def check_readers(world):
 
 
 def work_transfers(world):
-    ours, end, count = world.open(), time.monotonic() + min(world.seconds, 3), 0
+    ours, end, count = world.open(keep=0), time.monotonic() + min(world.seconds, 3), 0
     while time.monotonic() < end or count < 10:
         pair = world.rng.sample(range(300), 2)
         ours.execute("begin")
