@@ -1,5 +1,6 @@
 -- What a book is, and knows, after a fact.
-use Rattle.std.proofs.Common.{◌≡◌, ◌≢◌, ℕ, zero, suc, ◌-◌, ◌<◌, ◌≤◌, ◌⊎◌, ◌↔◌, inl, inr, ⊎_elim, List, [], ◌∷◌, ◌++◌, length, get_or, replicate, max, ltb, refl, sym, ap, ◌∙◌, subst, arith, true, None, rules}
+use Rattle.std.proofs.Common.{◌≡◌, ◌≢◌, ℕ, zero, suc, ◌-◌, ◌<◌, ◌≤◌, ◌⊎◌, inl, inr, ⊎_elim, List, [], ◌∷◌, ◌++◌, length, get_or, replicate, max, ltb, refl, sym, ap, ◌∙◌, subst, arith, None, rules}
+use Rattle.std.proofs.lemmas.Grind.{common_steps}
 use Rattle.std.specs.List.{Contains, All, filter, insert}
 use Rattle.std.specs.List.Sorted.{IsPartitionPoint}
 use Rattle.std.proofs.lemmas.List.Elements.{All-contains, All-filter}
@@ -15,8 +16,10 @@ use Rattle.redo_core.specs.CompleteEpoch.{HasCutsTo, IsCompleteEpoch}
 use Rattle.redo_core.specs.declared.facts.Fact.TheVariants.{Cut, Advance}
 use Rattle.epoch_book.specs.Book.{BookData, book_of, roster_of, IsBook}
 use Rattle.epoch_book.specs.Knowing.{KnowsFacts, KnowsMore}
+use Rattle.epoch_book.specs.Lows.{AreLows}
 use Rattle.epoch_book.specs.Learning.{LearnsCut, LearnsAdvance}
 use Rattle.redo_core.proofs.Members.{none_in, here, all_members, contains_insert, filtered, passed, only}
+use Rattle.epoch_book.proofs.Earlier.{later_test}
 use Rattle.redo_core.proofs.Rising.{rising_insert_at, rising_filter}
 use Rattle.redo_core.proofs.FactParts.{no_advances}
 use Rattle.redo_core.proofs.CompleteEpochs.{has_cuts}
@@ -64,6 +67,10 @@ raised_points n k j as' bs given old new points raises before more cases = recor
 pub unraised_points : (k : ℕ) (old : List ℕ) (given : List AdvanceData)
     → ((a : AdvanceData) → Contains given a → a.epoch ≤ k → IsReader (length old) a.reader → a.point ≤ point_of old a.reader) → RaisesPoints k old given old
 unraised_points k old given low = search rules
+
+pub new_book : (n : ℕ) (cs lows : List CutData) (ps : List ℕ) (ws : List AdvanceData) → IsRoster n → cs ≡ [] → lows ≡ [] → ps ≡ replicate n 0 → ws ≡ []
+    → IsBook (book_of cs 0 ps ws) × AreLows cs 0 lows
+new_book n cs lows ps ws roster e f p g = grind (arith, common_steps)
 
 pub new_knows : (n : ℕ) (cs : List CutData) (ps : List ℕ) (ws : List AdvanceData) → cs ≡ [] → ps ≡ replicate n 0 → ws ≡ [] → KnowsFacts [] (book_of cs 0 ps ws)
 new_knows n cs ps ws e p f = record {
@@ -138,9 +145,6 @@ points_within k old new given raises low shaped i d l =
     get_or_any [] j x y m = absurd (omega (arith, m))
     get_or_any (z ∷ zs) zero x y m = refl
     get_or_any (z ∷ zs) (suc j) x y m = get_or_any zs j x y (omega (arith, m))
-
-later_test : (k e : ℕ) → ltb k e ≡ true ↔ (k < e)
-later_test k e = (λ h. grind (arith, nat_tests), λ h. grind (arith, nat_tests))
 
 -- a book with a truncation inserted in order
 pub cut_learns : (b : BookData) (i : ℕ) (c : CutData) (k : ℕ) (n : List ℕ) (ws : List AdvanceData) → RaisesPoints k b.points b.waits n

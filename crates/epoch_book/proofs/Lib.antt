@@ -6,5 +6,6 @@ pub mod Books
 pub mod Least
 pub mod OneReason
 pub mod SoundLogs
+mod Earlier
 mod Raising
 mod Found

@@ -1,5 +1,5 @@
 -- What a binary search finds in the lists of a book.
-use Rattle.std.proofs.Common.{◌≡◌, ℕ, ◌<◌, ◌≤◌, ◌⊎◌, List, length, get_or, refl, sym, subst, arith, Result, Ok, Err, IfOk, IfErr, Ordering, Less, Equal, Greater, rules}
+use Rattle.std.proofs.Common.{◌≡◌, ℕ, ◌<◌, ◌≤◌, List, length, get_or, refl, sym, subst, arith, Result, Ok, Err, IfOk, IfErr, Ordering, Less, Equal, Greater, rules}
 use Rattle.std.specs.List.{Contains, HoldsAt}
 use Rattle.std.specs.List.Sorted.{IsSearchInRange, IsBinarySearchResult, IsNonDecreasingBy, IsPartitionPoint}
 use Rattle.std.specs.Ordering.{nat_cmp, ordering_then, ordering_index, MatchOrdering}

@@ -4,6 +4,7 @@ ghost use Rattle.std.specs.List.Sorted.{IsPartitionPoint};
 ghost use Rattle.redo_core.specs.Order.{IsRising, AdvanceBefore};
 ghost use Rattle.epoch_book.specs.Refusing.{Contradict, IsFirst};
 
+use crate::wait_list::WaitList;
 use redo_core::{Advance, Cut};
 
 /// The index of an advance, or where it would be inserted.
@@ -32,9 +33,20 @@ pub(crate) fn first_against(waits: &[Advance], cut: Cut) -> Option<Advance>
     None
 }
 
-/// Keeps only the advances of epochs above the complete one.
-pub(crate) fn keep_later(waits: &mut Vec<Advance>, complete: u16)
-    ensures { waits.new.items ≡ filter (λ a. nat_lt complete a.epoch) waits.old.items }
+/// The advances of epochs below one: the first ones.
+pub(crate) fn earlier(waits: &[Advance], epoch: u32) -> &[Advance]
+    requires { IsRising AdvanceBefore waits.now }
+    ensures { result.now ≡ filter (λ a. nat_lt a.epoch epoch) waits.now }
 {
-    waits.retain(|wait| complete < wait.epoch());
+    let count = waits.partition_point(|wait| u32::from(wait.epoch()) < epoch);
+    &waits[..count]
+}
+
+/// Keeps only the advances of epochs above the complete one.
+pub(crate) fn keep_later(waits: &mut WaitList, complete: u16)
+    requires { IsRising AdvanceBefore waits.old }
+    ensures { waits.new ≡ filter (λ a. nat_lt complete a.epoch) waits.old }
+{
+    let begun = earlier(waits.as_slice(), u32::from(complete) + 1).len();
+    waits.remove_first(begun);
 }

@@ -21,6 +21,7 @@ ghost use Rattle.epoch_book.specs.declared.standing.Standing.TheVariants.{Alive 
 
 use crate::refusals::{BookRefusal, Held, Learnt};
 use crate::standing::Standing;
+use crate::wait_list::WaitList;
 use crate::{advances, cuts, lows, points};
 use redo_core::{Advance, Cut, ReadPoints, Roster};
 use sorted_runs::put_in;
@@ -35,7 +36,7 @@ pub struct EpochBook {
     pub(crate) lows: Vec<Cut>,
     pub(crate) complete: u16,
     pub(crate) points: ReadPoints,
-    pub(crate) waits: Vec<Advance>,
+    pub(crate) waits: WaitList,
 }
 
 impl Model for EpochBook {
@@ -44,9 +45,9 @@ impl Model for EpochBook {
 
     ghost Value = { BookData };
 
-    ghost view = { λ b. book_of b.cuts.items b.complete b.points b.waits.items };
+    ghost view = { λ b. book_of b.cuts.items b.complete b.points b.waits };
 
-    ghost invariant = { λ b. IsBook (book_of b.cuts.items b.complete b.points b.waits.items) × AreLows b.cuts.items b.complete b.lows.items };
+    ghost invariant = { λ b. IsBook (book_of b.cuts.items b.complete b.points b.waits) × AreLows b.cuts.items b.complete b.lows.items };
 }
 
 impl EpochBook {
@@ -62,7 +63,7 @@ impl EpochBook {
             lows: Vec::new(alloc),
             complete: 0,
             points,
-            waits: Vec::new(alloc),
+            waits: WaitList::new(Vec::new(alloc)),
         })
     }
 
@@ -75,7 +76,7 @@ impl EpochBook {
             lows: self.lows.clone()?,
             complete: self.complete,
             points: self.points.clone()?,
-            waits: self.waits.clone()?,
+            waits: self.waits.copy()?,
         })
     }
 
@@ -126,10 +127,10 @@ impl EpochBook {
         if cut.lo() < min {
             return Some(Held::Min(min));
         }
-        if !points::others_past(&self.points, &self.waits, cut, 0) {
+        if !points::others_past(&self.points, self.waits.as_slice(), cut, 0) {
             return None;
         }
-        advances::first_against(&self.waits, cut).map(Held::Advance)
+        advances::first_against(self.waits.as_slice(), cut).map(Held::Advance)
     }
 
     fn add_cut(&mut self, place: usize, cut: Cut) -> Result<(), BookRefusal>
@@ -148,7 +149,7 @@ impl EpochBook {
             let _ = self.cuts.remove(place);
             return Err(BookRefusal::Memory);
         };
-        points::raise_points(&mut self.points, &self.waits, complete);
+        points::raise_points(&mut self.points, self.waits.as_slice(), complete);
         self.complete = complete;
         advances::keep_later(&mut self.waits, complete);
         Ok(())
@@ -196,7 +197,7 @@ impl EpochBook {
             &self.cuts,
             advance,
             &self.points,
-            &self.waits,
+            self.waits.as_slice(),
             self.complete,
         ) {
             Some(cut) => Some(BookRefusal::Contradiction(Held::Cut(cut))),
@@ -231,10 +232,10 @@ impl EpochBook {
         ensures err { OnErr result (self.new ≡ self.old) }
         ensures memory { IfErr result (λ e. (e ≡ MemoryOf) × (Contains self.old.waits advance → ⊥)) }
     {
-        match advances::place_of_advance(&self.waits, advance) {
+        match advances::place_of_advance(self.waits.as_slice(), advance) {
             Ok(_) => Ok(Learnt::Known),
             Err(place) => {
-                put_in(&mut self.waits, place, advance)?;
+                self.waits.insert(place, advance)?;
                 Ok(Learnt::New)
             }
         }
@@ -287,7 +288,7 @@ impl EpochBook {
         ensures rising { IsRising AdvanceBefore self.now.waits }
         ensures book { IsBook self.now }
     {
-        &self.waits
+        self.waits.as_slice()
     }
 
     /// The standing of a record of an epoch and LSN: alive, dead or waiting.

@@ -3,7 +3,7 @@ ghost use Rattle.std.specs.List.{All, HoldsAt, Contains};
 ghost use Rattle.std.specs.List.Sorted.{IsPartitionPoint};
 ghost use Rattle.redo_core.specs.Data.{CutData};
 ghost use Rattle.redo_core.specs.Shape.{cut_fault, epoch_count};
-ghost use Rattle.redo_core.specs.Order.{IsRising, CutBefore};
+ghost use Rattle.redo_core.specs.Order.{IsRising, CutBefore, AdvanceBefore};
 ghost use Rattle.redo_core.specs.CompleteEpoch.{HasCutsTo, IsCompleteEpoch, HasCut};
 ghost use Rattle.redo_core.specs.Roster.{IsReader};
 ghost use Rattle.epoch_book.specs.Refusing.{CutsBelow, IsFirst};
@@ -55,6 +55,7 @@ fn cuts_below(
     waits: &[Advance],
     complete: u16,
 ) -> bool
+    requires { IsRising AdvanceBefore waits.now }
     ensures { IsTrue result ↔ CutsBelow complete points.now waits.now cut advance }
 {
     advance.epoch() < cut.epoch()
@@ -72,6 +73,7 @@ pub(crate) fn first_against(
     complete: u16,
 ) -> Option<Cut>
     requires rising { IsRising CutBefore cuts.now }
+    requires waits_rise { IsRising AdvanceBefore waits.now }
     ensures first { IfSome result (IsFirst CutBefore (λ c. Contains cuts.now c × CutsBelow complete points.now waits.now c advance)) }
     ensures none { IsNone result → All (λ c. CutsBelow complete points.now waits.now c advance → ⊥) cuts.now }
 {

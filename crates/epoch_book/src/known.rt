@@ -22,7 +22,7 @@ impl EpochBook {
         ensures { IsTrue result ↔ KnowsAdvance self.now advance }
     {
         if self.complete < advance.epoch() {
-            return advances::place_of_advance(&self.waits, advance).is_ok();
+            return advances::place_of_advance(self.waits.as_slice(), advance).is_ok();
         }
         match self
             .points

@@ -16,6 +16,7 @@ mod parts;
 mod points;
 mod refusals;
 mod standing;
+mod wait_list;
 
 pub use book::EpochBook;
 pub use laws::sound_facts_are_learnt;

@@ -8,6 +8,7 @@ ghost use Rattle.epoch_book.specs.Refusing.{OthersPast};
 use crate::book::EpochBook;
 use crate::lows;
 use crate::points::is_past;
+use crate::wait_list::WaitList;
 use redo_core::{Advance, Cut, ReadPoints};
 use std::alloc::{AllocError, Global};
 
@@ -31,7 +32,7 @@ impl EpochBook {
             lows: least,
             complete,
             points,
-            waits,
+            waits: WaitList::new(waits),
         })
     }
 }

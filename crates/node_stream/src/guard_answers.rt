@@ -61,17 +61,17 @@ fn headed(
     alloc: Global,
     form: Form,
     window: Window,
-    head: &[u8],
+    head: Short,
     reply: &replica::Reply,
 ) -> Result<Answer, AllocError>
     requires inside { IsInside window }
-    requires few { length head.now ≤ 45 }
-    ensures text { IfOk result (λ a. text_of a ≡ rendered form head.now (body_of window reply.now)) }
+    requires few { length head.items ≤ 45 }
+    ensures text { IfOk result (λ a. text_of a ≡ rendered form head.items (body_of window reply.now)) }
     ensures short { form ≡ stream.Frames → IfOk result (λ a. IsShort (text_of a)) }
-    ensures long { form ≡ stream.Frames → IfOk result (λ a. length head.now + 17 < length (text_of a) → TakesMemory reply.now) }
+    ensures long { form ≡ stream.Frames → IfOk result (λ a. length head.items + 17 < length (text_of a) → TakesMemory reply.now) }
     ensures memory { OnErr result (TakesMemory reply.now) }
 {
-    render(alloc, form, head, body(alloc, window, reply)?)
+    render(alloc, form, head.as_slice(), body(alloc, window, reply)?)
 }
 
 /// The numbers of a node's status; its membership is 1 for a member.
@@ -118,10 +118,7 @@ pub fn answer(
             generation,
             birth,
             reply: own,
-        } => {
-            let head = head(*generation, *birth);
-            headed(alloc, form, window, head.as_slice(), own)
-        }
+        } => headed(alloc, form, window, head(*generation, *birth), own),
         Reply::Accepted {
             generation,
             birth,
@@ -136,6 +133,6 @@ pub fn answer(
             Ok(numbered(form, "behind", &[u64::from(*epoch), *complete]))
         }
         Reply::Unguarded => Ok(numbered(form, "unguarded", &[])),
-        Reply::Plain(own) => headed(alloc, form, window, &[], own),
+        Reply::Plain(own) => headed(alloc, form, window, Short::new(), own),
     }
 }

@@ -1,22 +1,25 @@
 -- Fact lines, and what is wrong with them.
-use Rattle.std.proofs.Common.{◌≡◌, ◌≢◌, ℕ, ◌<◌, inl, inr, true, false, eqb, List, [], ◌∷◌, length, get_or, take, Option, Some, None, refl, ◌∙◌, arith, rules}
+use Rattle.std.proofs.Common.{◌≡◌, ◌≢◌, ℕ, ◌<◌, inl, inr, true, false, eqb, List, [], ◌∷◌, length, get_or, take, Option, Some, None, Result, Ok, Err, IfErr, refl, ◌∙◌, arith, rules}
 use Rattle.std.proofs.lemmas.Bool.Decides.{nat_tests}
 use Rattle.redo_core.specs.Data.{record_with, cut_of, advance_of}
 use Rattle.redo_core.specs.Shape.{max_number, max_patches, cut_fault, advance_fault}
 use Rattle.redo_core.specs.declared.shapes.ShapeFault.{ShapeFault}
 use Rattle.redo_core.specs.declared.facts.Fact.{Fact}
 use Rattle.redo_core.specs.declared.facts.Fact.TheVariants.{Record, Cut, Advance}
-use Rattle.text.specs.Parts.{◌>>=◌}
+use Rattle.text.specs.Parts.{◌>>=◌, parts_at}
 use Rattle.text.specs.Fields.{numbers_of, of_two, of_three, of_five}
 use Rattle.redo_core.specs.declared.records.RecordHead.{RecordHead}
-use Rattle.script_text.specs.FactLine.{Contents, contents_of, unless, shaped, head_numbers, record_limits, record_line, cut_line, advance_line, fact_line}
+use Rattle.script_text.specs.FactLine.{Contents, contents_of, unless, shaped, head_numbers, record_limits, record_line, cut_line, advance_line, fact_line, fact_of}
 use Rattle.text.proofs.Forms.{numbers_apart}
 use Rattle.script_text.proofs.RecordContents.{no_record}
+use Rattle.script_text.specs.declared.reasons.FactError.{FactError}
+use Rattle.script_text.specs.declared.reasons.FactError.TheVariants.{Memory, Bad}
 use Rattle.script_text.specs.declared.reasons.NumberFault.{NumberFault}
 use Rattle.script_text.specs.declared.reasons.LineReason.{LineReason}
 use Rattle.script_text.specs.declared.reasons.LineReason.TheVariants.{CarriageReturn, UnknownWord, FieldCount, AdvanceFieldCount, Field, Zero, PastPage, ManyPatches, Patch, Shape}
 use Rattle.script_text.specs.FieldReasons.{IsFaultAt}
 use Rattle.script_text.specs.FactReasons.{fault_with, IsRecordReason, IsCutReason, cut_limits, advance_limits, IsFaultyAdvance, IsAdvanceReason, IsFactReason}
+use Rattle.script_text.specs.LineReasons.{IfBad}
 use Rattle.script_text.proofs.Faults.{number_fault, field_reason}
 use Rattle.script_text.proofs.FormLines.{unread_numbers}
 use Rattle.script_text.proofs.PatchLists.{patchless_contents, many_contents}
@@ -149,3 +152,8 @@ advance_reason fields reason h = search (rules, three_fields, faulty_field, faul
 pub fact_reason : (fields : List (List ℕ)) (reason : LineReason) → IsFactReason fields reason → fact_line fields ≡ None
 unfolding fact_line
 fact_reason fields reason h = search (rules, record_reason, cut_reason, advance_reason)
+
+pub none_if_bad : (line : List ℕ) (r : Result Fact FactError) → IfErr r (IfBad (IsFactReason (parts_at 32 line))) → IfErr r (IfBad (λ _. fact_of line ≡ None))
+none_if_bad line (Ok fact) h = tt
+none_if_bad line (Err Memory) h = tt
+none_if_bad line (Err (Bad reason)) h = fact_reason (parts_at 32 line) reason h

@@ -7,18 +7,15 @@ use Rattle.hex.specs.declared.error.FromHexError.{FromHexError}
 use Rattle.hex.proofs.HexLemmas.{decode_of-ok}
 use Rattle.redo_core.specs.Data.{RecordData}
 use Rattle.redo_core.specs.Shape.{max_patches}
-use Rattle.redo_core.specs.declared.shapes.ShapeFault.{ShapeFault}
 use Rattle.redo_core.specs.declared.patches.Patch.{Patch}
-use Rattle.redo_core.specs.declared.facts.Fact.{Fact}
 use Rattle.redo_core.specs.declared.facts.Fact.TheVariants.{Record}
 use Rattle.redo_core.specs.declared.records.RecordHead.{RecordHead}
 use Rattle.text.specs.Number.{decimal_value}
 use Rattle.text.specs.Parts.{◌>>=◌, parts_at}
 use Rattle.text.specs.Fields.{field_of}
 use Rattle.text.specs.HexDigits.{decoded}
-use Rattle.script_text.specs.FactLine.{write_at, write_of, fill_at, fill_of, patch_at, patch_from, patch_of, each_patch, contents, contents_from, contents_of, FitNoRecord, unless, shaped, record_of_patches, record_of_contents}
+use Rattle.script_text.specs.FactLine.{write_at, write_of, fill_at, fill_of, patch_at, patch_from, patch_of, each_patch, contents_from, contents_of, FitNoRecord, shaped, record_of_patches, record_of_contents}
 use Rattle.text.proofs.Numbers.{numbers_are_decimals, lacks_decimal}
-use Rattle.text.proofs.Options.{here}
 use Rattle.text.proofs.Cursor.{no_number}
 use Rattle.text.proofs.Split.{some_parts, lacks, parts_joined, joined_parts, lacks_passing}
 

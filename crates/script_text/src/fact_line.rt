@@ -188,6 +188,7 @@ fn behind_rec(line: &[u8]) -> Option<&[u8]>
 #[tactic(auto, using(crate::proofs::Words::record_parts))]
 pub fn fact(alloc: Global, line: &[u8]) -> Result<Fact, FactError>
     ensures fact { IfOk result (λ f. fact_of line.now ≡ Some f) }
+    ensures none { IfErr result (IfBad (λ _. fact_of line.now ≡ None)) }
     ensures reason { IfErr result (IfBad (IsFactReason (parts_at 32 line.now))) }
 {
     // Most facts are records, whose word ends where it is known to.

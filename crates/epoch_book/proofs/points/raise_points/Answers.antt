@@ -1,19 +1,20 @@
-use Rattle.std.proofs.Common.{sym, subst, arith, ◌+◌, take}
+use Rattle.std.proofs.Common.{◌+◌, ltb, length, sym, ap, ◌∙◌, subst}
+use Rattle.std.specs.List.{All, filter}
+use Rattle.std.proofs.lemmas.List.Elements.{All-filter}
+use Rattle.redo_core.specs.Data.{AdvanceData}
 use Rattle.redo_core.specs.Points.{RaisesPoints}
-use Rattle.epoch_book.proofs.Books.{raises_one}
-use Rattle.epoch_book.proofs.Raising.{counted_more, passed_more}
+use Rattle.redo_core.specs.Roster.{IsReader}
+use Rattle.epoch_book.proofs.Earlier.{raises_earlier}
 use Rattle.epoch_book.proofs.points.raise_points.Goals as goal
-use Rattle.epoch_book.proofs.points.raise_points.Goals.{then-epoch-complete, else-epoch-complete}
 
-pub loop-wait-preserved : goal.loop-wait-preserved
-loop-wait-preserved c =
-    let ws = c.args.waits.now in let i = c.loop-wait.wait-index in let x = c.wait-item.result in
-    elim c.if-epoch-complete.branch [
-      | then-epoch-complete w ↦
-          subst (λ v. RaisesPoints c.args.complete c.args.points.now (take (i + 1) ws) v) (sym w.points-is)
-          (counted_more c.args.complete c.args.points.now c.loop-wait.points w.raise.new.self ws i x c.loop-wait-test.true c.wait-item.is c.loop-wait.invariant
-          (raises_one c.args.complete c.loop-wait.points w.raise.new.self x (omega arith) w.raise.ensures.count w.raise.ensures.point w.raise.ensures.others))
-      | else-epoch-complete w ↦
-          subst (λ v. RaisesPoints c.args.complete c.args.points.now (take (i + 1) ws) v) (sym w.points-is)
-          (passed_more c.args.complete c.args.points.now c.loop-wait.points ws i x c.loop-wait-test.true c.wait-item.is (omega arith) c.loop-wait.invariant)
-    ]
+pub raise_each-requires : goal.raise_each-requires
+raise_each-requires c =
+    let n = length c.args.points.now in
+    subst (All (λ a. IsReader n a.reader)) (sym c.earlier.ensures)
+    (All-filter (λ (a : AdvanceData). ltb a.epoch (c.from.result + 1)) (λ a. IsReader n a.reader) c.args.waits.now c.requires.readers)
+
+pub returns : goal.returns
+returns c =
+    let k = c.args.complete in let old = c.args.points.now in let ws = c.args.waits.now in let new = c.raise_each.new.points in
+    let begun = c.earlier.ensures ∙ ap (λ n. filter (λ (a : AdvanceData). ltb a.epoch (n + 1)) ws) c.from.ensures in
+    raises_earlier k old ws new (subst (λ l. RaisesPoints k old l new) begun c.raise_each.ensures)

@@ -19,7 +19,7 @@ complete_epoch_from-complete-requires-clause-fits c = grind (arith, common_steps
 
 pub complete_epoch_from-complete-requires-clause-known : goal.complete_epoch_from-complete-requires-clause-known
 complete_epoch_from-complete-requires-clause-known c =
-    let b = book_of c.self.inside.cuts.items c.self.inside.complete c.self.inside.points c.self.inside.waits.items in
+    let b = book_of c.self.inside.cuts.items c.self.inside.complete c.self.inside.points c.self.inside.waits in
     subst (λ cs. HasCutsTo cs c.self.inside.complete) (sym (c.deref.ensures.value ∙ c.in_ok-put_in.ensures.items))
     (still_known b c.args.place c.args.cut c.self.invariant.0)
 
@@ -36,7 +36,7 @@ raise-requires-clause-known c =
 
 pub raise-requires-clause-before : goal.raise-requires-clause-before
 raise-requires-clause-before c =
-    let b = book_of c.self.inside.cuts.items c.self.inside.complete c.self.inside.points c.self.inside.waits.items in
+    let b = book_of c.self.inside.cuts.items c.self.inside.complete c.self.inside.points c.self.inside.waits in
     let lows = c.self.inside.lows.items in
     subst (λ cs. AreLows cs c.self.inside.complete lows) (sym (c.deref-2.ensures.value ∙ c.in_ok-put_in.ensures.items))
     (lows_kept b c.args.place c.args.cut lows c.self.invariant.0
@@ -45,7 +45,7 @@ raise-requires-clause-before c =
 
 pub raise-requires-clause-later : goal.raise-requires-clause-later
 raise-requires-clause-later c =
-    let b = book_of c.self.inside.cuts.items c.self.inside.complete c.self.inside.points c.self.inside.waits.items in
+    let b = book_of c.self.inside.cuts.items c.self.inside.complete c.self.inside.points c.self.inside.waits in
     let k = c.complete_epoch_from-complete.result in
     let complete : IsCompleteEpoch (insert b.cuts c.args.place c.args.cut) k =
     subst (λ cs. IsCompleteEpoch cs k) (c.deref.ensures.value ∙ c.in_ok-put_in.ensures.items) c.complete_epoch_from-complete.ensures in
@@ -56,10 +56,10 @@ invariant_of-self-in_default c = grind (arith, common_steps)
 
 pub invariant_of-self-2 : goal.invariant_of-self-2
 invariant_of-self-2 c =
-    let b = book_of c.self.inside.cuts.items c.self.inside.complete c.self.inside.points c.self.inside.waits.items in (
+    let b = book_of c.self.inside.cuts.items c.self.inside.complete c.self.inside.points c.self.inside.waits in (
       cut_book_by b c.args.place c.args.cut c.complete_epoch_from-complete.result c.raise_points.new.points c.put_in.new.list.items c.deref.result.now
-          c.deref-3.result.now c.keep_later.new.waits.items
-          c.in_ok-put_in.ensures.items c.deref.ensures.value c.deref-3.ensures.value c.self.invariant.0
+          c.as_slice.result.now c.keep_later.new.waits
+          c.in_ok-put_in.ensures.items c.deref.ensures.value c.as_slice.ensures c.self.invariant.0
           (subst (λ b. c.args.place ≤ length b.cuts) (sym c.self.view_is) c.requires.within)
           (subst (λ b. IsPartitionPoint (λ d. d.epoch < c.args.cut.epoch) (λ d. c.args.cut.epoch < d.epoch) b.cuts c.args.place) (sym c.self.view_is) c.requires.gap)
           c.requires.shaped c.requires.fits c.complete_epoch_from-complete.ensures c.raise_points.ensures c.keep_later.ensures,
@@ -68,19 +68,19 @@ invariant_of-self-2 c =
 
 pub returns-clause-ok : goal.returns-clause-ok
 returns-clause-ok c =
-    let b = book_of c.self.inside.cuts.items c.self.inside.complete c.self.inside.points c.self.inside.waits.items in
+    let b = book_of c.self.inside.cuts.items c.self.inside.complete c.self.inside.points c.self.inside.waits in
     subst (λ b. LearnsCut b c.args.cut (book_of c.put_in.new.list.items c.complete_epoch_from-complete.result c.raise_points.new.points
-    c.keep_later.new.waits.items)) c.self.view_is
-    (cut_learns_by b c.args.place c.args.cut c.complete_epoch_from-complete.result c.raise_points.new.points c.put_in.new.list.items c.deref-3.result.now
-    c.keep_later.new.waits.items
-    c.in_ok-put_in.ensures.items c.deref-3.ensures.value c.raise_points.ensures c.keep_later.ensures)
+    c.keep_later.new.waits)) c.self.view_is
+    (cut_learns_by b c.args.place c.args.cut c.complete_epoch_from-complete.result c.raise_points.new.points c.put_in.new.list.items c.as_slice.result.now
+    c.keep_later.new.waits
+    c.in_ok-put_in.ensures.items c.as_slice.ensures c.raise_points.ensures c.keep_later.ensures)
 
 pub returns-clause-book : goal.returns-clause-book
 returns-clause-book c =
-    let b = book_of c.self.inside.cuts.items c.self.inside.complete c.self.inside.points c.self.inside.waits.items in
+    let b = book_of c.self.inside.cuts.items c.self.inside.complete c.self.inside.points c.self.inside.waits in
     cut_book_by b c.args.place c.args.cut c.complete_epoch_from-complete.result c.raise_points.new.points c.put_in.new.list.items c.deref.result.now
-    c.deref-3.result.now c.keep_later.new.waits.items
-    c.in_ok-put_in.ensures.items c.deref.ensures.value c.deref-3.ensures.value c.self.invariant.0
+    c.as_slice.result.now c.keep_later.new.waits
+    c.in_ok-put_in.ensures.items c.deref.ensures.value c.as_slice.ensures c.self.invariant.0
     (subst (λ b. c.args.place ≤ length b.cuts) (sym c.self.view_is) c.requires.within)
     (subst (λ b. IsPartitionPoint (λ d. d.epoch < c.args.cut.epoch) (λ d. c.args.cut.epoch < d.epoch) b.cuts c.args.place) (sym c.self.view_is) c.requires.gap)
     c.requires.shaped c.requires.fits c.complete_epoch_from-complete.ensures c.raise_points.ensures c.keep_later.ensures

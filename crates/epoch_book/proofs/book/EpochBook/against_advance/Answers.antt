@@ -10,7 +10,7 @@ use Rattle.epoch_book.proofs.book.EpochBook.against_advance.Goals as goal
 
 pub returns-in-Some-clause-some : goal.returns-in-Some-clause-some
 returns-in-Some-clause-some c =
-    let cs = c.self.inside.cuts.items in let ps = c.self.inside.points in let ws = c.self.inside.waits.items in
+    let cs = c.self.inside.cuts.items in let ps = c.self.inside.points in let ws = c.self.inside.waits in
     let a = c.args.advance in
     let d = c.in-Some.cut in
     let mine : IsReader (length ps) a.reader = (
@@ -18,9 +18,9 @@ returns-in-Some-clause-some c =
       omega
           (arith, c.if-reader-own.false, c.reader.ensures.value, c.readers-own.ensures.value),
     ) in
-    let by_cuts = subst (λ xs. IsFirst CutBefore (λ x. Contains xs x × CutsBelow c.self.inside.complete ps c.deref-2.result.now x a) d) c.deref.ensures.value
+    let by_cuts = subst (λ xs. IsFirst CutBefore (λ x. Contains xs x × CutsBelow c.self.inside.complete ps c.as_slice.result.now x a) d) c.deref.ensures.value
     c.in-Some.ensures.first in
-    let by_waits = subst (λ xs. IsFirst CutBefore (λ x. Contains cs x × CutsBelow c.self.inside.complete ps xs x a) d) c.deref-2.ensures.value by_cuts in
+    let by_waits = subst (λ xs. IsFirst CutBefore (λ x. Contains cs x × CutsBelow c.self.inside.complete ps xs x a) d) c.as_slice.ensures by_cuts in
     subst (λ b. RefusesAdvance b a (Contradiction (Cut d))) c.self.view_is (mine, by_waits)
 
 pub returns-in-Some-clause-reader : goal.returns-in-Some-clause-reader

@@ -11,18 +11,18 @@ use Rattle.epoch_book.proofs.book.EpochBook.against_cut.Goals as goal
 
 pub returns-clause-some : goal.returns-clause-some
 returns-clause-some c =
-    let ps = c.self.inside.points in let ws = c.self.inside.waits.items in
+    let ps = c.self.inside.points in let ws = c.self.inside.waits in
     let min : c.least-min.result ≡ least ps = c.least-min.ensures.value in
     let within : least ps ≤ c.args.cut.lo = omega arith in
-    let past : OthersPast ps ws c.args.cut 0 = subst (λ xs. OthersPast ps xs c.args.cut 0) c.deref.ensures.value (c.if-not-others_past.ensures.0 refl) in
+    let past : OthersPast ps ws c.args.cut 0 = subst (λ xs. OthersPast ps xs c.args.cut 0) c.as_slice.ensures (c.if-not-others_past.ensures.0 refl) in
     subst (λ b. IfSome c.map.result (λ h. LacksCut b.cuts c.args.cut.epoch → RefusesCut b c.args.cut (Contradiction h))) c.self.view_is
-    (mapped_to_held c.first_against.result c.map.result (IsFirst AdvanceBefore (λ a. Contains c.deref-2.result.now a × Contradict c.args.cut a)) _
+    (mapped_to_held c.first_against.result c.map.result (IsFirst AdvanceBefore (λ a. Contains c.as_slice-2.result.now a × Contradict c.args.cut a)) _
     c.map.ensures.cases c.first_against.ensures.first
     (λ x first lacks. (
       lacks,
       within,
       past,
-      subst (λ xs. IsFirst AdvanceBefore (λ a. Contains xs a × Contradict c.args.cut a) x) c.deref-2.ensures.value
+      subst (λ xs. IsFirst AdvanceBefore (λ a. Contains xs a × Contradict c.args.cut a) x) c.as_slice-2.ensures
           first,
     )))
 

@@ -4,17 +4,16 @@ use Rattle.epoch_book.specs.Book.{IsBook, book_of}
 use Rattle.epoch_book.specs.Lows.{AreLows}
 use Rattle.epoch_book.proofs.book.EpochBook.copy.Goals as goal
 
-cuts_are : (c : goal.In_ok-clone-4) → c.in_ok-clone.field-0.items ≡ c.self.inside.cuts.items
+cuts_are : (c : goal.In_ok-copy) → c.in_ok-clone.field-0.items ≡ c.self.inside.cuts.items
 cuts_are c = same_from_all_zip _ c.self.inside.cuts.items c.in_ok-clone.field-0.items c.in_ok-clone.ensures.cases.0 (λ x y is. is)
 
-is_copied : (c : goal.In_ok-clone-4) → book_of c.in_ok-clone.field-0.items c.self.inside.complete c.in_ok-clone-3.field-0 c.in_ok-clone-4.field-0.items
-    ≡ book_of c.self.inside.cuts.items c.self.inside.complete c.self.inside.points c.self.inside.waits.items
+is_copied : (c : goal.In_ok-copy) → book_of c.in_ok-clone.field-0.items c.self.inside.complete c.in_ok-clone-3.field-0 c.in_ok-copy.field-0
+    ≡ book_of c.self.inside.cuts.items c.self.inside.complete c.self.inside.points c.self.inside.waits
 is_copied c =
     let b = c.self.inside in
-    let waits = same_from_all_zip _ b.waits.items c.in_ok-clone-4.field-0.items c.in_ok-clone-4.ensures.cases.0 (λ x y is. is) in
-    ap (λ cs. book_of cs b.complete c.in_ok-clone-3.field-0 c.in_ok-clone-4.field-0.items) (cuts_are c)
-    ∙ ap (λ ps. book_of b.cuts.items b.complete ps c.in_ok-clone-4.field-0.items) c.in_ok-clone-3.ensures.cases
-    ∙ ap (λ ws. book_of b.cuts.items b.complete b.points ws) waits
+    ap (λ cs. book_of cs b.complete c.in_ok-clone-3.field-0 c.in_ok-copy.field-0) (cuts_are c)
+    ∙ ap (λ ps. book_of b.cuts.items b.complete ps c.in_ok-copy.field-0) c.in_ok-clone-3.ensures.cases
+    ∙ ap (λ ws. book_of b.cuts.items b.complete b.points ws) c.in_ok-copy.ensures
 
 pub invariant_of-result : goal.invariant_of-result
 invariant_of-result c =

@@ -6,7 +6,7 @@ use Rattle.epoch_book.proofs.book.EpochBook.count.Goals as goal
 
 pub invariant_of-self : goal.invariant_of-self
 invariant_of-self c =
-    let b = book_of c.self.inside.cuts.items c.self.inside.complete c.self.inside.points c.self.inside.waits.items in
+    let b = book_of c.self.inside.cuts.items c.self.inside.complete c.self.inside.points c.self.inside.waits in
     let counts = subst (λ x. c.args.advance.epoch ≤ x.complete) (sym c.self.view_is) c.requires.counts in (
       raised_book b c.args.advance c.raise.new.self c.self.invariant.0 c.point.ensures.shape
           (raises_one c.self.inside.complete c.self.inside.points c.raise.new.self c.args.advance counts c.raise.ensures.count c.raise.ensures.point
@@ -16,7 +16,7 @@ invariant_of-self c =
 
 pub returns-clause-book : goal.returns-clause-book
 returns-clause-book c =
-    let b = book_of c.self.inside.cuts.items c.self.inside.complete c.self.inside.points c.self.inside.waits.items in
+    let b = book_of c.self.inside.cuts.items c.self.inside.complete c.self.inside.points c.self.inside.waits in
     let counts = subst (λ x. c.args.advance.epoch ≤ x.complete) (sym c.self.view_is) c.requires.counts in
     raised_book b c.args.advance c.raise.new.self c.self.invariant.0 c.point.ensures.shape
     (raises_one c.self.inside.complete c.self.inside.points c.raise.new.self c.args.advance counts c.raise.ensures.count c.raise.ensures.point

@@ -8,7 +8,7 @@ use Rattle.epoch_book.proofs.book.EpochBook.has_cut.Goals as goal
 
 pub returns-in-Ok : goal.returns-in-Ok
 returns-in-Ok c =
-    let b = book_of c.self.inside.cuts.items c.self.inside.complete c.self.inside.points c.self.inside.waits.items in
+    let b = book_of c.self.inside.cuts.items c.self.inside.complete c.self.inside.points c.self.inside.waits in
     let held = held_at b c.deref.result.now c.in-Ok.place c.epoch.result c.index.result.now c.deref.ensures.value c.in-Ok.ensures.found c.index.ensures in
     subst (λ x. IsTrue c.eq.result ↔ Contains x.cuts c.args.cut) c.self.view_is (
       λ h.

@@ -9,7 +9,7 @@ use Rattle.epoch_book.proofs.book.EpochBook.last_cut_at.Goals as goal
 
 pub returns-clause-value : goal.returns-clause-value
 returns-clause-value c =
-    let b = book_of c.self.inside.cuts.items c.self.inside.complete c.self.inside.points c.self.inside.waits.items in
+    let b = book_of c.self.inside.cuts.items c.self.inside.complete c.self.inside.points c.self.inside.waits in
     let number = c.args.number in let last = c.last_at.result in
     subst (λ b. IsGreatest (CutsAt b number) last) c.self.view_is
     (last_cut b number last c.self.inside.lows.items c.self.invariant.1

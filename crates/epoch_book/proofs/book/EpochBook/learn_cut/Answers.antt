@@ -27,7 +27,7 @@ returns-in_ok-add_cut-in-Err-clause-knows c = cut_knows c.args.self.now c.args.c
 
 pub returns-after-eq-clause-knows : goal.returns-after-eq-clause-knows
 returns-after-eq-clause-knows c =
-    let b = book_of c.self.inside.cuts.items c.self.inside.complete c.self.inside.points c.self.inside.waits.items in
+    let b = book_of c.self.inside.cuts.items c.self.inside.complete c.self.inside.points c.self.inside.waits in
     let held = held_at b c.deref.result.now c.in-Ok.place c.epoch.result c.index.result.now c.deref.ensures.value c.in-Ok.ensures.found c.index.ensures in
     elim c.if-eq.branch [
       | then-eq w ↦
@@ -43,7 +43,7 @@ returns-after-eq-clause-knows c =
 
 pub returns-after-eq-clause-refuses : goal.returns-after-eq-clause-refuses
 returns-after-eq-clause-refuses c = λ e h.
-    let b = book_of c.self.inside.cuts.items c.self.inside.complete c.self.inside.points c.self.inside.waits.items in
+    let b = book_of c.self.inside.cuts.items c.self.inside.complete c.self.inside.points c.self.inside.waits in
     let refused : RefusesCut b c.args.cut e = subst (λ x. RefusesCut x c.args.cut e) (sym c.self.view_is) h in
     let held = held_at b c.deref.result.now c.in-Ok.place c.epoch.result c.index.result.now c.deref.ensures.value c.in-Ok.ensures.found c.index.ensures in
     elim c.if-eq.branch [
