@@ -21,6 +21,7 @@ import measure
 SIZES = [1_000, 4_000, 16_000]
 TURNS = 3  # of calls that are asked again and again
 PAGES = 1_000
+ADVANCES = 8  # of each epoch
 PARTS = 250  # of a bad text, for each one of its size
 
 
@@ -165,6 +166,22 @@ def cuts_below_all_before(size):
     return script(facts, 2, *taken(facts), *asked, *["wipe 2", "absorb 2 2", "wipe 2", "join 2 1"] * TURNS)
 
 
+def advances_before_their_epochs(size):
+    """Advances of epochs that have not begun, several of each, and then the truncations that begin them."""
+    last = ADVANCES * size
+    advances = [f"min {1 + turn // ADVANCES} {turn + 1}" for turn in range(last)]
+    facts = [*advances, *(f"cut {epoch} {last} {last}" for epoch in range(1, size + 1))]
+    return script(facts, 1, *taken(facts), "front 1")
+
+
+def advances_behind_truncations(size):
+    """Truncations, and then advances of the first epoch and of the last."""
+    last = ADVANCES * size
+    cuts = [f"cut {epoch} {last} {last}" for epoch in range(1, size + 1)]
+    facts = [*cuts, *(f"min {turn % 2 * size} {turn + 1}" for turn in range(last))]
+    return script(facts, 1, *taken(facts), "front 1")
+
+
 def deep_waits(size):
     """All of many crashes waits for the first truncation, which comes last, at a node and by a message that is absorbed late."""
     facts = crashes(size)
@@ -227,6 +244,8 @@ TASKS = {it.__name__: it for it in (
     falling_truncations,
     joins_of_falling,
     cuts_below_all_before,
+    advances_before_their_epochs,
+    advances_behind_truncations,
     deep_waits,
     late_mail,
     discards_over_images,

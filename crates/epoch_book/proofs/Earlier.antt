@@ -2,6 +2,7 @@
 use Rattle.std.proofs.Common.{◌≡◌, ℕ, zero, suc, ◌+◌, ◌<◌, ◌≤◌, ◌↔◌, inl, inr, ⊎_elim, List, [], ◌∷◌, length, get_or, take, drop, refl, sym, ap, ◌∙◌, arith, Bool, true, false, cond, ltb, Result, Ok, Err, OnOk, is_ok, if◌then◌else◌}
 use Rattle.std.specs.List.{AllWithin, filter, insert}
 use Rattle.std.specs.List.Sorted.{IsPartitionPoint}
+use Rattle.std.proofs.lemmas.List.{length-take-le}
 use Rattle.std.proofs.lemmas.List.Elements.{All-from_recursion}
 use Rattle.redo_core.specs.Data.{CutData, AdvanceData}
 use Rattle.redo_core.specs.Order.{IsRising, AdvanceBefore}
@@ -114,3 +115,10 @@ pub inserted_behind : {X E A : Type 0} (r : Result A E) (n : ℕ) (xs ys : List 
     → ys ≡ (if is_ok r then insert xs (n + i) x else xs) → OnOk r (drop n ys ≡ insert (drop n xs) i x)
 inserted_behind (Ok a) n xs ys i x l e = ap (drop n) e ∙ drop_insert n xs i x l
 inserted_behind (Err a) n xs ys i x l e = tt
+
+-- what is behind a partition point are those that fail
+pub rest_passes : {X : Type 0} (Before : X → X → Type 0) (p q : X → Bool) (xs : List X) (i : ℕ)
+    → ((x y : X) → Before x y → p x ≡ false → p y ≡ false) → ((x : X) → p x ≡ true → q x ≡ false) → ((x : X) → p x ≡ false → q x ≡ true)
+    → IsRising Before xs → i ≤ length xs → IsPartitionPoint (λ y. p y ≡ true) (λ y. p y ≡ false) xs i → drop i xs ≡ filter q xs
+rest_passes Before p q xs i stays off on r l h =
+    ap (λ k. drop k xs) (sym (length-take-le i xs l) ∙ ap length (front_passes p xs i h)) ∙ fails_after Before p q xs stays off on r

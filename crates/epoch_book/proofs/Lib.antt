@@ -7,5 +7,6 @@ pub mod Least
 pub mod OneReason
 pub mod SoundLogs
 mod Earlier
+mod Against
 mod Raising
 mod Found

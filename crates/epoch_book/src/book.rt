@@ -1,8 +1,10 @@
 ghost use Rattle.std.specs.Prelude.{◌≡◌, ◌<◌, ◌≤◌, ◌⊎◌, ◌↔◌, List, [], length, replicate, IfOk, OnOk, OnErr, IfErr, IfSome, IsNone, IsTrue, Err as ErrOf, None};
-ghost use Rattle.std.specs.List.{Contains};
+ghost use Rattle.std.specs.List.{All, Contains};
 ghost use Rattle.std.specs.List.Sorted.{IsPartitionPoint};
+ghost use Rattle.redo_core.specs.Data.{CutData};
 ghost use Rattle.redo_core.specs.Shape.{cut_fault, advance_fault, epoch_count};
-ghost use Rattle.redo_core.specs.Order.{IsRising, IsGreatest, CutBefore, AdvanceBefore};
+ghost use Rattle.redo_core.specs.Order.{IsRising, IsGreatest, IsFirst, CutBefore, AdvanceBefore};
+ghost use Rattle.redo_core.specs.Past.{CutsBelow};
 ghost use Rattle.redo_core.specs.CompleteEpoch.{IsCompleteEpoch};
 ghost use Rattle.redo_core.specs.Standing.{IsAlive, IsDead, IsWaiting};
 ghost use Rattle.redo_core.specs.declared.facts.Fact.TheVariants.{Cut as OfCut, Advance as OfAdvance};
@@ -193,16 +195,30 @@ impl EpochBook {
             let shown = advance.reader();
             return Some(BookRefusal::OtherRoster { own, shown });
         }
-        match cuts::first_against(
-            &self.cuts,
-            advance,
-            &self.points,
-            self.waits.as_slice(),
-            self.complete,
-        ) {
+        match self.cut_against(advance) {
             Some(cut) => Some(BookRefusal::Contradiction(Held::Cut(cut))),
             None => None,
         }
+    }
+
+    // The truncation of the least epoch that contradicts an advance.
+    fn cut_against(&self, advance: Advance) -> Option<Cut>
+        ensures first { IfSome result (IsFirst CutBefore (λ c. Contains self.now.cuts c × CutsBelow self.now.complete self.now.points self.now.waits c advance)) }
+        ensures none { IsNone result → All (λ c. CutsBelow self.now.complete self.now.points self.now.waits c advance → ⊥) self.now.cuts }
+    {
+        let waits = self.waits.as_slice();
+        if self.is_spared(advance) {
+            let later = cuts::later(&self.cuts, self.complete);
+            return cuts::first_against(later, advance, &self.points, waits, self.complete);
+        }
+        cuts::first_against(&self.cuts, advance, &self.points, waits, self.complete)
+    }
+
+    // Whether no truncation up to the complete epoch contradicts an advance. One of several readers is never contradicted by these.
+    fn is_spared(&self, advance: Advance) -> bool
+        ensures { IsTrue result → (c : CutData) → Contains self.now.cuts c → CutsBelow self.now.complete self.now.points self.now.waits c advance → self.now.complete < c.epoch }
+    {
+        self.points.readers() > 1 || lows::spare(&self.lows, advance.epoch(), advance.point())
     }
 
     // An advance of a known epoch takes effect.

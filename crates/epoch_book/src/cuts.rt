@@ -1,5 +1,5 @@
-ghost use Rattle.std.specs.Prelude.{◌≡◌, ◌<◌, ◌≤◌, ◌↔◌, length, IsTrue, IfOk, IfErr, IfSome, IsNone, None};
-ghost use Rattle.std.specs.List.{All, HoldsAt, Contains};
+ghost use Rattle.std.specs.Prelude.{◌≡◌, ◌<◌, ◌≤◌, ◌↔◌, length, nat_lt, IsTrue, IfOk, IfErr, IfSome, IsNone, None};
+ghost use Rattle.std.specs.List.{All, HoldsAt, Contains, filter};
 ghost use Rattle.std.specs.List.Sorted.{IsPartitionPoint};
 ghost use Rattle.redo_core.specs.Data.{CutData};
 ghost use Rattle.redo_core.specs.Shape.{cut_fault, epoch_count};
@@ -45,6 +45,15 @@ pub(crate) fn complete_epoch_from(cuts: &[Cut], from: u16) -> u16
         epoch += 1;
     }
     epoch as u16
+}
+
+/// The truncations of epochs above one: the last ones.
+pub(crate) fn later(cuts: &[Cut], epoch: u16) -> &[Cut]
+    requires { IsRising CutBefore cuts.now }
+    ensures { result.now ≡ filter (λ c. nat_lt epoch c.epoch) cuts.now }
+{
+    let count = cuts.partition_point(|cut| cut.epoch() <= epoch);
+    &cuts[count..]
 }
 
 // Whether the truncation cuts below the advance, and nobody is left who reads there.
