@@ -179,13 +179,16 @@ def main():
     build = Build(crates, args.crate, args.jobs)
     try:
         build.run()
-        mark_programs(args.crate, began)
     except FileNotFoundError:
         sys.exit("rt is not on the path; README.md says what is needed")
     except KeyboardInterrupt:
         sys.exit(130)
     finally:
         build.stop()
+    try:
+        mark_programs(args.crate, began)
+    except OSError as error:
+        sys.exit(f"{error.filename} cannot be written, so the scripts would build again: {error.strerror}")
 
 
 if __name__ == "__main__":
