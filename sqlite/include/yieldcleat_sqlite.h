@@ -1,5 +1,5 @@
 /* What a program may ask of a database that the VFS `yieldcleat` serves, by sqlite3_file_control. In SQL the same is
- * `PRAGMA yieldcleat_error`, `PRAGMA yieldcleat_point` and `PRAGMA yieldcleat_status`. */
+ * `PRAGMA yieldcleat_error` and `PRAGMA yieldcleat_point`; `PRAGMA yieldcleat_status` has no file control. */
 #ifndef YIELDCLEAT_SQLITE_H
 #define YIELDCLEAT_SQLITE_H
 

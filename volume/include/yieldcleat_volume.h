@@ -45,7 +45,7 @@ enum yieldcleat_fault {
     YIELDCLEAT_FENCED = 1,    /* another handle has opened the volume for writing; this one only closes */
     YIELDCLEAT_NO_QUORUM = 2, /* too few nodes answer; nothing was sent that could become durable later */
     YIELDCLEAT_TIMEOUT = 3,   /* too few nodes have answered in time; what was sent may become durable later, or not */
-    YIELDCLEAT_FULL = 4,      /* the volume has no numbers left, or its nodes have no room */
+    YIELDCLEAT_FULL = 4,      /* the volume has no LSN or no epoch left */
     YIELDCLEAT_NOT_FOUND = 5, /* there is no volume at this place */
     YIELDCLEAT_BELOW = 6,     /* the point is below the least readable one */
     YIELDCLEAT_ABOVE = 7,     /* the point is above the newest one */

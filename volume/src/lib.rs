@@ -2,7 +2,7 @@
 //!
 //! [`Volume`] is the engine's handle, for many threads, and [`Reader`] that of whoever reads beside it. What is decided - who may write, what the last commit is, what is durable - a
 //! [`Machine`] decides, one step for each event; it has no clock, no socket and no thread. This package gives it those: a thread for each
-//! node, which connects, sends and reads, and one that steps the machine. Nothing here is proved, and nothing here counts nodes.
+//! node, which connects, sends and reads, and one that steps the machine. Nothing here is proved.
 
 #![deny(unsafe_code)]
 
