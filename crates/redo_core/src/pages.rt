@@ -1,5 +1,6 @@
 ghost use Rattle.std.specs.Prelude.{◌≡◌, ◌≤◌, ◌+◌, ◌↔◌, false, length, IsTrue, IfOk};
 ghost use Rattle.std.specs.List.{list_any};
+ghost use Rattle.redo_core.specs.Body.{patches_of};
 ghost use Rattle.redo_core.specs.Data.{plain};
 ghost use Rattle.redo_core.specs.Shape.{is_off_page, is_patch_off_page, page_len};
 ghost use Rattle.redo_core.specs.Writing.{write, with_bytes, with_patch, with_patches, zeros};
@@ -36,6 +37,16 @@ impl Page {
     {
         let bytes = vec![in alloc; 0; PAGE_LEN]?;
         Ok(Page { bytes })
+    }
+
+    /// A page of zeros with a record applied to it: for a record with `init`, the page after it, whatever the page was. The only error is
+    /// an allocation failure.
+    pub fn made_by(alloc: Global, redo: &Record) -> Result<Self, AllocError>
+        ensures { IfOk result (λ p. p ≡ write zeros redo.now) }
+    {
+        let mut page = Page::zeros(alloc)?;
+        put_body(&mut page.bytes, redo.body());
+        Ok(page)
     }
 
     /// The page of these bytes.
@@ -99,9 +110,17 @@ pub fn apply(redo: &Record, page: &mut Page)
     if redo.init() {
         clear(&mut page.bytes);
     }
-    match redo.body() {
-        Body::Writes(writes) => put_all(&mut page.bytes, writes),
-        Body::Patches(patches) => patch_all(&mut page.bytes, patches),
+    put_body(&mut page.bytes, redo.body());
+}
+
+fn put_body(page: &mut [u8], body: Body<'_>)
+    requires page { length page.old ≡ page_len }
+    requires inside { list_any is_patch_off_page (patches_of body) ≡ false }
+    ensures { page.new ≡ with_patches page.old (patches_of body.entry) }
+{
+    match body {
+        Body::Writes(writes) => put_all(page, writes),
+        Body::Patches(patches) => patch_all(page, patches),
     }
 }
 

@@ -8,7 +8,7 @@ ghost use Rattle.redo_core.specs.declared.facts.Fact.TheVariants.{Record as OfRe
 ghost use Rattle.segment_theorems.specs.State.{State, SameBase, empty_state, image_of};
 ghost use Rattle.segment_theorems.specs.Means.{MeansAt, Means};
 ghost use Rattle.segment_theorems.specs.HasMeaning.{HasAnchor, IsStable};
-ghost use Rattle.redo_core.specs.Writing.{after_records};
+ghost use Rattle.redo_core.specs.Writing.{after_records, write, zeros};
 ghost use Rattle.segment_theorems.specs.Shows.{Shows};
 ghost use Rattle.segment_theorems.specs.Promises.{TakesFact};
 ghost use Rattle.segment_core.specs.Taking.{ReportsChange, ReportsKnown, Stores, IsNew};
@@ -265,10 +265,25 @@ impl Segment {
         ensures { IfOk result (λ image. IsOkAnd records.entry (λ v. image ≡ after_records (image_of self.now.store page) (map (λ x. x.now) v.items))) }
     {
         let records = records?;
+        if let Some((first, later)) = records.split_first() {
+            // Such a record hides the image: neither is copied, and zeros are written once.
+            if first.init() {
+                return page_from(self.alloc, first, later);
+            }
+        }
         let mut image = self.store.image(page)?;
         apply_all(&records, &mut image);
         Ok(image)
     }
+}
+
+/// The page that a record makes of zeros, with later records applied to it.
+fn page_from(alloc: Global, first: &Record, later: &[&Record]) -> Result<Page, AllocError>
+    ensures { IfOk result (λ page. page ≡ after_records (write zeros first.now) (map (λ x. x.now) later.now)) }
+{
+    let mut page = Page::made_by(alloc, first)?;
+    apply_all(later, &mut page);
+    Ok(page)
 }
 
 /// Applies records to a page, in order.
