@@ -2,13 +2,7 @@
 
 import pytest
 from model.volume import HARMLESS, MUTANTS, replay
-from model.volume_schedules import OPTIONS, SCHEDULES, Schedule, explore, moves_of, show, shrink
-
-
-def run_directed(name, mutants):
-    schedule = Schedule(mutants=mutants, **OPTIONS.get(name, {}))
-    SCHEDULES[name](schedule)
-    return schedule, schedule.end()
+from model.volume_schedules import SCHEDULES, directed, explore, moves_of, show, shrink
 
 
 def test_every_mutant_has_a_schedule():
@@ -17,14 +11,14 @@ def test_every_mutant_has_a_schedule():
 
 @pytest.mark.parametrize("mutant", SCHEDULES)
 def test_directed_schedule_catches(mutant):
-    schedule, violation = run_directed(mutant, (mutant,))
-    assert violation, f"no promise is broken\n{show(schedule.moves, **schedule.options)}"
+    schedule = directed(mutant, (mutant,))
+    assert schedule.end(), f"no promise is broken\n{show(schedule.moves, **schedule.options)}"
 
 
 @pytest.mark.parametrize("mutant", SCHEDULES)
 def test_directed_schedule_of_the_right_rules(mutant):
-    schedule, violation = run_directed(mutant, ())
-    assert violation is None, f"{violation}\n{show(schedule.moves, **schedule.options)}"
+    schedule = directed(mutant)
+    assert schedule.end() is None, f"{schedule.violation}\n{show(schedule.moves, **schedule.options)}"
 
 
 @pytest.mark.parametrize("deviation", ["", *HARMLESS])

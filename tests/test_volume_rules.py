@@ -7,7 +7,7 @@ import pytest
 from model import machine_schedules
 from model.volume_machine import Machines
 from model.volume_rules import Traced, faults, trace
-from model.volume_schedules import OPTIONS, SCHEDULES, Random, Schedule, show
+from model.volume_schedules import SCHEDULES, Random, directed, show
 
 # What the rules do not speak of: records, when they are written, their backlinks and advances, and what readers conclude.
 OUTSIDE = {
@@ -19,15 +19,9 @@ OUTSIDE = {
 }
 
 
-def directed(name, mutants):
-    schedule = Schedule(mutants=mutants, **OPTIONS.get(name, {}))
-    SCHEDULES[name](schedule)
-    return schedule
-
-
 @pytest.mark.parametrize("name", SCHEDULES)
 def test_directed_schedule_keeps_to_the_rules(name):
-    schedule = directed(name, ())
+    schedule = directed(name)
     run = trace(schedule.moves, **schedule.options)
     assert faults(run) == [], show(schedule.moves, **schedule.options)
     assert run.steps

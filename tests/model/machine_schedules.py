@@ -76,14 +76,11 @@ def two_truncations_of_one_epoch(s):
     s.give(a, [2], "fence")
     s.give(a, [2], "take")
     s.transaction(a, [2])
-    b = s.start(3)
-    s.known(b, [0, 1])
+    b = s.united(3, [0, 1])
     s.give(b, [0], "propose", "lost")
-    c = s.start(4)
-    s.known(c, [1, 2])
+    c = s.united(4, [1, 2])
     s.give(c, [1, 2], "propose")
-    d = s.start(5)
-    s.open(d, [0, 1])
+    s.opened(5, [0, 1])
 
 
 def overlapping_numbers(s):
@@ -92,14 +89,12 @@ def overlapping_numbers(s):
     s.give(a, [2], "fence")
     s.gossip_all([2])
     s.transaction(a, [2])
-    b = s.start(3)
-    s.open(b, [0, 1])
+    b = s.opened(3, [0, 1])
     s.give(b, [2], "fence")
     s.transaction(b, [0])
     s.give(b, [2], "front")
     s.give(b, [1], "take")
-    c = s.start(4)
-    s.open(c, [1, 2])
+    s.opened(4, [1, 2])
 
 
 def read_points(s):
@@ -110,8 +105,7 @@ def read_points(s):
     s.do("discard", 0)
     s.transaction(a, [0, 1])
     s.do("discard", 1)
-    b = s.start(3)
-    s.open(b, [0, 1])
+    b = s.opened(3, [0, 1])
     s.give(b, [2], "fence")
     s.give(b, [2], "take")
     s.do("copy", 2, 0)
@@ -166,8 +160,7 @@ def broken_connections(s):
     s.give(a, [2], "fence")
     s.give(a, [0, 1, 2], "take")
     s.do("fail", a, 2)
-    b = s.start(3)
-    s.known(b, [1, 2])
+    b = s.united(3, [1, 2])
     s.do("fail", b, 0)
     s.give(a, [1], "take")
     s.do("fail", a, 1)
@@ -177,18 +170,9 @@ def broken_connections(s):
         s.do("fail", c, i)
 
 
-DIRECTED = {
-    **SCHEDULES,
-    "creation": creation,
-    "creation_of_a_wiped_node": creation_of_a_wiped_node,
-    "creation_over_facts": creation_over_facts,
-    "two_truncations_of_one_epoch": two_truncations_of_one_epoch,
-    "overlapping_numbers": overlapping_numbers,
-    "read_points": read_points,
-    "advance_before_the_records": advance_before_the_records,
-    "restarted_nodes": restarted_nodes,
-    "broken_connections": broken_connections,
-}
+OWN = (creation, creation_of_a_wiped_node, creation_over_facts, two_truncations_of_one_epoch, overlapping_numbers, read_points)
+OWN += (advance_before_the_records, restarted_nodes, broken_connections)
+DIRECTED = {**SCHEDULES, **{it.__name__: it for it in OWN}}
 WORLDS = {
     **OPTIONS,
     "creation": {"created": ()},

@@ -6,6 +6,7 @@ A page is the list of its records. A wrong implementation is a name of MUTANTS; 
 """
 
 import functools
+import itertools
 
 MUTANTS = {
     "truncates_at_the_complete_point": "lo is the complete point of the union and not its last commit point",
@@ -53,16 +54,17 @@ class Violation(Exception):
 # ---- what a set of facts means
 
 
+def complete_epoch(cuts):
+    """The last epoch up to which each one has a truncation."""
+    return next(epoch for epoch in itertools.count() if epoch + 1 not in cuts)
+
+
 class View:
     """Complete epoch k, linked records, complete point and commit point of a set of facts; in the view of epoch k where it is given."""
 
     def __init__(self, facts, k=None):
         self.cuts = {fact[1]: fact for fact in facts if fact[0] == "cut"}
-        if k is None:
-            k = 0
-            while k + 1 in self.cuts:
-                k += 1
-        self.k = k
+        self.k = complete_epoch(self.cuts) if k is None else k
         records = [fact for fact in facts if fact[0] == "record"]
         self.greatest = max((record[2] for record in records), default=0)
         self.alive = [record for record in records if self.is_alive(record[1], record[2])]
@@ -102,9 +104,7 @@ def view(facts, k=None):
 
 def law_fault(records, cuts, advances):
     """The first law that the emitted facts break, or None. `cuts` has the chosen truncation of each epoch."""
-    facts, top, keys = frozenset(records) | frozenset(cuts.values()), 0, {}
-    while top + 1 in cuts:
-        top += 1
+    facts, top, keys = frozenset(records) | frozenset(cuts.values()), complete_epoch(cuts), {}
     for record in records:
         _, epoch, number, back, page, block_back = record
         if keys.setdefault((epoch, number), record) != record:
@@ -182,11 +182,8 @@ class World:
         """The promises that are about the whole run so far."""
         if fault := law_fault(self.records, self.chosen, self.advances):
             raise Violation("sound", fault)
-        top = 0
-        while top + 1 in self.chosen:
-            top += 1
         for (point, epoch), pages in self.durables.items():
-            for k in range(epoch, top + 1):
+            for k in range(epoch, complete_epoch(self.chosen) + 1):
                 if self.log_view(k).pages(point) != pages:
                     raise Violation("durable", f"pages at {point} of epoch {epoch} differ in view {k}")
             for node in self.nodes:

@@ -51,26 +51,28 @@ class Schedule:
                 for kind in ("propose", "take", "push"):
                     self.give(engine, nodes, kind)
 
-    def open(self, engine, nodes):
-        self.known(engine, nodes)
-        self.choose(engine, nodes)
-
     def transaction(self, engine, nodes):
         self.do("write", engine, 1, 0)
         self.do("write", engine, 1, 0)
         for number in self.world.engines[engine].last - 1, self.world.engines[engine].last:
             self.give(engine, nodes, "take", having=lambda request: request[4][0] == "record" and request[4][2] == number)
 
-    def opened(self):
-        """An engine of generation 2 that has opened the volume over nodes 0 and 1."""
-        engine = self.start(2)
-        self.open(engine, [0, 1])
+    def united(self, generation, nodes, margin="lo"):
+        """A new engine that has made its union known at these nodes."""
+        engine = self.start(generation, margin)
+        self.known(engine, nodes)
+        return engine
+
+    def opened(self, generation=2, nodes=(0, 1), margin="lo"):
+        """A new engine that has opened the volume over these nodes."""
+        engine = self.united(generation, list(nodes), margin)
+        self.choose(engine, list(nodes))
         return engine
 
     def committed(self, nodes=(0, 1)):
-        """The same, and a transaction of it whose records reached these nodes."""
+        """An engine of generation 2 that has opened the volume, and a transaction of it whose records reached these nodes."""
         engine = self.opened()
-        self.transaction(engine, nodes)
+        self.transaction(engine, list(nodes))
         return engine
 
     def readmit(self, engine, i):
@@ -107,9 +109,6 @@ class Doubled(Schedule):
         created = [j for i in world.pop("created", range(3)) for j in both(i)]
         super().__init__(**{**world, "nodes": 6, "quorum": 4, "created": created})
 
-    def committed(self, nodes=(0, 1)):
-        return super().committed(list(nodes))
-
     def give(self, engine, nodes, kind, fate="heard", having=lambda request: True):
         """A list names nodes of the three, a tuple is a quorum of the six."""
         named = nodes if isinstance(nodes, tuple) else [j for i in nodes for j in both(i)]
@@ -143,8 +142,7 @@ def torn_transaction(s):
     a = s.opened()
     s.do("write", a, 1, 0)
     s.give(a, [0, 1], "take")
-    b = s.start(3)
-    s.open(b, [0, 1])
+    b = s.opened(3, [0, 1])
     s.transaction(b, [0, 1])
 
 
@@ -153,33 +151,26 @@ def fronts_of_two_epochs(s):
     a = s.committed()
     s.give(a, [2], "fence")
     s.give(a, [2], "take", having=cut_of(1))
-    b = s.start(3)
-    s.known(b, [0, 1])
+    b = s.united(3, [0, 1])
     s.give(b, [0, 1], "propose")
     s.give(b, [2], "fence")
     s.give(b, [2], "take")
-    c = s.start(4)
-    s.open(c, [1, 2])
+    s.opened(4, [1, 2])
 
 
 def two_proposals(s):
     """Node 0 accepted one truncation, nodes 1 and 2 another of a greater generation."""
-    a = s.start(2)
-    s.known(a, [0, 1])
+    a = s.united(2, [0, 1])
     s.give(a, [0], "propose", "lost")
-    b = s.start(3, "more")
-    s.known(b, [1, 2])
+    b = s.united(3, [1, 2], "more")
     s.give(b, [1, 2], "propose")
-    c = s.start(4)
-    s.open(c, [0, 1])
+    s.opened(4, [0, 1])
 
 
 def pending_ignored(s):
-    a = s.start(2)
-    s.known(a, [0, 1])
+    a = s.united(2, [0, 1])
     s.give(a, [0, 1], "propose")
-    b = s.start(3, "more")
-    s.open(b, [0, 1])
+    s.opened(3, [0, 1], "more")
 
 
 def repaired_by_gossip(s):
@@ -187,23 +178,20 @@ def repaired_by_gossip(s):
     s.gossip_all([2], 2)
     s.do("wipe", 1)
     s.do("copy", 1, 2)
-    b = s.start(3)
-    s.open(b, [1, 2])
+    s.opened(3, [1, 2])
 
 
 def wiped_after_a_commit(s):
     s.committed()
     s.do("wipe", 1)
-    b = s.start(3)
-    s.open(b, [1, 2])
+    s.opened(3, [1, 2])
 
 
 def member_opened_plainly(s):
     """A node that reported a commit gets a new segment, and the next engine recovers from it."""
     s.committed()
     s.do("open_plainly", 1)
-    b = s.start(3)
-    s.open(b, [1, 2])
+    s.opened(3, [1, 2])
 
 
 def last_record_alone(s):
@@ -213,15 +201,13 @@ def last_record_alone(s):
     s.do("write", a, 1, 0)
     last = s.world.engines[a].last
     s.give(a, [0, 1], "take", having=lambda request: request[4][0] == "record" and request[4][2] == last)
-    b = s.start(3)
-    s.open(b, [1, 2])
+    s.opened(3, [1, 2])
 
 
 def plain_fronts_after_a_fence(s):
     """Gossip brings a dead engine's records to nodes that the next engine has already asked."""
     a = s.committed([])
-    b = s.start(3)
-    s.known(b, [0, 1])
+    b = s.united(3, [0, 1])
     s.gossip_all([0, 1])
     for i in 0, 1:
         s.do("plain_front", a, i)
@@ -231,22 +217,18 @@ def plain_fronts_after_a_fence(s):
 
 def reported_late(s):
     """A pending truncation is finished by an engine that goes on before W nodes report it."""
-    a = s.start(2)
-    s.known(a, [0, 1])
+    a = s.united(2, [0, 1])
     s.give(a, [0], "propose", "lost")
-    b = s.start(3)
-    s.known(b, [0, 1])
+    b = s.united(3, [0, 1])
     s.give(b, [0, 1], "propose")
     s.give(b, [0, 1], "propose", "lost")
-    c = s.start(4, "more")
-    s.open(c, [1, 2])
+    s.opened(4, [1, 2], "more")
 
 
 def commits(s):
     a = s.committed()
     s.transaction(a, [0, 1])
-    b = s.start(3)
-    s.open(b, [1, 2])
+    s.opened(3, [1, 2])
 
 
 def admitted_behind(s):
@@ -256,8 +238,7 @@ def admitted_behind(s):
     s.give(b, [0, 1, 2], "fence")
     s.give(b, [1, 2], "pull")
     s.give(b, [0], "admit")
-    c = s.start(4)
-    s.open(c, [0, 2])
+    s.opened(4, [0, 2])
 
 
 def old_admit(s):
@@ -265,8 +246,7 @@ def old_admit(s):
     s.committed()
     s.do("wipe", 1)
     s.do("deliver", 1, ("admit", -1, 1, 1, 0, 0, None), "lost")
-    b = s.start(3)
-    s.open(b, [1, 2])
+    s.opened(3, [1, 2])
 
 
 def birth_learnt_late(s):
@@ -292,27 +272,22 @@ def birth_learnt_late(s):
 
 def old_proposal_again(s):
     """The proposal of an earlier epoch of the same generation is delivered once more."""
-    a = s.start(2)
-    s.known(a, [0, 1])
+    a = s.united(2, [0, 1])
     s.give(a, [0], "propose", "lost")
-    b = s.start(3)
-    s.known(b, [0, 1])
+    b = s.united(3, [0, 1])
     s.give(b, [0, 1], "propose")
     s.give(b, [0, 1], "take")
     s.give(b, [0, 1], "push")
     s.give(b, [0, 1], "propose", "lost", cut_of(2))
     s.give(b, [0, 1], "propose", "lost", cut_of(1))
-    c = s.start(4, "more")
-    s.open(c, [0, 1])
+    s.opened(4, [0, 1], "more")
 
 
 def old_acceptance(s):
     """The acceptance of the pending truncation comes after the engine proposed the next one."""
-    a = s.start(2)
-    s.known(a, [0, 1])
+    a = s.united(2, [0, 1])
     s.give(a, [0], "propose", "lost")
-    b = s.start(3)
-    s.known(b, [0, 1])
+    b = s.united(3, [0, 1])
     s.give(b, [2], "fence")
     s.give(b, [0, 2], "propose", "late")
     s.give(b, [0, 1], "propose")
@@ -320,8 +295,7 @@ def old_acceptance(s):
     s.give(b, [0, 1], "push")
     s.hear_late(b, 0)
     s.hear_late(b, 2)
-    c = s.start(4, "more")
-    s.open(c, [1, 2])
+    s.opened(4, [1, 2], "more")
     s.give(b, [0], "propose", "lost", cut_of(2))
     s.give(b, [0, 1, 2], "take", "lost", cut_of(2))
 
@@ -329,8 +303,7 @@ def old_acceptance(s):
 def advance_ahead(s):
     a = s.committed([])
     s.do("advance", a, True)
-    b = s.start(3)
-    s.open(b, [0, 1])
+    s.opened(3, [0, 1])
 
 
 def asked_one_by_one(s):
@@ -374,28 +347,24 @@ def second_create(s):
     s.do("create")
     s.give(a, [2], "status")
     s.do("deliver", 2, ("admit", -1, 1, 2, 0, 0, None), "lost")
-    b = s.start(2)
-    s.open(b, [0, 1, 2])
+    b = s.opened(2, [0, 1, 2])
     s.transaction(b, [0, 1, 2])
     for i in 0, 1:
         s.do("wipe", i)
         s.give(a, [i], "status")
     s.give(a, [0, 1], "admit")
-    c = s.start(3)
-    s.open(c, [0, 1])
+    s.opened(3, [0, 1])
 
 
 def pair_lost_by_an_admission(s):
-    a = s.start(2)
-    s.known(a, [0, 1])
+    a = s.united(2, [0, 1])
     s.give(a, [0, 1], "propose")
     s.do("wipe", 0)
     b = s.start(3)
     s.give(b, [0], "fence")
     s.known(b, [1, 2])
     s.readmit(b, 0)
-    c = s.start(4, "more")
-    s.open(c, [0, 2])
+    s.opened(4, [0, 2], "more")
 
 
 def front_of_an_older_epoch(s):
@@ -406,13 +375,11 @@ def front_of_an_older_epoch(s):
         s.give(a, [2], "take", having=lambda request: request[4][2] == number)
     s.give(a, [2], "take", having=cut_of(1))
     s.transaction(a, [2])
-    b = s.start(3)
-    s.open(b, [0, 1])
+    b = s.opened(3, [0, 1])
     s.give(b, [2], "fence")
     s.transaction(b, [0])
     s.give(b, [2], "front")
-    c = s.start(4)
-    s.open(c, [1, 2])
+    s.opened(4, [1, 2])
 
 
 def not_known_at_a_quorum(s):
@@ -426,7 +393,8 @@ def not_known_at_a_quorum(s):
     s.do("wipe", 0)
     c = s.start(4)
     s.give(c, [0], "fence")
-    s.open(c, [1, 2])
+    s.known(c, [1, 2])
+    s.choose(c, [1, 2])
 
 
 SCHEDULES = {
@@ -458,6 +426,13 @@ SCHEDULES = {
     "replaces_the_segment_of_a_member": member_opened_plainly,
 }
 OPTIONS = {"creates_with_one_status_round": {"created": (0, 1)}}
+
+
+def directed(name, mutants=()):
+    """The directed schedule of this name over three nodes, with these wrong implementations."""
+    schedule = Schedule(mutants=mutants, **OPTIONS.get(name, {}))
+    SCHEDULES[name](schedule)
+    return schedule
 
 
 # ---- random schedules
