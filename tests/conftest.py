@@ -100,7 +100,7 @@ def made(name, make):
 
 
 refusing = made("refusing", shims.Refusing)  # refuses allocations, starts of threads, reads and writes, and cuts reads and writes short
-disk = made("disk", stores.disk)  # delays and reports flushes, and refuses writes
+disk = made("disk", stores.disk)  # delays, reports and refuses flushes, and refuses writes
 double = made("double", sqlite_worlds.build)  # the VFS over the double of a volume
 
 
@@ -121,7 +121,14 @@ def parts(extension, store_program, disk):
 
 @pytest.fixture(scope="session")
 def store_program(archive, tmp_path_factory):
-    return stores.build(archive, tmp_path_factory.mktemp("store")) or pytest.skip("no cargo is on the path")
+    programs = stores.build(archive, tmp_path_factory.mktemp("store")) or pytest.skip("no cargo is on the path")
+    return programs / "yieldcleat-store"
+
+
+@pytest.fixture(scope="session")
+def embedding(archive, tmp_path_factory):
+    """The folder of the programs of `embedding/`."""
+    return stores.build(archive, tmp_path_factory.mktemp("embedding"), ROOT / "embedding", "release") or pytest.skip("no cargo is on the path")
 
 
 @pytest.fixture

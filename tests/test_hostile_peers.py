@@ -3,7 +3,6 @@ Rust program. Each ends by itself with a reason, and touches no memory that is n
 
 import contextlib
 import resource
-import shutil
 import socket
 import struct
 import subprocess
@@ -12,8 +11,9 @@ import time
 
 import pytest
 
-from harness import ROOT, environment
+from harness import ROOT
 from harness.shims import c_compiler, kit
+from model.wire import NOTHING
 
 PACKAGE = ROOT / "embedding"
 LONGEST = 1 << 26  # bytes of a frame
@@ -21,7 +21,6 @@ PATIENCE = 3  # seconds that the C program gives its peer
 SECONDS = 60  # after which a program hangs
 SANITIZERS = ["-fsanitize=address,undefined", "-fno-sanitize-recover=all", "-fno-omit-frame-pointer"]
 FLAGS = ["-std=gnu11", "-O1", "-g", "-Wall", "-Wextra", "-Wpedantic", "-Werror", "-pthread", f"-DSECONDS={PATIENCE}"]
-NOTHING = bytes([0x10]) + bytes(22)  # the summary of an empty segment
 
 
 def frame(body, length=None):
@@ -40,17 +39,6 @@ def c_gossip(archive, tmp_path_factory):
     sources = [PACKAGE / "c/gossip.c", archive, kit() / "c/liblibc_c.a"]
     subprocess.run([compiler, *FLAGS, *SANITIZERS, "-I", PACKAGE / "include", "-o", made, *sources], check=True)
     return made
-
-
-@pytest.fixture(scope="module")
-def rust_gossip(archive, tmp_path_factory):
-    if shutil.which("cargo") is None:
-        pytest.skip("no cargo is on the path")
-    target = tmp_path_factory.mktemp("rust")
-    settings = environment(YIELDCLEAT_ARCHIVE=archive.parent, RATTLE_C=kit() / "c", CARGO_TARGET_DIR=target)
-    command = ["cargo", "build", "--release", "--bin", "gossip", "--offline", "--locked"]
-    subprocess.run(command, cwd=PACKAGE, env=settings, check=True, capture_output=True)
-    return target / "release/gossip"
 
 
 # Peers: each gets a connection, and may leave it open
@@ -238,9 +226,9 @@ RUST = {name: peer for name, peer in PEERS.items() if peer[1] in (TOO_LONG, LEFT
 
 
 @pytest.mark.parametrize("name", RUST)
-def test_the_rust_program_survives_a_peer(rust_gossip, name):
+def test_the_rust_program_survives_a_peer(embedding, name):
     """It waits for no more of a frame that is too long, and allocates nothing for it."""
-    outcome = met([rust_gossip, "127.0.0.1:{}"], RUST[name][0])
+    outcome = met([embedding / "gossip", "127.0.0.1:{}"], RUST[name][0])
     assert outcome.is_unharmed(), outcome.said
     assert outcome.seconds < 20
     if RUST[name][1] == TOO_LONG:

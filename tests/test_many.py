@@ -4,10 +4,10 @@ import itertools
 
 import pytest
 
-from harness.nodes import LIMIT, frames_of, many
+from harness.nodes import LIMIT, many
 from harness.store_checks import advance
 from model.facts import Record, Write
-from model.wire import fact_bytes, frame, framed
+from model.wire import NOTHING, fact_bytes, frame, framed, frames_of
 
 import measure  # of bench/
 
@@ -16,7 +16,6 @@ MOST = LIMIT // SURE  # requests in a frame
 PAGES = 1000  # in a delta of 4 MB
 ASKED = 80  # deltas that a frame of 3 kB asks for: more than 320 MB
 SLACK = 16 * 1024  # kB that a run may hold beside the answers to one frame and what it holds without them
-EMPTY = bytes.fromhex("10 0000 000000000000 00000000 000000000000 00000000")  # the summary of a node that knows nothing
 
 
 def record(number, page=7):
@@ -52,7 +51,7 @@ def test_long_answers_are_bounded(fleet_node, tmp_path):
     `long` is answered in a frame of its own."""
     pages = range(1, PAGES + 1)
     setup = many([*[record(page, page) for page in pages], advance(PAGES), *[b"fold %d" % page for page in pages], b"discard"])
-    ask = b"answer " + EMPTY
+    ask = b"answer " + NOTHING
     (_, delta), alone = run(fleet_node, setup + frame(ask), tmp_path)
     requests = many([*[ask] * ASKED, record(PAGES + 1), b"front", ask])
     assert len(requests) < 4000 and ASKED * len(delta) > 320_000_000

@@ -5,9 +5,9 @@ import re
 import pytest
 
 from harness import ROOT, Answer, answer
-from harness.nodes import LIMIT, OWN, FramedNode, Node, as_frame, framed_pairs, frames_of, many
+from harness.nodes import LIMIT, OWN, FramedNode, Node, as_frame, framed_pairs, many
 from model import oracle
-from model.wire import frame, framed
+from model.wire import frame, framed, frames_of
 from test_texts import LONG_FACTS, TEXTS
 
 NO_MEMORY = Answer(5, b"", b"fleet: out of memory\n")

@@ -10,10 +10,10 @@ from string import hexdigits
 import pytest
 
 from harness import CASES, ROOT, Answer, answer, expect_agreement, ran, rounds, scripts, shrunk_script
-from harness.nodes import EXAMPLE, LIMIT, OWN, FramedNode, Node, Play, as_frame, as_line, framed_pairs, frames_of, headed, is_repeated, many
+from harness.nodes import EXAMPLE, LIMIT, OWN, FramedNode, Node, Play, as_frame, as_line, framed_pairs, headed, is_repeated, many
 from model import oracle
 from model.facts import fact_of
-from model.wire import fact_bytes, frame, framed
+from model.wire import fact_bytes, frame, framed, frames_of
 
 FRAMES = ["--frames"]
 NODES = 8  # the most that a script of gossip has

@@ -2,50 +2,15 @@
 Either all that was acknowledged is there, or the store does not serve."""
 
 import contextlib
-import shutil
 import subprocess
 
-import pytest
-
-from harness import ROOT, SECONDS, environment
-from harness.nodes import frames_of
-from harness.shims import compiler, kit
+from harness import SECONDS, environment
 from model.facts import Record, Write
-from model.wire import fact_bytes, frame, framed
+from model.wire import fact_bytes, frame, framed, frames_of
 
 LAST = 130  # records: the store makes a snapshot behind the first 100 and a restart
 MOST = 400  # how many allocations are refused, spread evenly over a restart
 FLUSHES = 40  # more than a run has
-SHIM = """
-extern char *getenv(const char *name);
-extern unsigned long strtoul(const char *text, char **end, int base);
-extern int *__errno_location(void);
-extern void *dlsym(void *handle, const char *name);
-
-static int flush(int file, const char *name) {
-    static unsigned long calls;
-    const char *refused = getenv("FAIL_FLUSH");
-    if (++calls == (refused ? strtoul(refused, 0, 10) : 0)) {
-        *__errno_location() = 5;
-        return -1;
-    }
-    return ((int (*)(int))dlsym((void *)-1l, name))(file);
-}
-
-int fsync(int file) { return flush(file, "fsync"); }
-int fdatasync(int file) { return flush(file, "fdatasync"); }
-"""
-
-
-@pytest.fixture(scope="module")
-def durable(archive, tmp_path_factory):
-    if not shutil.which("cargo"):
-        pytest.skip("no cargo is on the path")
-    target = tmp_path_factory.mktemp("store")
-    settings = environment(YIELDCLEAT_ARCHIVE=archive.parent, RATTLE_C=kit() / "c", CARGO_TARGET_DIR=target)
-    command = ["cargo", "build", "--release", "--bin", "durable", "--offline", "--locked"]
-    subprocess.run(command, cwd=ROOT / "embedding", env=settings, check=True, capture_output=True)
-    return target / "release/durable"
 
 
 def take(number):
@@ -57,9 +22,9 @@ def contents(folder):
     return {it.name: it.read_bytes() for it in folder.iterdir()}
 
 
-def test_a_restart_without_memory(durable, refusing, tmp_path):
+def test_a_restart_without_memory(embedding, refusing, tmp_path):
     folder = tmp_path / "folder"
-    command = [durable, "serve", folder]
+    command = [embedding / "durable", "serve", folder]
     folder.mkdir()
     for numbers in (range(1, 111), range(111, LAST + 1)):
         subprocess.run(command, input=framed(map(take, numbers)), capture_output=True, timeout=SECONDS, check=True)
@@ -74,16 +39,6 @@ def test_a_restart_without_memory(durable, refusing, tmp_path):
             assert done.returncode != 0
             lost += 1
     assert lost, "no refused allocation was one of the node's"
-
-
-@pytest.fixture(scope="module")
-def refusing_flushes(tmp_path_factory):
-    """A library that is preloaded, and refuses the flush with the number FAIL_FLUSH, from 1."""
-    folder = tmp_path_factory.mktemp("flushes")
-    (folder / "flushes.c").write_text(SHIM)
-    flags = ["-O2", "-Wall", "-Werror", "-shared", "-fPIC", "-nostdlib", "-fuse-ld=lld"]
-    subprocess.run([compiler(), *flags, "-o", folder / "flushes.so", folder / "flushes.c"], check=True)
-    return folder / "flushes.so"
 
 
 def taken(command, settings):
@@ -105,13 +60,13 @@ def taken(command, settings):
     return done, process.returncode == 0
 
 
-def test_each_flush_refused(durable, refusing_flushes, tmp_path):
+def test_each_flush_refused(embedding, disk, tmp_path):
     """A batch whose flush is refused is not answered; one that was answered is there."""
     ends = []
     for refused in range(1, FLUSHES):
         folder = tmp_path / str(refused)
-        command = [durable, "serve", folder]
-        settings = environment(LD_PRELOAD=refusing_flushes, FAIL_FLUSH=refused)
+        command = [embedding / "durable", "serve", folder]
+        settings = environment(LD_PRELOAD=disk, DISK_FAIL_FLUSH=refused)
         done, is_served = taken(command, settings)
         there = subprocess.run(command, input=frame(b"front"), capture_output=True, timeout=SECONDS, check=True).stdout
         complete = int(frames_of(there)[0].split(b" ")[2])

@@ -3,7 +3,8 @@
 import pytest
 import test_sqlite
 
-from harness.sqlite_worlds import build, copy_of_sources, run
+from harness import copy_of, spoilt
+from harness.sqlite_worlds import build, run
 
 pytestmark = [pytest.mark.xdist_group("sqlite_mutants"), *test_sqlite.pytestmark[1:]]
 
@@ -45,7 +46,7 @@ MUTANTS = {
 def copy(tmp_path_factory):
     """A copy of the sources, and what they are built into, so that a mutant builds one file."""
     folder = tmp_path_factory.mktemp("copy")
-    copy_of_sources(folder)
+    copy_of(folder, "sqlite", "volume")
     build(folder / "build", root=folder)
     return folder
 
@@ -53,13 +54,7 @@ def copy(tmp_path_factory):
 @pytest.mark.parametrize("name", MUTANTS)
 def test_mutants(copy, tmp_path, seed, name):
     file, old, new, check = MUTANTS[name]
-    path = copy / "sqlite/src" / file
-    text = path.read_text()
-    assert text.count(old) == 1, f"{text.count(old)} places"
-    path.write_text(text.replace(old, new))
-    try:
+    with spoilt(copy / "sqlite/src" / file, {old: new}):
         library = build(copy / "build", root=copy, words=["WARNINGS="])
         found = run(f"check_{check}", library, tmp_path / "databases", seed, 3)
-    finally:
-        path.write_text(text)
     assert found != "", "nobody noticed"

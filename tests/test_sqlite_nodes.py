@@ -1,13 +1,12 @@
 """SQLite over six storage servers: crashes of engines beside what happens to servers, and schedules that random rounds hit seldom."""
 
-import shutil
 import subprocess
 import sys
 
 import pytest
 import test_sqlite
 
-from harness import ROOT
+from harness import ROOT, copy_of, spoilt
 from harness.sqlite_cluster import build_extension
 from harness.sqlite_network import SKIPPED
 from harness.sqlite_schedules import SCHEDULES
@@ -88,23 +87,14 @@ def test_schedule(parts, tmp_path, seed, name):
 def copy(tmp_path_factory):
     """A copy of the sources, so that each mutant builds two packages."""
     folder = tmp_path_factory.mktemp("copy")
-    for name in ("client", "volume", "sqlite"):
-        shutil.copytree(ROOT / name, folder / name, ignore=shutil.ignore_patterns("target", "build"))
+    copy_of(folder, "client", "volume", "sqlite")
     return folder
 
 
 @pytest.mark.parametrize("name", MUTANTS)
 def test_mutant(copy, volume_archive, store_program, disk, tmp_path, seed, name):
     schedule, file, changes = MUTANTS[name]
-    path = copy / "volume/src" / file
-    text = changed = path.read_text()
-    for old, new in changes.items():
-        assert changed.count(old) == 1, f"{changed.count(old)} places of {old}"
-        changed = changed.replace(old, new)
-    path.write_text(changed)
-    try:
+    with spoilt(copy / "volume/src" / file, changes):
         extension = build_extension(volume_archive, copy / "build", copy)
         done = run("sqlite_schedules", extension, store_program, disk, tmp_path / "s", seed, schedule)
-    finally:
-        path.write_text(text)
     assert "AssertionError" in done.stdout and done.returncode == 1, f"nobody noticed\n{done.stdout[-2000:]}"

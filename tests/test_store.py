@@ -6,14 +6,14 @@ import shutil
 import signal
 import socket
 import subprocess
-import threading
 import time
+from concurrent.futures import ThreadPoolExecutor
 
 import pytest
 
-from harness import SECONDS, rounds
-from harness.store_checks import PAGES, Writer, advance, check_answers, check_damage, check_full, check_kills, check_lock, replayed, shows, take, takes, told
-from harness.stores import Client, Store, until
+from harness import rounds
+from harness.store_checks import Writer, check_answers, check_damage, check_full, check_kills, check_lock, shows, take, takes, told
+from harness.stores import Client, until
 from model.wire import framed
 
 pytestmark = pytest.mark.xdist_group("store")  # which builds the program once
@@ -124,12 +124,9 @@ def test_a_torn_end_is_cut_off(store, rng):
         it.kill()
 
 
-def test_a_damaged_log_is_refused(store_program, disk, tmp_path, rng):
-    check_damage(store_program, tmp_path / "one", disk, rng)
-
-
-def test_a_restore_insists_on_each_answer(store_program, disk, tmp_path, rng):
-    check_answers(store_program, tmp_path / "one", disk, rng)
+@pytest.mark.parametrize("check", [check_damage, check_answers, check_full, check_lock])
+def test_what_mutants_break(store_program, disk, tmp_path, rng, check):
+    check(store_program, tmp_path / "one", disk, rng)
 
 
 def test_a_missing_snapshot_is_refused(store):
@@ -148,10 +145,6 @@ def test_a_missing_snapshot_is_refused(store):
 
 
 # The disk
-
-
-def test_a_full_disk(store_program, disk, tmp_path, rng):
-    check_full(store_program, tmp_path / "one", disk, rng)
 
 
 def test_a_small_disk(store):
@@ -181,29 +174,20 @@ def test_a_small_disk(store):
 
 def test_one_flush_for_all_that_wait(store, disk):
     it = store("one", shim=disk, DISK_DELAY=20_000).start()
-    clients, answers = [it.client() for _ in range(16)], []
+    clients = [it.client() for _ in range(16)]
     before = it.metrics()["yieldcleat_fsync_seconds_count"]
 
-    def run(place, client):
-        for step in range(5):
-            answers.append(client.ask(take(1 + 16 * step + place)))
+    def answers(place):
+        return [clients[place].ask(take(1 + 16 * step + place)) for step in range(5)]
 
-    threads = [threading.Thread(target=run, args=pair) for pair in enumerate(clients)]
-    for thread in threads:
-        thread.start()
-    for thread in threads:
-        thread.join()
-    assert answers == [b"changed"] * 80
+    with ThreadPoolExecutor(16) as pool:
+        assert list(pool.map(answers, range(16))) == [[b"changed"] * 5] * 16
     flushes = it.metrics()["yieldcleat_fsync_seconds_count"] - before
     assert flushes <= 40, "80 requests of 16 clients share flushes"
     assert it.ask(b"front") == b"front 0 80 0"
 
 
 # Several processes
-
-
-def test_a_second_process_is_refused(store_program, disk, tmp_path, rng):
-    check_lock(store_program, tmp_path / "one", disk, rng)
 
 
 def test_an_address_that_is_taken(store):

@@ -1,11 +1,12 @@
 """Faults that the tests of the storage server must find: each is put into a copy of its sources, which is built and tested."""
 
+import contextlib
 import random
 import subprocess
 
 import pytest
 
-from harness import environment, stores
+from harness import copy_of, environment, stores
 from harness.shims import kit
 from harness.store_checks import check_answers, check_damage, check_full, check_kills, check_lock, check_readers
 
@@ -44,7 +45,7 @@ def target(tmp_path_factory):
 
 @pytest.mark.parametrize("name", [None, *MUTANTS], ids=lambda it: it or "none")
 def test_mutants(archive, target, disk, tmp_path, monkeypatch, seed, name):
-    stores.copy_of_packages(tmp_path)
+    copy_of(tmp_path, "client", "embedding", "store")
     checks = {check_kills, check_client, check_damage, check_answers, check_full, check_lock, check_readers}
     if name:
         file, old, new, check = MUTANTS[name]
@@ -53,13 +54,8 @@ def test_mutants(archive, target, disk, tmp_path, monkeypatch, seed, name):
         (tmp_path / file).write_text(text.replace(old, new))
         checks = {check}
     monkeypatch.setenv("YIELDCLEAT_ARCHIVE", str(archive.parent))
-    program = stores.build(archive, target, tmp_path, warnings=bool(name))
-    if not program:
-        pytest.skip("no cargo is on the path")
+    programs = stores.build(archive, target, tmp_path / "store", warnings=bool(name)) or pytest.skip("no cargo is on the path")
     for check in checks:
         choose, folder = random.Random(f"{seed} {name}"), tmp_path / check.__name__
-        if name:
-            with pytest.raises(AssertionError):
-                check(program, folder, disk, choose)
-        else:
-            check(program, folder, disk, choose)
+        with pytest.raises(AssertionError) if name else contextlib.nullcontext():
+            check(programs / "yieldcleat-store", folder, disk, choose)

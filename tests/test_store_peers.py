@@ -8,7 +8,7 @@ import urllib.request
 
 import pytest
 
-from harness.store_checks import advance, shows, take, takes, told
+from harness.store_checks import advance, shows, takes, told
 from harness.stores import until
 
 pytestmark = pytest.mark.xdist_group("store")  # which builds the program once

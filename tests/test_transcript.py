@@ -7,7 +7,7 @@ import subprocess
 
 import pytest
 
-from harness import ROOT
+from harness import ROOT, spoilt
 
 SOURCE = "crates/segment_core/src/segment.rt"
 COMMAND = "$ cd crates/segment_core && rt check "
@@ -46,9 +46,7 @@ def test_the_mutant_is_refused_as_printed(tmp_path):
     shutil.copytree(ROOT / "crates", tmp_path / "crates", ignore=shutil.ignore_patterns("out"))
     for name in ("crates.txt", "HANDLES"):
         shutil.copy2(ROOT / name, tmp_path / name)
-    text = (tmp_path / SOURCE).read_text()
-    assert text.count(CONDITION) == 1
-    (tmp_path / SOURCE).write_text(text.replace(CONDITION, f"        if {change} {{\n"))
-    done = subprocess.run(["bash", "-c", command], cwd=tmp_path, capture_output=True, text=True, timeout=SECONDS)
+    with spoilt(tmp_path / SOURCE, {CONDITION: f"        if {change} {{\n"}):
+        done = subprocess.run(["bash", "-c", command], cwd=tmp_path, capture_output=True, text=True, timeout=SECONDS)
     assert done.stdout.splitlines() == printed, f"{command} with {change}\n{done.stderr[-2000:]}"
     shutil.rmtree(tmp_path / "crates")

@@ -1,9 +1,11 @@
 """What the tests share: runs of programs, cases in files, rounds of random inputs, and failures made small."""
 
 import ast
+import contextlib
 import os
 import random
 import re
+import shutil
 import subprocess
 import time
 from pathlib import Path
@@ -35,6 +37,29 @@ def ran(words, status=0, **settings):
     done = subprocess.run(words, capture_output=True, text=True, timeout=5 * SECONDS, check=False, **settings)
     assert done.returncode == status, f"{words}\n{done.stdout[-2000:]}{done.stderr[-2000:]}"
     return done.stdout, done.stderr
+
+
+# Copies of sources
+
+
+def copy_of(folder, *names):
+    """Copies folders of the repository into another folder, without what was built of them."""
+    for name in names:
+        shutil.copytree(ROOT / name, folder / name, ignore=shutil.ignore_patterns("build", "target"))
+
+
+@contextlib.contextmanager
+def spoilt(path, changes):
+    """A block in which a file has other texts in place of some that it has once each."""
+    text = changed = path.read_text()
+    for old, new in changes.items():
+        assert changed.count(old) == 1, f"{path.name} has {changed.count(old)} places of {old}"
+        changed = changed.replace(old, new)
+    path.write_text(changed)
+    try:
+        yield
+    finally:
+        path.write_text(text)
 
 
 # Cases in files

@@ -1,8 +1,9 @@
-/* What a disk does, preloaded into a program: it takes its time, forgets what was not flushed, and may be full.
+/* What a disk does, preloaded into a program: it takes its time, forgets what was not flushed, and may fail or be full.
  *
- * DISK_DELAY   microseconds that each flush takes before it begins
- * DISK_FLUSHED a file to which a line is appended after each flush of a file: its length then, and its path
- * DISK_FULL    while there is a file of this name, a write to a regular file writes half of the bytes, or says that there is no room
+ * DISK_DELAY      microseconds that each flush takes before it begins
+ * DISK_FAIL_FLUSH the number, from 1, of the flush that fails
+ * DISK_FLUSHED    a file to which a line is appended after each flush of a file: its length then, and its path
+ * DISK_FULL       while there is a file of this name, a write to a regular file writes half of the bytes, or says that there is no room
  */
 typedef unsigned long size;
 typedef long offset;
@@ -19,7 +20,7 @@ extern long readlink(const char *path, char *text, size most);
 extern int open(const char *path, int flags, ...);
 extern int close(int file);
 
-enum { NO_ROOM = 28, APPEND = 02001 | 0100, AT_END = 2, FROM_HERE = 1 };
+enum { BROKEN = 5, NO_ROOM = 28, APPEND = 02001 | 0100, AT_END = 2, FROM_HERE = 1 };
 
 static long real_write(int file, const void *bytes, size count) {
     return ((long (*)(int, const void *, size))dlsym((void *)-1l, "write"))(file, bytes, count);
@@ -36,8 +37,13 @@ static int path_of(int file, char *path, size most) {
 }
 
 static int flush(int file, const char *name) {
-    const char *delay = getenv("DISK_DELAY"), *flushed = getenv("DISK_FLUSHED");
+    static unsigned long flushes;
+    const char *delay = getenv("DISK_DELAY"), *failing = getenv("DISK_FAIL_FLUSH"), *flushed = getenv("DISK_FLUSHED");
     char path[512], line[600];
+    if (++flushes == (failing ? strtoul(failing, 0, 10) : 0)) {
+        *__errno_location() = BROKEN;
+        return -1;
+    }
     if (delay)
         usleep(strtoul(delay, 0, 10));
     offset length = lseek(file, 0, AT_END);

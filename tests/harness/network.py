@@ -14,7 +14,6 @@ import os
 import random
 import select
 import shutil
-import socket
 import struct
 import subprocess
 import time

@@ -1,7 +1,6 @@
 """Nodes behind lines or frames, and scripts of nodes that gossip, played with a process or a segment for each node."""
 
 import contextlib
-import io
 import re
 import select
 import subprocess
@@ -58,15 +57,6 @@ def has_frame(line):
     """Whether a frame asks the same: digits are wherever the line's word takes bytes."""
     own = headed(line)[1]
     return own.split(" ")[0] not in ("take", "add", "answer", "absorb") or bool(ASKS_WITH_BYTES.fullmatch(own))
-
-
-def frames_of(text):
-    """The bytes of each frame of a text that is made of whole ones."""
-    stream, frames = io.BytesIO(text), []
-    while size := stream.read(4):
-        frames.append(stream.read(int.from_bytes(size, "big")))
-    assert framed(frames) == text, f"no whole frames: {text[:80]}"
-    return frames
 
 
 def many(requests):

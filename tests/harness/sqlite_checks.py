@@ -4,6 +4,7 @@ import os
 import sqlite3
 import threading
 import time
+from concurrent.futures import ThreadPoolExecutor
 
 from harness.sqlite_transactions import TABLES, transaction
 from harness.sqlite_worlds import content, is_whole, one, point, refused
@@ -173,24 +174,17 @@ def work_transfers(world):
 def check_threads(world):
     """Connections of one process take turns: each sees the others' commits before it writes."""
     world.open().execute("create table t(n)").execute("insert into t values(0)")
-    errors = []
 
-    def work():
-        try:
-            ours = world.open(busy=60)
-            for _ in range(40):
-                ours.execute("begin immediate")
-                ours.execute("update t set n = n + 1")
-                ours.execute("commit")
-        except sqlite3.Error as error:
-            errors.append(error)
+    def work(_):
+        ours = world.open(busy=60)
+        for _ in range(40):
+            ours.execute("begin immediate")
+            ours.execute("update t set n = n + 1")
+            ours.execute("commit")
 
-    threads = [threading.Thread(target=work) for _ in range(3)]
-    for thread in threads:
-        thread.start()
-    for thread in threads:
-        thread.join()
-    assert errors == [] and one(world.open(), "select n from t") == 120
+    with ThreadPoolExecutor(3) as pool:
+        list(pool.map(work, range(3)))  # which raises what a thread has raised
+    assert one(world.open(), "select n from t") == 120
 
 
 def check_writers(world):

@@ -9,20 +9,17 @@ import threading
 import time
 from pathlib import Path
 
-from harness import environment
+from harness import sqlite_worlds
 from harness.shims import kit
-from harness.stores import Store, until
+from harness.stores import Client, Store, until
+from model.wire import frame, framed, frames_of, read_frame
 
 NODES, QUORUM = 6, 4
 
 
 def build_extension(archive, folder, root):
     """The extension over the driver and the archive of the machine."""
-    settings = environment(YIELDCLEAT_VOLUME_ARCHIVE=archive.parent, RATTLE_C=kit() / "c")
-    command = ["make", "-s", "-C", root / "sqlite", f"BUILD={folder}", "volume"]
-    done = subprocess.run(command, env=settings, capture_output=True, text=True, check=False)
-    assert (done.returncode, done.stderr) == (0, ""), done.stderr[-3000:]
-    return folder / "volume/yieldcleat.so"
+    return sqlite_worlds.build(folder, "volume", root, YIELDCLEAT_VOLUME_ARCHIVE=archive.parent, RATTLE_C=kit() / "c")
 
 
 # The servers
@@ -133,40 +130,11 @@ class Cluster:
 # The proxies
 
 
-def read_frame(connection):
-    head = read_bytes(connection, 4)
-    return read_bytes(connection, int.from_bytes(head, "big"))
-
-
-def read_bytes(connection, count):
-    parts = []
-    while count:
-        part = connection.recv(min(count, 1 << 20))
-        if not part:
-            raise ConnectionError
-        parts.append(part)
-        count -= len(part)
-    return b"".join(parts)
-
-
-def framed(request):
-    return len(request).to_bytes(4, "big") + request
-
-
-def inside(frames):
-    found = []
-    while frames:
-        end = 4 + int.from_bytes(frames[:4], "big")
-        found.append(frames[4:end])
-        frames = frames[end:]
-    return found
-
-
 class Proxy:
     """Passes the requests of an engine on to a server one by one, until so many are spent; then it holds back what comes."""
 
     def __init__(self, folder, number, spent):
-        self.place, self.server, self.spent = f"{folder}/p{number}", f"{folder}/n{number}/socket", spent
+        self.place, self.server, self.spent = f"{folder}/p{number}", f"unix:{folder}/n{number}/socket", spent
         self.lock = threading.Lock()
         self.left = None  # no bound
         self.drops = 0  # how often what was held back has been dropped
@@ -196,14 +164,13 @@ class Proxy:
             self.left = left
 
     def serve(self, engine):
-        with contextlib.suppress(OSError), socket.socket(socket.AF_UNIX) as server:
-            server.connect(self.server)
-            while True:
-                request = read_frame(engine)
+        """Until either side closes its connection."""
+        with contextlib.suppress(OSError), engine, contextlib.closing(Client(self.server)) as server:
+            requests = engine.makefile("rb")
+            while (request := read_frame(requests)) is not None:
                 many = request.startswith(b"many ")
-                answers = [self.ask(server, it) for it in (inside(request[5:]) if many else [request])]
-                engine.sendall(framed(b"".join(map(framed, answers)) if many else answers[0]))
-        engine.close()
+                answers = [self.ask(server, it) for it in (frames_of(request[5:]) if many else [request])]
+                engine.sendall(frame(framed(answers) if many else answers[0]))
 
     def ask(self, server, request):
         drops = self.drops
@@ -211,8 +178,9 @@ class Proxy:
             time.sleep(0.02)
         if self.drops != drops:
             raise ConnectionError
-        server.sendall(framed(request))
-        return read_frame(server)
+        if (answer := server.ask(request)) is None:
+            raise ConnectionError
+        return answer
 
 
 def run_proxies(pipe, folder):

@@ -19,7 +19,7 @@ if __name__ == "__main__":
 from harness.sqlite_cluster import NODES, QUORUM, Cluster, Proxies, kill_process
 from harness.sqlite_crashes import Child, digest
 from harness.sqlite_transactions import TABLES, transaction
-from harness.sqlite_worlds import content, is_whole, one
+from harness.sqlite_worlds import is_whole, one
 
 MOST_LOST = 2  # servers at a time that have lost their files and are not admitted
 PATIENCE = 20000  # milliseconds of an engine that is to succeed

@@ -3,6 +3,7 @@
 A schedule runs in a process of its own: python3 -m harness.sqlite_schedules EXTENSION STORE DISK FOLDER SEED NAME
 """
 
+import contextlib
 import os
 import random
 import signal
@@ -541,11 +542,8 @@ SCHEDULES = sorted(name.removeprefix("check_") for name in globals() if name.sta
 
 
 def main(extension, store, disk, folder, seed, name):
-    world = World(extension, store, disk, folder, f"{seed} {name}")
-    try:
+    with contextlib.closing(World(extension, store, disk, folder, f"{seed} {name}")) as world:
         globals()[f"check_{name}"](world)
-    finally:
-        world.close()
 
 
 if __name__ == "__main__":

@@ -7,15 +7,14 @@ and so do its helpers, which are the functions `work_..` of the same module.
 import contextlib
 import ctypes
 import importlib
-import os
 import random
-import shutil
 import sqlite3
 import subprocess
 import sys
 from pathlib import Path
 
-ROOT = Path(__file__).resolve().parents[2]
+from harness import ROOT, environment
+
 TESTS = ROOT / "tests"
 CHECKS = ("harness.sqlite_checks", "harness.sqlite_crashes", "harness.sqlite_faults")
 SECONDS = 120  # until a check counts as not ended
@@ -23,10 +22,10 @@ FENCED, NO_QUORUM, TIMEOUT, FULL, NOT_FOUND, BELOW, ABOVE, IO, NO_MEMORY, MISUSE
 KILLED = -1
 
 
-def build(folder, target="double", root=ROOT, words=()):
-    """The extension over the double, built out of the sources below a folder; its compiler's messages fail the test."""
+def build(folder, target="double", root=ROOT, words=(), **settings):
+    """The extension over the double or another target, built out of the sources below a folder; its compiler's messages fail the test."""
     command = ["make", "-s", "-C", root / "sqlite", f"BUILD={folder}", *words, target]
-    done = subprocess.run(command, capture_output=True, text=True, check=False)
+    done = subprocess.run(command, env=environment(**settings), capture_output=True, text=True, check=False)
     assert (done.returncode, done.stderr) == (0, ""), done.stderr[-3000:]
     return Path(folder) / target / "yieldcleat.so"
 
@@ -42,7 +41,7 @@ def run(name, library, folder, seed, seconds, settings=None):
     folder.mkdir(exist_ok=True)
     command = [sys.executable, "-m", "harness.sqlite_worlds", library, folder, str(seed), str(seconds), name]
     try:
-        done = subprocess.run(command, cwd=TESTS, env={**os.environ, **(settings or {})}, capture_output=True, text=True, timeout=SECONDS + 4 * seconds)
+        done = subprocess.run(command, cwd=TESTS, env=environment(**(settings or {})), capture_output=True, text=True, timeout=SECONDS + 4 * seconds)
     except subprocess.TimeoutExpired:
         return f"{name} has not ended"
     return "" if done.returncode == 0 else f"seed {seed}: status {done.returncode}\n{done.stdout[-2000:]}{done.stderr[-4000:]}"
@@ -148,12 +147,6 @@ def content(connection):
     names = connection.execute("select name, sql from sqlite_schema order by name").fetchall()
     tables = connection.execute("select name from sqlite_schema where type = 'table' and rootpage > 0 order by name").fetchall()
     return names, [connection.execute(f'select * from "{name}"').fetchall() for (name,) in tables]
-
-
-def copy_of_sources(folder):
-    """The sources of the extension in another folder."""
-    for name in ("sqlite", "volume"):
-        shutil.copytree(ROOT / name, folder / name, ignore=shutil.ignore_patterns("build"))
 
 
 def main(library, folder, seed, seconds, name, *words):

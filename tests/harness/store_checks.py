@@ -77,13 +77,12 @@ class Writer(threading.Thread):
                 self.acknowledged = int(answers[-1].split()[2])
 
 
-def check_kills(program, folder, disk, choose, least=6, seconds=4):
+def check_kills(program, folder, disk, choose):
     """What was acknowledged is there after each kill, although all that was not flushed is gone."""
-    it = Store(program, folder, "--snapshot-after", 4096, shim=disk, DISK_DELAY=2000)
-    acknowledged, end = 0, time.monotonic() + seconds
-    try:
+    with contextlib.closing(Store(program, folder, "--snapshot-after", 4096, shim=disk, DISK_DELAY=2000)) as it:
+        acknowledged, end = 0, time.monotonic() + 4
         for place in range(100):
-            if place >= least and time.monotonic() > end:
+            if place >= 6 and time.monotonic() > end:
                 break
             it.start()
             client = it.client()
@@ -100,14 +99,11 @@ def check_kills(program, folder, disk, choose, least=6, seconds=4):
         complete = it.client().complete()
         assert complete >= acknowledged and shows(it.client(), complete)
         return acknowledged
-    finally:
-        it.close()
 
 
 def check_damage(program, folder, disk, choose):
     """A byte that differs in the middle of a log is found, whichever it is, and the file stays as it is."""
-    it = Store(program, folder)
-    try:
+    with contextlib.closing(Store(program, folder)) as it:
         it.start()
         client = it.client()
         for number in range(1, 6):
@@ -127,15 +123,12 @@ def check_damage(program, folder, disk, choose):
         path.write_bytes(whole)
         it.start()
         assert it.ask(b"front") == b"front 0 5 0"
-    finally:
-        it.close()
 
 
 def check_answers(program, folder, disk, choose):
     """A log whose requests are not answered as they were is refused."""
-    it = Store(program, folder)
-    it.data.mkdir(parents=True)
-    try:
+    with contextlib.closing(Store(program, folder)) as it:
+        it.data.mkdir(parents=True)
         (it.data / "birth").write_bytes(birth(7))
         (it.data / "log.0").write_bytes(log(0, [[b"open 1"], takes(1, 3)]))
         it.start()
@@ -147,14 +140,11 @@ def check_answers(program, folder, disk, choose):
             status, said = it.refused()
             assert status == 4 and "the node answers `" in said, (wrong, status, said)
             assert (it.data / "log.0").read_bytes() == text
-    finally:
-        it.close()
 
 
 def check_full(program, folder, disk, choose):
     """While the disk is full nothing is acknowledged; then all goes on, and what was acknowledged is there."""
-    it = Store(program, folder, shim=disk)
-    try:
+    with contextlib.closing(Store(program, folder, shim=disk)) as it:
         it.start()
         client = it.client()
         assert told(client, takes(1, 10)) == [b"changed"] * 10
@@ -174,29 +164,23 @@ def check_full(program, folder, disk, choose):
         it.start()
         assert it.client().complete() == 30 and shows(it.client(), 30)
         assert "until there is room" in it.log() and "there is room again" in it.log()
-    finally:
-        it.close()
 
 
 def check_lock(program, folder, _disk, _choose):
     """A second process over the same files is refused, and the first one goes on."""
     one, other = Store(program, folder), Store(program, folder.with_name("second"))
-    try:
+    with contextlib.closing(one), contextlib.closing(other):
         one.start()
         assert one.ask(take(1)) == b"changed"
         other.data = one.data
         status, said = other.refused()
         assert status == 3 and "is open in another store" in said
         assert one.ask(take(2)) == b"changed" and one.ask(b"front") == b"front 0 2 0"
-    finally:
-        one.close()
-        other.close()
 
 
 def check_readers(program, folder, disk, _choose):
     """A segment keeps one snapshot, so a second reader waits until the first has left."""
-    it = Store(program, folder, shim=disk).start()
-    try:
+    with contextlib.closing(Store(program, folder, shim=disk).start()) as it:
         one, other = it.client(), it.client()
         assert told(one, takes(1, 20)) == [b"changed"] * 20
         assert it.ask(b"freeze 1").startswith(b"frozen ")  # that connection has ended
@@ -205,5 +189,3 @@ def check_readers(program, folder, disk, _choose):
         assert other.ask(b"piece 0") == one.ask(b"piece 0")
         one.close()
         assert until(lambda: other.ask(b"freeze 8").startswith(b"frozen "))
-    finally:
-        it.close()

@@ -10,27 +10,18 @@ from pathlib import Path
 
 from harness import ROOT, SECONDS, environment
 from harness.shims import built, kit
-from model.wire import frame, framed
+from model.wire import framed, read_frame
 
-PACKAGES = ("client", "embedding", "store")
-
-
-def build(archive, target, root=ROOT, warnings=False):
-    """The program, out of the packages below a folder; without warnings of the compiler, unless they may be."""
+def build(archive, target, package=ROOT / "store", profile="debug", warnings=False):
+    """The folder of a package's programs, or None without cargo; without warnings of the compiler, unless they may be."""
     if not shutil.which("cargo"):
         return None
     settings = environment(YIELDCLEAT_ARCHIVE=archive.parent, RATTLE_C=kit() / "c", CARGO_TARGET_DIR=target)
-    command = ["cargo", "build", "--offline", "--locked"]
-    done = subprocess.run(command, cwd=root / "store", env=settings, capture_output=True, text=True, check=False)
+    command = ["cargo", "build", "--offline", "--locked", *["--release"] * (profile == "release")]
+    done = subprocess.run(command, cwd=package, env=settings, capture_output=True, text=True, check=False)
     assert done.returncode == 0, done.stderr[-2000:]
     assert warnings or "warning" not in done.stderr, done.stderr[-2000:]
-    return target / "debug/yieldcleat-store"
-
-
-def copy_of_packages(folder):
-    """The sources of the server in another folder."""
-    for name in PACKAGES:
-        shutil.copytree(ROOT / name, folder / name, ignore=shutil.ignore_patterns("target"))
+    return target / profile
 
 
 class Client:
@@ -49,9 +40,7 @@ class Client:
     def answer(self):
         """The next answer, or None where the server has closed the connection."""
         with contextlib.suppress(ConnectionResetError):
-            length = self.answers.read(4)
-            answer = self.answers.read(int.from_bytes(length, "big")) if len(length) == 4 else b""
-            return answer if length and frame(answer) == length + answer else None
+            return read_frame(self.answers)
         return None
 
     def ask(self, request):
@@ -178,5 +167,5 @@ def until(holds, seconds=SECONDS):
 
 
 def disk(folder):
-    """The library that delays flushes, reports them and refuses writes."""
+    """The library that delays, reports and refuses flushes, and refuses writes."""
     return built("disk", folder)

@@ -10,7 +10,6 @@ from model import wire
 from model.facts import Advance, Cut, Record, Write
 from model.rules import Meaning
 
-NOTHING = b"\x10" + bytes(22)  # the summary of an empty segment
 PAGES = 3  # that schedules write, from 0
 NUMBER_OFFSET = 4088
 

@@ -22,8 +22,8 @@ import select
 import subprocess
 
 from harness import SECONDS
-from harness.volume_bytes import NOTHING, PAGES, delta_of, fact_of, header_of, meaning_of, pair_of, request_bytes, summary_of, under, words
-from harness.volume_bytes import write_bytes
+from harness.volume_bytes import (PAGES, delta_of, fact_of, header_of, meaning_of, pair_of, request_bytes, summary_of, under, words,
+                                  write_bytes)
 from model import wire
 from model.volume import Violation
 from model.volume_machine import Machines, letters_of
@@ -32,13 +32,8 @@ from model.volume_machine import Machines, letters_of
 CHANGES = {b"changed", b"absorbed", b"opened", b"fenced", b"accepted", b"admitted"}
 
 
-class Mismatch(Exception):
-    """What a program does otherwise than the model."""
-
-
 def need_same(what, seen, wanted):
-    if seen != wanted:
-        raise Mismatch(f"{what}: {seen!r} in place of {wanted!r}")
+    assert seen == wanted, f"{what}: {seen!r} in place of {wanted!r}"
 
 
 # ---- processes
@@ -68,10 +63,10 @@ class Process:
         read = b""
         while len(read) < size:
             if not select.select([self.process.stdout], [], [], SECONDS)[0]:
-                raise Mismatch(f"{self.process.args} does not answer")
+                raise AssertionError(f"{self.process.args} does not answer")
             part = self.process.stdout.read(size - len(read))
             if not part:
-                raise Mismatch(f"{self.process.args} ended with {self.process.wait(SECONDS)}")
+                raise AssertionError(f"{self.process.args} ended with {self.process.wait(SECONDS)}")
             read += part
         return read
 
@@ -98,7 +93,7 @@ class Node(Process):
         if len(frames) == 1 or self.turns % 2:
             return self.ask_all(frames)
         self.send([b"many " + wire.framed(frames)])
-        return self.keep(frames, frames_in(self.receive()))
+        return self.keep(frames, wire.frames_of(self.receive()))
 
     def keep(self, frames, answers):
         self.kept += [it for it in zip(frames, answers) if has_changed(it[1])]
@@ -108,18 +103,6 @@ class Node(Process):
 def has_changed(answer):
     parts = answer.split(b" ")
     return (parts[3] if parts[0] == b"as" and len(parts) > 3 else parts[0]) in CHANGES
-
-
-def frames_in(text):
-    """The frames of an answer that has whole ones."""
-    frames = []
-    while text:
-        size = int.from_bytes(text[:4], "big")
-        if len(text) < 4 + size:
-            raise Mismatch(f"no whole frame: {text[:80]!r}")
-        frames.append(text[4 : 4 + size])
-        text = text[4 + size :]
-    return frames
 
 
 class Programs:
@@ -139,7 +122,7 @@ class Programs:
 
 
 class Play:
-    """A world of the model, and the same of processes. A difference is a `Mismatch`."""
+    """A world of the model, and the same of processes. A difference is an `AssertionError`."""
 
     def __init__(self, programs, **options):
         self.programs, self.world = programs, Machines(**options)
@@ -219,7 +202,7 @@ class Play:
 
     def call(self, number, event):
         """What an engine does upon an event."""
-        told = frames_in(self.engines[number].ask(event))
+        told = wire.frames_of(self.engines[number].ask(event))
         self.told += [(number, frame) for frame in told]
         return told
 
@@ -252,7 +235,7 @@ class Play:
         need_same(f"{what} so many requests", len(asked), len(letters))
         for frame, letter in zip(asked, letters):
             if letter[0] == "join":
-                begin = words("absorb", len(NOTHING)) + b" " + NOTHING
+                begin = words("absorb", len(wire.NOTHING)) + b" " + wire.NOTHING
                 need_same(what, frame[: len(begin)], begin)
                 self.made[number, i] = frame
             elif letter[0] != "absorb":  # which `push` compares
@@ -345,7 +328,7 @@ class Play:
         if self.world.engines[number].phase == "open":
             self.call(number, event)
         else:
-            need_same(f"engine {number}, which is not open,", frames_in(self.engines[number].ask(event)), [b"not open"])
+            need_same(f"engine {number}, which is not open,", wire.frames_of(self.engines[number].ask(event)), [b"not open"])
 
     def do_fail(self, number, i):
         if number < len(self.engines):
@@ -421,7 +404,7 @@ def difference(programs, moves, **options):
             if play.world.gone:
                 break
         play.world.check()
-    except (Mismatch, Violation) as fault:
+    except (AssertionError, Violation) as fault:
         return f"in move {place + 1}, {move!r}: {fault}"
     finally:
         play.close()

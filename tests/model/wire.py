@@ -1,11 +1,14 @@
 """The bytes of facts and messages: an encoder, which takes any numbers that fit their fields, and a decoder by the layouts and the
 order of faults alone, which says what `fleet inspect` answers."""
 
+import io
 import itertools
 import math
 import re
 
 from model.facts import MOST_BYTES, MOST_PATCHES, MOST_READERS, PAGE_LEN, Advance, Cut, Fill
+
+NOTHING = b"\x10" + bytes(22)  # the summary of an empty segment
 
 # Encoding
 
@@ -84,6 +87,21 @@ def frame(text):
 
 def framed(requests):
     return b"".join(map(frame, requests))
+
+
+def read_frame(stream):
+    """The next frame of a stream, or None where it ends before that is whole."""
+    size = stream.read(4)
+    text = stream.read(int.from_bytes(size, "big"))
+    return text if frame(text) == size + text else None
+
+
+def frames_of(text):
+    """The frames of a text that is made of whole ones."""
+    stream = io.BytesIO(text)
+    frames = list(iter(lambda: read_frame(stream), None))
+    assert framed(frames) == text, f"no whole frames: {text[:80]!r}"
+    return frames
 
 
 # Decoding
