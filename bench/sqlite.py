@@ -20,7 +20,7 @@ from typing import NamedTuple
 
 ROOT = Path(__file__).resolve().parents[1]
 sys.path.insert(0, str(ROOT / "tests"))
-from harness.sqlite_cluster import NODES, Cluster, kill_process  # noqa: E402
+from harness.sqlite_cluster import NODES, Cluster  # noqa: E402
 from harness.sqlite_crashes import Child  # noqa: E402
 from harness.sqlite_rounds import connect, load  # noqa: E402
 from harness.store_files import HEAD, HEADER  # noqa: E402
@@ -203,7 +203,7 @@ def recovered(cluster):
     child = Child(write, cluster.folder / "volume")
     child.pipe.recv()
     time.sleep(0.5)
-    kill_process(child.process)
+    child.kill()
     [found] = Child(open_to_write, cluster.folder / "volume").said()
     return found
 

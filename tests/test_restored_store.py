@@ -5,17 +5,12 @@ import contextlib
 import subprocess
 
 from harness import SECONDS, environment
-from model.facts import Record, Write
-from model.wire import fact_bytes, frame, framed, frames_of
+from harness.store_checks import takes
+from model.wire import frame, framed, frames_of
 
 LAST = 130  # records: the store makes a snapshot behind the first 100 and a restart
 MOST = 400  # how many allocations are refused, spread evenly over a restart
 FLUSHES = 40  # more than a run has
-
-
-def take(number):
-    patch = Write(number % 16, bytes([number]))
-    return b"take " + fact_bytes(Record(0, number, number - 1, number % 4, max(0, number - 4), False, (patch,)))
 
 
 def contents(folder):
@@ -26,8 +21,8 @@ def test_a_restart_without_memory(embedding, refusing, tmp_path):
     folder = tmp_path / "folder"
     command = [embedding / "durable", "serve", folder]
     folder.mkdir()
-    for numbers in (range(1, 111), range(111, LAST + 1)):
-        subprocess.run(command, input=framed(map(take, numbers)), capture_output=True, timeout=SECONDS, check=True)
+    for batch in (takes(1, 110), takes(111, LAST)):
+        subprocess.run(command, input=framed(batch), capture_output=True, timeout=SECONDS, check=True)
     kept, question = contents(folder), frame(b"front")
     assert any(name.startswith("snapshot") for name in kept)
     there, lost = frame(f"front 0 {LAST} 0".encode()), 0
@@ -46,15 +41,15 @@ def taken(command, settings):
     piped = {"stdin": subprocess.PIPE, "stdout": subprocess.PIPE, "stderr": subprocess.DEVNULL}
     done = 0
     with contextlib.suppress(BrokenPipeError), subprocess.Popen(command, env=settings, **piped) as process:
-        for numbers in (range(1, 61), range(61, 121), range(121, 141), range(141, 161)):
-            process.stdin.write(framed(map(take, numbers)))
+        for batch in (takes(1, 60), takes(61, 120), takes(121, 140), takes(141, 160)):
+            process.stdin.write(framed(batch))
             process.stdin.flush()
-            wanted = framed([b"changed"] * len(numbers))
+            wanted = framed([b"changed"] * len(batch))
             answers = process.stdout.read(len(wanted))
             if answers != wanted:
                 assert answers == b"", frames_of(answers)
                 break
-            done += len(numbers)
+            done += len(batch)
         with contextlib.suppress(BrokenPipeError):
             process.stdin.close()
     return done, process.returncode == 0

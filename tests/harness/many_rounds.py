@@ -10,7 +10,6 @@ its round; a second one kills them. Status 0: no fault, 1: a fault, 2: bad comma
 import argparse
 import contextlib
 import math
-import multiprocessing
 import multiprocessing.connection
 import os
 import secrets
@@ -23,6 +22,7 @@ from pathlib import Path
 
 from harness import ROOT, stores
 from harness.network import Network, NotAllowed
+from harness.sqlite_crashes import Child
 from harness.sqlite_network import SKIPPED, NetworkRounds
 from harness.sqlite_rounds import ROUNDS, Parts, Rounds, add, load, play_cluster
 
@@ -78,17 +78,13 @@ def play(pipe, kind, given, number):
     pipe.send(("end",))
 
 
-class Player:
-    """A process that plays."""
+class Player(Child):
+    """A process that plays, and starts others."""
 
     def __init__(self, kind, given, number):
-        fork = multiprocessing.get_context("fork")
-        self.number, self.counts, self.first, self.heard, self.has_ended = number, {}, given.first, time.monotonic(), False
+        self.number, self.counts, self.heard, self.has_ended = number, {}, time.monotonic(), False
         (given.folder / f"p{number}").mkdir(parents=True)
-        self.pipe, theirs = fork.Pipe()
-        self.process = fork.Process(target=play, args=(theirs, kind, given, number))
-        self.process.start()
-        theirs.close()
+        super().__init__(play, kind, given, number, daemon=False)
 
     def stop(self):
         with contextlib.suppress(OSError):

@@ -1,7 +1,6 @@
 """Six storage servers, and proxies before them that let a process die within what it sends."""
 
 import contextlib
-import multiprocessing
 import signal
 import socket
 import subprocess
@@ -11,6 +10,7 @@ from pathlib import Path
 
 from harness import sqlite_worlds
 from harness.shims import kit
+from harness.sqlite_crashes import Child
 from harness.stores import Client, Store, until
 from model.wire import frame, framed, frames_of, read_frame
 
@@ -199,14 +199,11 @@ def run_proxies(pipe, folder):
             pipe.send(spent.wait(value))
 
 
-class Proxies:
+class Proxies(Child):
     """The proxies in a process of their own."""
 
     def __init__(self, folder):
-        fork = multiprocessing.get_context("fork")
-        self.pipe, theirs = fork.Pipe()
-        self.process = fork.Process(target=run_proxies, args=(theirs, folder), daemon=True)
-        self.process.start()
+        super().__init__(run_proxies, folder)
         self.pipe.recv()
 
     def bound(self, counts, drops=False):
@@ -220,10 +217,4 @@ class Proxies:
         return self.pipe.recv()
 
     def close(self):
-        self.process.kill()
-        self.process.join()
-
-
-def kill_process(process):
-    process.kill()
-    process.join()
+        self.kill()

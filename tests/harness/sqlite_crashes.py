@@ -16,10 +16,10 @@ PENDING = 9  # commits that the double keeps to itself, at most, where nobody wa
 class Child:
     """A process that is forked from this one, which has no database open, and what it sends."""
 
-    def __init__(self, function, *words):
+    def __init__(self, function, *words, daemon=True):
         fork = multiprocessing.get_context("fork")
         self.pipe, theirs = fork.Pipe()
-        self.process = fork.Process(target=function, args=(theirs, *words), daemon=True)
+        self.process = fork.Process(target=function, args=(theirs, *words), daemon=daemon)
         self.process.start()
         theirs.close()
 
@@ -35,6 +35,10 @@ class Child:
     def ask(self):
         self.pipe.send("look")
         return self.pipe.recv()
+
+    def kill(self):
+        self.process.kill()
+        self.process.join()
 
     def close(self):
         self.pipe.send(None)

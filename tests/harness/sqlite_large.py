@@ -10,7 +10,7 @@ import sys
 import time
 from pathlib import Path
 
-from harness.sqlite_cluster import NODES, Cluster, kill_process
+from harness.sqlite_cluster import NODES, Cluster
 from harness.sqlite_crashes import Child
 from harness.sqlite_rounds import connect, load, told
 from harness.sqlite_worlds import is_whole, last_message, one
@@ -152,7 +152,7 @@ def fill_and_kill(cluster, seed, size):
     finally:
         for it in (writer, watcher):
             if it:
-                kill_process(it.process)
+                it.kill()
 
 
 def found(cluster, seed, size):

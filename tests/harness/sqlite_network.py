@@ -8,7 +8,7 @@ import sys
 import time
 
 from harness.network import Network, NotAllowed
-from harness.sqlite_cluster import NODES, Cluster, kill_process
+from harness.sqlite_cluster import NODES, Cluster
 from harness.sqlite_crashes import Child
 from harness.sqlite_rounds import Rounds, run, work
 
@@ -75,7 +75,7 @@ class NetworkRounds(Rounds):
         if is_cut_off:
             self.network.set(cut=[*before[:ENGINE], True])
             time.sleep(choose.choice([0, 0.01, 0.1, 1]))
-        kill_process(child.process)
+        child.kill()
         said = child.said()
         self.network.set(cut=before)
         how = "cut off" if is_cut_off else "time"

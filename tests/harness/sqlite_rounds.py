@@ -16,7 +16,7 @@ from typing import NamedTuple
 if __name__ == "__main__":
     sys.path.insert(0, str(Path(__file__).resolve().parents[1]))
 
-from harness.sqlite_cluster import NODES, QUORUM, Cluster, Proxies, kill_process
+from harness.sqlite_cluster import NODES, QUORUM, Cluster, Proxies
 from harness.sqlite_crashes import Child, digest
 from harness.sqlite_transactions import TABLES, transaction
 from harness.sqlite_worlds import is_whole, one
@@ -180,7 +180,7 @@ class Rounds:
         else:
             self.wait_until_spent(child)
             time.sleep(choose.choice([0, 0.005, 0.05]))
-        kill_process(child.process)
+        child.kill()
         said += child.said()
         self.proxies.bound(None, choose.random() < 0.5)
         return how, [it for it in said if isinstance(it, int)], [it for it in said if isinstance(it, str)]
@@ -230,7 +230,7 @@ class Rounds:
 
     def close(self):
         if self.watcher:
-            kill_process(self.watcher.process)
+            self.watcher.kill()
         self.proxies.close()
         self.cluster.close()
 

@@ -12,7 +12,7 @@ import sys
 import time
 from pathlib import Path
 
-from harness.sqlite_cluster import NODES, QUORUM, Cluster, Proxies, kill_process
+from harness.sqlite_cluster import NODES, QUORUM, Cluster, Proxies
 from harness.sqlite_crashes import Child
 from harness.sqlite_rounds import connect, load, told
 from harness.sqlite_worlds import is_whole, one
@@ -86,7 +86,7 @@ class Engine:
         os.kill(self.child.process.pid, signal.SIGCONT)
 
     def kill(self):
-        kill_process(self.child.process)
+        self.child.kill()
 
     def close(self):
         self.send(None)
@@ -99,10 +99,16 @@ class World:
         load(extension)
         self.store, self.disk, self.folder, self.rng, self.made = store, disk, Path(folder), random.Random(seed), []
 
-    def cluster(self, gossip_every=50):
+    def cluster(self, gossip_every=50, rows=3):
+        """Servers with a table of so many rows, each of which was a commit, in a database that nobody has open; of None without a table."""
         made = Cluster(self.store, self.folder / f"c{len(self.made)}", self.disk, gossip_every)
         made.start()
         self.made.append(made)
+        if rows is not None:
+            ours = Engine(made.folder / "volume", timeout=20000)
+            assert ours.opened == "open", ours.opened
+            ours.run(TABLE, *["insert into t(b) values(randomblob(20))"] * rows)
+            ours.close()
         return made
 
     def proxies(self, cluster):
@@ -115,17 +121,8 @@ class World:
             it.close()
 
 
-def filled(cluster, rows=3):
-    """A table with rows, each of which was a commit, in a database that nobody has open."""
-    ours = Engine(cluster.folder / "volume", timeout=20000)
-    assert ours.opened == "open", ours.opened
-    ours.run(TABLE, *["insert into t(b) values(randomblob(20))"] * rows)
-    ours.close()
-
-
 def commit_at_four(cluster):
-    """Three commits at all servers, and 20 more without the last two, which are away."""
-    filled(cluster)
+    """Adds 20 commits without the last two servers, which are away."""
     cluster.kill(4, 5)
     ours = Engine(cluster.folder / "volume")
     ours.run(*["insert into t(b) values('four have it')"] * 20)
@@ -155,7 +152,6 @@ def check_openings_that_die(world):
     servers have one log in the end: no epoch has two truncations."""
     cluster = world.cluster()
     proxies = world.proxies(cluster)
-    filled(cluster)
     rows = 3
     for step in range(11):
         late = world.rng.sample(range(NODES), world.rng.randrange(NODES))
@@ -164,7 +160,7 @@ def check_openings_that_die(world):
         dying.pipe.send("insert into t(b) values('dying')")
         proxies.wait(1.5)
         time.sleep(0.1)
-        kill_process(dying.process)
+        dying.kill()
         proxies.bound(None)
         rows = shows(cluster, rows, rows + 1) + 1
         assert cluster.settled(), f"step {step}: {cluster.fronts()}"
@@ -173,7 +169,6 @@ def check_openings_that_die(world):
 def check_openings_with_stopped_servers(world):
     """Servers that take connections and answer nothing keep no engine from opening the volume, nor a reader from reading it."""
     cluster = world.cluster()
-    filled(cluster)
     for rows, stopped in enumerate(((0,), (1, 4), (0, 5)), 3):
         for number in stopped:
             cluster.pause(number)
@@ -186,8 +181,7 @@ def check_openings_with_stopped_servers(world):
 
 def check_two_engines(world):
     """Two engines write at once, and fence each other. What either acknowledged is there; an engine that is fenced says so, and may open again."""
-    cluster = world.cluster()
-    filled(cluster, 0)
+    cluster = world.cluster(rows=0)
     acknowledged = [0, 0]
     for turn in range(6):
         engines = [Engine(cluster.folder / "volume", timeout=20000) for _ in range(2)]
@@ -206,7 +200,6 @@ def check_two_engines(world):
 def check_old_engine(world):
     """An engine sleeps within a transaction while another one fences it and commits. It wakes up: its commit fails, and leaves nothing."""
     cluster = world.cluster()
-    filled(cluster)
     old = Engine(cluster.folder / "volume")
     old.run("begin immediate", "insert into t(b) values('old')")
     old.pause()
@@ -225,7 +218,6 @@ def check_late_requests(world):
     """What an engine sent arrives at the servers only after another one has fenced it, or has begun its epoch: none of it counts."""
     cluster = world.cluster(NO_GOSSIP)
     proxies = world.proxies(cluster)
-    filled(cluster)
     old = Engine(cluster.folder / "proxied")
     old.run("insert into t(b) values('before')")
     for arrives in ([0] * NODES, [9, 9, 9, 0, 0, 0], [1] * NODES, [9, 0, 0, 0, 0, 0]):
@@ -281,7 +273,7 @@ def check_two_admitted(world):
 
 def check_another_volume(world):
     """All servers lose their files, and the place comes to have another volume. Who knew the former one believes nothing of it."""
-    cluster = world.cluster()
+    cluster = world.cluster(rows=None)
     for is_made_by_other in (True, False):
         place = cluster.folder / "volume"
         outlives = Child(outlive, place)
@@ -327,7 +319,6 @@ def check_replaced_one_by_one(world):
     """One connection stays open while four servers lose their files, one after another, also where nobody writes: each counts again before
     the next one goes. Then two others may go."""
     cluster = world.cluster()
-    filled(cluster)
     ours, rows = Engine(cluster.folder / "volume"), 3
     for victim in range(QUORUM):
         ours.write("all have it")
@@ -350,7 +341,6 @@ def check_replaced_one_by_one(world):
 def check_replaced_beside_two_engines(world):
     """An engine that was fenced and does not know it leaves the newer one alone where a server has lost its files."""
     cluster = world.cluster()
-    filled(cluster)
     old, new = Engine(cluster.folder / "volume"), Engine(cluster.folder / "volume")
     old.write("old")
     new.write("new")
@@ -381,7 +371,7 @@ def check_two_epochs(world):
             dying.pipe.send("begin immediate")
             proxies.wait(1)
             time.sleep(0.1)
-            kill_process(dying.process)
+            dying.kill()
             proxies.bound(None, True)
         for away in ((0, 1), (2, 3)):
             cluster.kill(*away)
@@ -391,9 +381,8 @@ def check_two_epochs(world):
 
 def check_torn_transactions(world):
     """An engine dies within what it sends of a transaction over many pages: the next one finds all of it or nothing."""
-    cluster = world.cluster()
+    cluster = world.cluster(rows=0)
     proxies = world.proxies(cluster)
-    filled(cluster, 0)
     rows = 0
     for _ in range(8):
         ours = Engine(cluster.folder / "proxied")
@@ -418,7 +407,6 @@ def check_not_yet_durable(world):
     for has in range(1, QUORUM):
         cluster = world.cluster(NO_GOSSIP)
         proxies = world.proxies(cluster)
-        filled(cluster)
         ours, reader = Engine(cluster.folder / "proxied", timeout=1000), Engine(cluster.folder / "volume", mode="ro")
         ours.write("four")
         assert reader.rows() == [(4,)]
@@ -439,7 +427,6 @@ def check_not_yet_durable(world):
 def check_one_snapshot(world):
     """A transaction that reads sees one state while another process commits, also where servers come and go; then it sees all."""
     cluster = world.cluster()
-    filled(cluster)
     ours, reader = Engine(cluster.folder / "volume"), Engine(cluster.folder / "volume", mode="ro")
     all_of_it = "select count(*), sum(length(b)), sum(unicode(b)) from t"
     ours.run(f"{MANY} insert into t(b) select hex(randomblob(200)) from c")
@@ -459,7 +446,6 @@ def check_one_snapshot(world):
 def check_fenced_reader(world):
     """A process that has written reads on after another one has fenced it, and sees what that one commits."""
     cluster = world.cluster()
-    filled(cluster)
     old, other = Engine(cluster.folder / "volume"), Engine(cluster.folder / "volume")
     old.run("insert into t(b) values('old')")
     for count in range(5, 8):
@@ -473,8 +459,7 @@ def check_fenced_reader(world):
 
 def check_off_with_slow_servers(world):
     """With synchronous = off nothing waits for servers that are slow or stopped, what is sent is bounded, and all is durable in the end."""
-    cluster = world.cluster()
-    filled(cluster, 0)
+    cluster = world.cluster(rows=0)
     cluster.kill(4)
     cluster.start(4, delay=100_000)
     cluster.pause(5)
@@ -495,7 +480,6 @@ def check_off_with_slow_servers(world):
 def check_third_server(world):
     """Without a third server nothing is written, and the message says so in time; work goes on when it is back."""
     cluster = world.cluster()
-    filled(cluster)
     ours = Engine(cluster.folder / "volume", timeout=4000)
     ours.write("six")
     cluster.kill(0, 1)
@@ -519,7 +503,6 @@ def check_third_server(world):
 def check_kept_writer(world):
     """A process that connects often spends two epochs at most, and others that only read none."""
     cluster = world.cluster()
-    filled(cluster)
     before = max(front[0] for front in cluster.fronts())
     assert Child(connect_often, cluster.folder / "volume").said() == ["done"]
     for _ in range(3):
