@@ -44,33 +44,19 @@ def c_gossip(archive, tmp_path_factory):
 # Peers: each gets a connection, and may leave it open
 
 
-def silent(_peer):
-    pass
-
-
-def leaves(peer):
-    peer.close()
-
-
 def resets(peer):
     peer.setsockopt(socket.SOL_SOCKET, socket.SO_LINGER, struct.pack("ii", 1, 0))
     peer.close()
 
 
-def sends(*parts):
-    """A peer that sends these bytes, and reads nothing."""
+def sends(*parts, leaves=False):
+    """A peer that sends these bytes, and reads nothing; it may leave then."""
 
     def behave(peer):
         for part in parts:
             peer.sendall(part)
-
-    return behave
-
-
-def sends_and_leaves(*parts):
-    def behave(peer):
-        sends(*parts)(peer)
-        peer.close()
+        if leaves:
+            peer.close()
 
     return behave
 
@@ -102,37 +88,44 @@ PEERS = {
     "a header of ones, one byte at a time": (sends(b"\xff", b"\xff", b"\xff", b"\xff", b"\xff"), TOO_LONG),
     "a length above the limit": (sends(frame(b"", LONGEST + 1)), TOO_LONG),
     "a length with the highest bit": (sends(frame(b"", 1 << 31)), TOO_LONG),
-    "a length at the limit, and an end": (sends_and_leaves(frame(b"\x10", LONGEST)), LEFT),
+    "a length at the limit, and an end": (sends(frame(b"\x10", LONGEST), leaves=True), LEFT),
     "a delta's header of ones": (sends(frame(NOTHING), b"\xff\xff\xff\xff" + bytes(64)), TOO_LONG),
-    "an end at once": (leaves, LEFT),
+    "an end at once": (sends(leaves=True), LEFT),
     "a reset at once": (resets, LEFT),
-    "an end within a header": (sends_and_leaves(b"\0\0"), LEFT),
-    "an end within a frame": (sends_and_leaves(frame(NOTHING, 100)), LEFT),
-    "an end behind a summary": (sends_and_leaves(frame(NOTHING)), LEFT),
+    "an end within a header": (sends(b"\0\0", leaves=True), LEFT),
+    "an end within a frame": (sends(frame(NOTHING, 100), leaves=True), LEFT),
+    "an end behind a summary": (sends(frame(NOTHING), leaves=True), LEFT),
     "an empty summary": (sends(frame(b"")), OTHERWISE),
     "a summary of another kind": (sends(frame(b"\x99" * 30)), OTHERWISE),
     "a summary that promises many keys": (sends(frame(NOTHING[:-4] + b"\xff\xff\xff\xff")), OTHERWISE),
     "an empty delta": (sends(frame(NOTHING), frame(b"")), OTHERWISE),
     "a delta of another kind": (sends(frame(NOTHING), frame(b"\0" * 50)), OTHERWISE),
-    "silence": (silent, SLOW),
+    "silence": (sends(), SLOW),
     "silence behind a summary": (sends(frame(NOTHING)), SLOW),
     "a frame that drips": (drips, SLOW),
     "summaries without an end": (floods, OTHERWISE),
 }
 
 
-class Outcome:
-    def __init__(self, process, seconds):
-        self.told, self.said = process.communicate(timeout=SECONDS)
-        self.status, self.seconds = process.returncode, time.monotonic() - seconds
-
-    def is_unharmed(self):
-        return self.status == 1 and not any(word in self.said for word in ("Sanitizer", "runtime error", "panicked"))
-
-
 def limited():
     """No core files."""
     resource.setrlimit(resource.RLIMIT_CORE, (0, 0))
+
+
+class Run:
+    """A run of a program, and how it ended, once that was asked for."""
+
+    def __init__(self, *words):
+        piped = {"stdout": subprocess.PIPE, "stderr": subprocess.PIPE, "stdin": subprocess.DEVNULL, "text": True, "errors": "replace"}
+        self.begun, self.process = time.monotonic(), subprocess.Popen(list(map(str, words)), preexec_fn=limited, **piped)
+
+    def end(self):
+        self.told, self.said = self.process.communicate(timeout=SECONDS)
+        self.status, self.seconds = self.process.returncode, time.monotonic() - self.begun
+        return self
+
+    def is_unharmed(self):
+        return self.status == 1 and not any(word in self.said for word in ("Sanitizer", "runtime error", "panicked"))
 
 
 @contextlib.contextmanager
@@ -142,23 +135,17 @@ def listening():
         yield listener
 
 
-def run(words):
-    begun = time.monotonic()
-    piped = {"stdout": subprocess.PIPE, "stderr": subprocess.PIPE, "stdin": subprocess.DEVNULL, "text": True, "errors": "replace"}
-    return subprocess.Popen(list(map(str, words)), preexec_fn=limited, **piped), begun
-
-
 def met(words, behave):
     """How a program ends that connects to a peer of this behaviour; {} is the place of the port."""
     with listening() as listener:
-        process, begun = run([str(word).format(listener.getsockname()[1]) for word in words])
+        run = Run(*(str(word).format(listener.getsockname()[1]) for word in words))
         try:
             peer, _ = listener.accept()
             with contextlib.suppress(OSError):
                 behave(peer)
-            return Outcome(process, begun)
+            return run.end()
         finally:
-            process.kill()
+            run.process.kill()
             with contextlib.suppress(NameError):
                 peer.close()
 
@@ -180,13 +167,12 @@ def test_the_c_program_survives_noise(c_gossip, rng, place):
         for _ in range(rng.randrange(1, 6)):
             text[rng.randrange(len(text))] = rng.choice((0, 1, 0x10, 0x7F, 0x80, 0xFF, rng.randrange(256)))
         cut = bytes(text[: rng.randrange(1, len(text) + 1)])
-        outcome = met([c_gossip, "second", "{}"], sends_and_leaves(cut))
+        outcome = met([c_gossip, "second", "{}"], sends(cut, leaves=True))
         assert outcome.is_unharmed(), (cut.hex(), outcome.said)
 
 
 def test_honest_c_programs_gossip(c_gossip):
-    process, begun = run([c_gossip])
-    outcome = Outcome(process, begun)
+    outcome = Run(c_gossip).end()
     assert (outcome.status, outcome.said) == (0, "")
     assert outcome.told.count(": front 0 1000 0") == 2
 
@@ -203,14 +189,14 @@ def test_frames_come_in_small_parts(c_gossip):
     """Short reads: two honest programs whose bytes are carried 97 at a time."""
     with listening() as listener:
         port = listener.getsockname()[1]
-        runs = [run([c_gossip, name, port]) for name in ("first", "second")]
+        runs = [Run(c_gossip, name, port) for name in ("first", "second")]
         ends = [listener.accept()[0] for _ in runs]
         for end in ends:
             end.setsockopt(socket.IPPROTO_TCP, socket.TCP_NODELAY, 1)
         carriers = [threading.Thread(target=relay, args=(*pair, 97), daemon=True) for pair in (ends, ends[::-1])]
         for carrier in carriers:
             carrier.start()
-        outcomes = [Outcome(*it) for it in runs]
+        outcomes = [it.end() for it in runs]
         for end in ends:
             end.close()
     assert [(it.status, it.said) for it in outcomes] == [(0, ""), (0, "")]
@@ -218,8 +204,7 @@ def test_frames_come_in_small_parts(c_gossip):
 
 def test_a_bad_command_line_is_refused(c_gossip):
     for words in (["second"], ["third", "1"], ["second", "0"], ["second", "65536"], ["second", "1x"], ["second", ""], ["a", "b", "c"]):
-        process, begun = run([c_gossip, *words])
-        assert Outcome(process, begun).status == 2
+        assert Run(c_gossip, *words).end().status == 2
 
 
 RUST = {name: peer for name, peer in PEERS.items() if peer[1] in (TOO_LONG, LEFT, OTHERWISE)}

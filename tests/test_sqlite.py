@@ -1,5 +1,6 @@
 """The VFS of `sqlite/` over the double of a volume: what databases do there, beside plain ones, in crashes, and where the volume fails."""
 
+import importlib
 import re
 import shutil
 import sqlite3
@@ -9,7 +10,7 @@ import pytest
 
 from harness import CASES, ROOT, environment
 from harness.shims import c_compiler
-from harness.sqlite_worlds import build, run, sanitizer
+from harness.sqlite_worlds import CHECKS, build, run, sanitizer
 
 
 def has_headers():
@@ -18,13 +19,8 @@ def has_headers():
     return subprocess.run(command, input=b"#include <sqlite3ext.h>\n", capture_output=True, check=False).returncode == 0
 
 
-CHECKS = {
-    "checks": ["random", "sizes", "spill", "vacuum", "snapshots", "readers", "threads", "writers", "waits", "turns", "past", "keep", "openings",
-               "other_page_sizes", "several_databases", "calls"],
-    "crashes": ["crashes"],
-    "faults": ["faults", "kept_writer", "in_doubt", "lost_writer", "fences", "nodes", "fenced_calls"],
-}
-NAMES = [name for names in CHECKS.values() for name in names]
+MODULES = map(importlib.import_module, CHECKS)
+NAMES = [name.removeprefix("check_") for module in MODULES for name in vars(module) if name.startswith("check_")]
 SCRIPTS = dict(re.findall(r"(?ms)^-- == (.*?)\n(.*?)(?=^-- == |\Z)", (CASES / "sqlite.sql").read_text()))
 
 pytestmark = [

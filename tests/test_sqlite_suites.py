@@ -1,5 +1,6 @@
 """SQLite over real servers as others test it: scripts of the shell, Python's own tests of `sqlite3`, a large database, and Valgrind."""
 
+import contextlib
 import json
 import re
 import shlex
@@ -25,10 +26,9 @@ needs_valgrind = pytest.mark.skipif(not shutil.which("valgrind"), reason="no val
 
 @pytest.fixture
 def cluster(store_program, disk, tmp_path):
-    made = Cluster(store_program, tmp_path / "servers", disk)
-    made.start()
-    yield made
-    made.close()
+    with contextlib.closing(Cluster(store_program, tmp_path / "servers", disk)) as made:
+        made.start()
+        yield made
 
 
 @needs_shell
@@ -115,7 +115,7 @@ def test_store_under_valgrind(store_program, tmp_path):
     watched.chmod(0o755)
     peer = Store(store_program, tmp_path / "peer").start()
     it = Store(watched, tmp_path / "one", "--snapshot-after", 4096, "--gossip-every", 50, "--peer", peer.address)
-    try:
+    with contextlib.closing(peer), contextlib.closing(it):
         it.start()
         client = it.client()
         assert told(client, takes(1, 150)) == [b"changed"] * 150
@@ -126,6 +126,3 @@ def test_store_under_valgrind(store_program, tmp_path):
         it.start()
         assert it.ask(b"front") == b"front 0 200 60" and it.ask(take(200)) == b"unchanged"
         assert it.stop() == 0, it.log()
-    finally:
-        peer.close()
-        it.close()

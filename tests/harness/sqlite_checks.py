@@ -311,10 +311,8 @@ def check_keep(world):
 
 def check_openings(world):
     """What cannot be opened is refused, and makes nothing."""
-    for words in ({"point": "x"}, {"point": ""}, {"point": 2**64}, {"point": -1}, {"keep": "many"}, {"timeout": "1s"}, {"nolock": 1}, {"immutable": 1}):
-        with refused("SQLITE_CANTOPEN"):
-            world.open(**words)
-    for words in ({"mode": "ro"}, {"mode": "rw"}, {"point": "latest"}):
+    bad = [{"point": it} for it in ("x", "", 2**64, -1)] + [{"keep": "many"}, {"timeout": "1s"}, {"nolock": 1}, {"immutable": 1}]
+    for words in (*bad, {"mode": "ro"}, {"mode": "rw"}, {"point": "latest"}):
         with refused("SQLITE_CANTOPEN"):
             world.open(**words)
     assert os.listdir(world.folder) == []

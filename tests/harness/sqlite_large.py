@@ -166,8 +166,8 @@ def main(extension, store, disk, folder, seed, megabytes):
     load(extension)
     size = int(float(megabytes) * 1e6)
     Path(folder).mkdir(parents=True, exist_ok=True)
-    cluster = Cluster(store, Path(folder) / "c", disk, words=("--snapshot-after", max(100_000, size // 30)))
-    try:
+    made = Cluster(store, Path(folder) / "c", disk, words=("--snapshot-after", max(100_000, size // 30)))
+    with contextlib.closing(made) as cluster:
         begun = started = time.monotonic()
         cluster.start()
         looks = fill_and_kill(cluster, seed, size)
@@ -188,8 +188,6 @@ def main(extension, store, disk, folder, seed, megabytes):
         assert found(cluster, seed, size) == rows
         total = time.monotonic() - started
         print(f"{rows} rows in {filled:.0f} s, {looks} looks, snapshots {made}, a wiped server whole in {whole:.1f} s, all in {total:.0f} s")
-    finally:
-        cluster.close()
 
 
 if __name__ == "__main__":

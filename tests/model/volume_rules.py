@@ -272,13 +272,11 @@ class Rules:
 def trace(moves, kind=Traced, **options):
     """The run that a schedule makes, up to a violation or to where no node is a member."""
     run = kind(**options)
-    try:
+    with contextlib.suppress(Violation):
         for move in moves:
             run.do(move)
             if run.gone:
                 break
-    except Violation:
-        pass
     return run
 
 
