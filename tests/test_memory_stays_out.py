@@ -7,17 +7,17 @@ from concurrent.futures import ThreadPoolExecutor
 import pytest
 
 from harness import ROOT, answer
+from test_memory import NO_MEMORY
 
 BUDGET = 45  # seconds for the runs of a test
 AT_ONCE = 4  # runs at the same time
-ENDED = "fleet: out of memory\n"
 ROWS = b"== end of threads\nrounds\n"
 FOR_EVER = 2**63
 
 
 def sweep(refusing, command, text, rng, stays_out):
     """The ample answer, and that of each run in which a request is refused, alone or with all later ones: of every request, or of a
-    sample where there are too many. An answer is none where the run did not end."""
+    sample where there are too many."""
     started = time.monotonic()
     counts, ample = refusing.counted(command, text)
     numbers, most = range(1, counts.allocations + 1), max(1, int(BUDGET * AT_ONCE / (time.monotonic() - started)))
@@ -25,21 +25,16 @@ def sweep(refusing, command, text, rng, stays_out):
         numbers = sorted(rng.sample(numbers, most))
         print(f"of {counts.allocations} requests these are refused: {numbers}")
 
-    def told(number):
-        seen = refusing.run(command, text, FAIL_ALLOC=number, FAIL_ALLOC_LAST=FOR_EVER if stays_out else 0)
-        return None if seen.status is None else words_of(seen)
+    def run(number):
+        return refusing.run(command, text, FAIL_ALLOC=number, FAIL_ALLOC_LAST=FOR_EVER if stays_out else 0)
 
     with ThreadPoolExecutor(AT_ONCE) as pool:
-        return words_of(ample), dict(zip(numbers, pool.map(told, numbers)))
-
-
-def words_of(seen):
-    return seen.status, seen.output.decode(), seen.said.decode()
+        return ample, dict(zip(numbers, pool.map(run, numbers)))
 
 
 def bad(answers, is_good):
     """The answers that are not good, by the number of the first request that was refused; the first few of them."""
-    found = {number: answer for number, answer in answers.items() if answer is None or not is_good(answer)}
+    found = {number: answer for number, answer in answers.items() if not is_good(answer)}
     return dict(list(found.items())[:5])
 
 
@@ -63,36 +58,30 @@ def test_memory_stays_out(fleet, refusing, rng, words, text):
     """Every request from one on is refused: the run ends with status 5 and its words, or gives the ample answer."""
     text = b"" if text is None else example(text)
     ample, answers = sweep(refusing, [fleet, *words], text, rng, True)
-    ended = (5, "", ENDED)
-    assert bad(answers, lambda answer: answer in (ample, ended)) == {}
-    assert ended in answers.values()
+    assert bad(answers, lambda answer: answer in (ample, NO_MEMORY)) == {}
+    assert NO_MEMORY in answers.values()
 
 
 # Of a node
-
-
-def pairs_of(lines, told):
-    return [(line, answer) for line, answer in zip(lines, told.splitlines()) if answer != "memory"]
 
 
 def test_a_node_whose_memory_stays_out(fleet_node, refusing, rng):
     """It answers `memory` and goes on, or ends with status 5 and its words. Nothing has changed by a request that lacked memory: the others
     are answered as where that one was not made."""
     text = example("node.requests")
-    lines = text.decode().splitlines()
+    lines = text.splitlines()
     _, answers = sweep(refusing, [fleet_node], text, rng, True)
 
     def is_good(seen):
-        status, told, words = seen
-        kept = pairs_of(lines, told)
-        asked = "".join(line + "\n" for line, _ in kept).encode()
-        wanted = answer(fleet_node, [], asked).output.decode()
-        is_whole = status == 0 and words == "" and len(told.splitlines()) == len(lines)
-        is_cut = status == 5 and words == ENDED.replace("fleet", "fleet-node")
+        told = seen.output.splitlines()
+        kept = [(line, it) for line, it in zip(lines, told) if it != b"memory"]
+        wanted = answer(fleet_node, [], b"".join(line + b"\n" for line, _ in kept)).output
+        is_whole = seen.status == 0 and seen.said == b"" and len(told) == len(lines)
+        is_cut = seen.status == 5 and seen.said == b"fleet-node: out of memory\n"
         return (is_whole or is_cut) and wanted.splitlines() == [it for _, it in kept]
 
     assert bad(answers, is_good) == {}
-    assert any("memory" in told for _, told, _ in answers.values())
+    assert any(b"memory" in it.output for it in answers.values())
 
 
 # Of the rounds of workers
@@ -111,9 +100,9 @@ def test_a_round_that_lacks_memory_is_listed(thread_cases, refusing, rng):
     """One request is refused. A round that was not carried out is listed with its worker, and no other; where the program itself lacked
     memory, it ends."""
     ample, answers = sweep(refusing, [thread_cases], ROWS, rng, False)
-    assert rounds_of(ample[1]) == ([], [], True, 8)
-    assert None not in answers.values()
-    ended = {number: told for number, (status, told, _) in answers.items() if status == 0}
+    assert rounds_of(ample.output.decode()) == ([], [], True, 8)
+    assert None not in [it.status for it in answers.values()]
+    ended = {number: it.output.decode() for number, it in answers.items() if it.status == 0}
     assert 8 * len(ended) > len(answers)
     listed = set()
     for number, told in ended.items():

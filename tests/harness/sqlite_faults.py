@@ -17,12 +17,11 @@ CODES = {
 }
 
 
-def made(world, name="volume", rows=400):
-    """A database with rows on many pages, in a file that no connection of this process has open."""
+def made(world, name="volume"):
+    """A database with 400 rows on many pages, in a file that no connection of this process has open."""
     ours = world.open(name)
     ours.execute("create table t(a integer primary key, b)")
-    many = f"with recursive c(n) as (select 1 union all select n + 1 from c where n < {rows})"
-    ours.execute(f"{many} insert into t select n, hex(zeroblob(100)) from c")
+    ours.execute("with recursive c(n) as (select 1 union all select n + 1 from c where n < 400) insert into t select n, hex(zeroblob(100)) from c")
     ours.close()
 
 

@@ -80,9 +80,9 @@ def statements(choose):
                 yield f"rollback to s{depth}", ()
 
 
-def perform(connection, choose, number, may_roll_back=True):
+def transaction(connection, seed, number):
     """Does a transaction, and returns the errors of its statements. Its number is in the table `done` afterwards, also where it rolls back."""
-    errors = []
+    choose, errors = random.Random(f"{seed} transaction {number}"), []
     connection.execute("begin immediate")
     for sql, values in list(statements(choose)):
         try:
@@ -93,13 +93,9 @@ def perform(connection, choose, number, may_roll_back=True):
             if "no such savepoint" not in str(error):
                 raise
             errors.append(str(error))
-    if may_roll_back and choose.random() < 0.2:
+    if choose.random() < 0.2:
         connection.execute("rollback")
         connection.execute("begin immediate")
     connection.execute("update done set number = ?", (number,))
     connection.execute("commit")
     return errors
-
-
-def transaction(connection, seed, number, **settings):
-    return perform(connection, random.Random(f"{seed} transaction {number}"), number, **settings)

@@ -63,16 +63,16 @@ class World:
     def place(self, name):
         return self.folder / name
 
-    def open(self, name="volume", busy=0.0, flags="", **parameters):
+    def open(self, name="volume", busy=0.0, **parameters):
         words = "".join(f"&{key}={value}" for key, value in parameters.items())
-        uri = f"file:{self.place(name)}?vfs=yieldcleat{words}{flags}"
+        uri = f"file:{self.place(name)}?vfs=yieldcleat{words}"
         return sqlite3.connect(uri, uri=True, isolation_level=None, timeout=busy, check_same_thread=False)
 
     def plain(self, name=":memory:"):
         return sqlite3.connect(name if name == ":memory:" else self.place(name), isolation_level=None, timeout=0)
 
-    def size(self, name="volume"):
-        return self.place(name).stat().st_size
+    def size(self):
+        return self.place("volume").stat().st_size
 
     # Faults of the double
 

@@ -156,9 +156,9 @@ class Store:
         return {name: float(value) for name, _, value in (it.rpartition(" ") for it in lines if not it.startswith("#"))}
 
 
-def until(holds, seconds=SECONDS):
-    """Whether something holds within the time."""
-    end = time.monotonic() + seconds
+def until(holds):
+    """Whether something comes to hold in time."""
+    end = time.monotonic() + SECONDS
     while time.monotonic() < end:
         if holds():
             return True

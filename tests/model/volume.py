@@ -79,7 +79,7 @@ class View:
                     todo.append(record[2])
         self.linked = [linked[number] for number in sorted(linked)]
         self.complete = max(linked, default=0)
-        self.commit = self.commit_at(self.complete)
+        self.commit = max((record[2] for record in self.linked if record[4] == 0), default=0)
 
     def is_alive(self, epoch, number):
         if epoch > self.k or (epoch and number <= self.cuts[epoch][3]):
@@ -92,9 +92,6 @@ class View:
             if number <= point:
                 pages.setdefault(page, []).append((epoch, number))
         return pages
-
-    def commit_at(self, point):
-        return max((record[2] for record in self.linked if record[4] == 0 and record[2] <= point), default=0)
 
 
 @functools.lru_cache(maxsize=100_000)

@@ -54,12 +54,9 @@ class Machines(World):
         engine.phase = "dead"
         self.say(engine, words)
 
-    def write_letters(self, i, request):
-        self.did += [(request[1], i, letter) for letter in letters_of(request)]
-
     def send(self, i, request):
         super().send(i, request)
-        self.write_letters(i, request)
+        self.did += [(request[1], i, letter) for letter in letters_of(request)]
 
     def send_fenced(self, engine, kind, *rest):
         """The machine asks for no front when it opens: each node was asked for it with the truncation."""
