@@ -13,12 +13,6 @@ from harness.shims import c_compiler
 from harness.sqlite_worlds import CHECKS, build, run, sanitizer
 
 
-def has_headers():
-    """Whether this machine's C compiler finds what an extension of SQLite includes."""
-    command = [c_compiler() or "false", "-E", "-x", "c", "-"]
-    return subprocess.run(command, input=b"#include <sqlite3ext.h>\n", capture_output=True, check=False).returncode == 0
-
-
 MODULES = map(importlib.import_module, CHECKS)
 NAMES = [name.removeprefix("check_") for module in MODULES for name in vars(module) if name.startswith("check_")]
 SCRIPTS = dict(re.findall(r"(?ms)^-- == (.*?)\n(.*?)(?=^-- == |\Z)", (CASES / "sqlite.sql").read_text()))
@@ -26,7 +20,7 @@ SCRIPTS = dict(re.findall(r"(?ms)^-- == (.*?)\n(.*?)(?=^-- == |\Z)", (CASES / "s
 pytestmark = [
     pytest.mark.xdist_group("sqlite"),  # which builds the extension once
     pytest.mark.skipif(not hasattr(sqlite3.Connection, "enable_load_extension"), reason="this Python loads no extension; Debian's does"),
-    pytest.mark.skipif(not has_headers(), reason="no C compiler with SQLite's headers is on the path"),
+    pytest.mark.skipif(not c_compiler("sqlite3ext.h"), reason="no C compiler with SQLite's headers is on the path"),
 ]
 needs_shell = pytest.mark.skipif(not shutil.which("sqlite3"), reason="no sqlite3 is on the path")
 

@@ -24,11 +24,11 @@ def compiler():
     return kit() / "toolchain/bin/clang"
 
 
-def c_compiler():
-    """A C compiler of this machine that finds the system's headers, or None."""
+def c_compiler(*headers):
+    """A C compiler of this machine that finds the system's headers and these, or None."""
+    text = "".join(f"#include <{it}>\n" for it in ("stdio.h", "pthread.h", *headers)).encode()
     for name in filter(None, map(shutil.which, ("cc", "gcc", "clang"))):
-        headers = b"#include <stdio.h>\n#include <pthread.h>\n"
-        if subprocess.run([name, "-E", "-x", "c", "-"], input=headers, capture_output=True, check=False).returncode == 0:
+        if subprocess.run([name, "-E", "-x", "c", "-"], input=text, capture_output=True, check=False).returncode == 0:
             return name
     return None
 
