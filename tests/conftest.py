@@ -128,7 +128,8 @@ def store_program(archive, tmp_path_factory):
 @pytest.fixture(scope="session")
 def embedding(archive, tmp_path_factory):
     """The folder of the programs of `embedding/`."""
-    return stores.build(archive, tmp_path_factory.mktemp("embedding"), ROOT / "embedding", "release") or pytest.skip("no cargo is on the path")
+    programs = stores.build(archive, tmp_path_factory.mktemp("embedding"), ROOT / "embedding", "release")
+    return programs or pytest.skip("no cargo is on the path")
 
 
 @pytest.fixture

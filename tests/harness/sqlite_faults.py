@@ -21,7 +21,8 @@ def made(world, name="volume"):
     """A database with 400 rows on many pages, in a file that no connection of this process has open."""
     ours = world.open(name)
     ours.execute("create table t(a integer primary key, b)")
-    ours.execute("with recursive c(n) as (select 1 union all select n + 1 from c where n < 400) insert into t select n, hex(zeroblob(100)) from c")
+    many = "with recursive c(n) as (select 1 union all select n + 1 from c where n < 400)"
+    ours.execute(f"{many} insert into t select n, hex(zeroblob(100)) from c")
     ours.close()
 
 

@@ -76,8 +76,8 @@ class World:
 
     # Faults of the double
 
-    def fail(self, call, fault, skip=0, times=1):
-        self.double.memory_volume_fail(call.encode(), skip, times, fault)
+    def fail(self, call, fault, skip=0):
+        self.double.memory_volume_fail(call.encode(), skip, 1, fault)
 
     def nodes(self, count):
         self.double.memory_volume_nodes(count)

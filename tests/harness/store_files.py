@@ -7,7 +7,6 @@ HEADER, HEAD = 36, 20
 
 
 def crc32c(data):
-    """CRC-32C of bytes."""
     left = 0xFFFFFFFF
     for byte in data:
         left ^= byte
