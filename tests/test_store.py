@@ -126,6 +126,7 @@ def test_a_torn_end_is_cut_off(store, rng):
 
 @pytest.mark.parametrize("check", [check_damage, check_answers, check_full, check_lock])
 def test_what_mutants_break(store_program, disk, tmp_path, rng, check):
+    """The checks in which the mutants of `test_store_mutants.py` are found."""
     check(store_program, tmp_path / "one", disk, rng)
 
 

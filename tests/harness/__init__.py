@@ -1,4 +1,4 @@
-"""What the tests share: runs of programs, cases in files, rounds of random inputs, and failures made small."""
+"""What the tests share: runs of programs, copies of sources, cases in files, rounds of random inputs, and failures made small."""
 
 import ast
 import contextlib
