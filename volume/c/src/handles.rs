@@ -164,31 +164,36 @@ impl Handle {
         self.noting(bytes.map_err(Failure::from))
     }
 
-    fn writer(&self) -> Result<(&Volume, MutexGuard<'_, Vec<PageWrite>>), Failure> {
+    /// The volume that this handle writes to.
+    fn writer(&self) -> Result<&Volume, Failure> {
+        self.staging().map(|(volume, _)| volume)
+    }
+
+    /// The same, with what is staged, which is not locked: no call that waits for nodes may hold it.
+    fn staging(&self) -> Result<(&Volume, &Mutex<Vec<PageWrite>>), Failure> {
         match &self.side {
-            Side::Writer { volume, staged } => Ok((volume, staged.lock().unwrap_or_else(PoisonError::into_inner))),
+            Side::Writer { volume, staged } => Ok((volume, staged)),
             Side::Reader { .. } => Err(Failure::misuse("a reader's handle writes nothing")),
         }
     }
 
     pub fn stage(&self, page: u32, init: bool, patches: Vec<Patch>) -> Result<(), Failure> {
         let page = user_page(page)?;
-        let (volume, mut staged) = self.writer()?;
+        let (volume, staged) = self.staging()?;
         volume.standing()?;
-        staged.push(PageWrite { page, init, patches });
+        lock(staged).push(PageWrite { page, init, patches });
         Ok(())
     }
 
     pub fn discard(&self) {
-        if let Ok((_, mut staged)) = self.writer() {
-            staged.clear();
+        if let Ok((_, staged)) = self.staging() {
+            lock(staged).clear();
         }
     }
 
     pub fn commit(&self, header: Vec<u8>) -> Result<u64, Failure> {
-        let (volume, mut staged) = self.writer()?;
-        let writes = std::mem::take(&mut *staged);
-        drop(staged);
+        let (volume, staged) = self.staging()?;
+        let writes = std::mem::take(&mut *lock(staged));
         Ok(volume.write(writes, header)?)
     }
 
@@ -197,13 +202,13 @@ impl Handle {
             0 => self.options.patience,
             _ => Duration::from_millis(milliseconds.into()),
         };
-        let waited = self.writer()?.0.wait(point, patience);
+        let waited = self.writer()?.wait(point, patience);
         self.tell();
         Ok(waited?)
     }
 
     pub fn advance(&self, point: u64) -> Result<(), Failure> {
-        let volume = self.writer()?.0;
+        let volume = self.writer()?;
         if point > 0 {
             volume.advance(READER, point)?;
             self.least.fetch_max(point, Ordering::Relaxed);
@@ -223,6 +228,10 @@ impl Handle {
         let (need, nodes) = (self.options.quorum.into(), self.options.nodes.len() as u32);
         Ok(Report { newest, least, generation, have: have as u32, need, nodes, uncounted: uncounted as u32 })
     }
+}
+
+fn lock(staged: &Mutex<Vec<PageWrite>>) -> MutexGuard<'_, Vec<PageWrite>> {
+    staged.lock().unwrap_or_else(PoisonError::into_inner)
 }
 
 fn user_page(page: u32) -> Result<u16, Failure> {
