@@ -14,7 +14,8 @@ pub enum Stream {
 }
 
 impl Stream {
-    /// Connects to an address. A TCP connection that is not made within the time is given up; a Unix socket answers at once.
+    /// Connects to an address. A TCP connection that is not made within the time is given up, for each address that the host's name has. A
+    /// Unix socket answers at once, unless as many connections wait for its server as may.
     pub fn connect(address: &Address, patience: Duration) -> io::Result<Stream> {
         match address {
             Address::Unix(path) => UnixStream::connect(path).map(Stream::Unix),

@@ -33,14 +33,32 @@ pub enum Heard {
     },
 }
 
-/// The socket of a link, so that another thread can end it, and whether the link is to end.
+/// What a link and its thread share.
 #[derive(Default)]
 struct Shared {
+    /// The socket, so that another thread can end it.
     stream: Option<Stream>,
+    /// Whether the thread waits for a connection, which no other thread can end: a node may leave it unanswered.
+    is_connecting: bool,
     is_stopped: bool,
 }
 
-/// A thread with the connection to one node. Dropping it ends the thread.
+impl Shared {
+    /// Notes that a connection is begun; nothing where the link is to end.
+    fn begin(&mut self) -> Option<()> {
+        (self.stream, self.is_connecting) = (None, !self.is_stopped);
+        self.is_connecting.then_some(())
+    }
+
+    /// Notes the socket of the connection, where it was made; nothing where the link is to end.
+    fn end(&mut self, stream: Option<Stream>) -> Option<()> {
+        (self.stream, self.is_connecting) = (stream, false);
+        (!self.is_stopped).then_some(())
+    }
+}
+
+/// A thread with the connection to one node. Dropping it ends the thread, and waits for that unless the thread is connecting: then it ends by
+/// itself, and sends the node nothing. It borrows nothing, so it may be the last one to go.
 pub struct Link {
     shared: Arc<Mutex<Shared>>,
     thread: Option<JoinHandle<()>>,
@@ -71,8 +89,9 @@ impl Link {
     }
 }
 
-impl Drop for Link {
-    fn drop(&mut self) {
+impl Link {
+    /// Tells the thread to end, and does not wait for it.
+    pub fn stop(&self) {
         let mut shared = lock(&self.shared);
         shared.is_stopped = true;
         if let Some(stream) = &shared.stream {
@@ -80,8 +99,16 @@ impl Drop for Link {
             let _ = stream.shutdown();
         }
         drop(shared);
-        if let Some(thread) = self.thread.take() {
-            thread.thread().unpark();
+        self.thread.iter().for_each(|thread| thread.thread().unpark());
+    }
+}
+
+impl Drop for Link {
+    fn drop(&mut self) {
+        self.stop();
+        // A thread that is told to stop begins no connection.
+        let is_connecting = lock(&self.shared).is_connecting;
+        if let Some(thread) = self.thread.take().filter(|_| !is_connecting) {
             // A link that has panicked has said so; the others go on.
             let _ = thread.join();
         }
@@ -109,8 +136,15 @@ impl<H: Fn(Heard) -> Option<()>> Worker<H> {
             }
             if answered == 0 {
                 // It takes connections and no requests.
-                thread::park_timeout(self.retry);
+                self.pause(self.retry);
             }
+        }
+    }
+
+    /// Waits, unless the link is to end.
+    fn pause(&self, time: Duration) {
+        if !lock(&self.shared).is_stopped {
+            thread::park_timeout(time);
         }
     }
 
@@ -118,27 +152,25 @@ impl<H: Fn(Heard) -> Option<()>> Worker<H> {
     fn connect(&self) -> Option<Connection> {
         let (begun, mut has_failed) = (Instant::now(), false);
         loop {
-            if let Ok(stream) = Stream::connect(&self.address, self.limits.connect) {
-                let own = stream.try_clone().ok();
-                let mut shared = lock(&self.shared);
-                shared.stream = own;
-                if shared.is_stopped {
-                    return None;
-                }
-                if let Ok(connection) = Connection::over(stream, self.limits) {
-                    return Some(connection);
-                }
-            }
-            if lock(&self.shared).is_stopped {
-                return None;
+            if let Some(connection) = self.try_connect()? {
+                return Some(connection);
             }
             if !has_failed {
                 (self.heard)(Heard::Down { node: self.node })?;
                 has_failed = true;
             }
             // A node that is away for long is tried less often.
-            thread::park_timeout(self.retry.max(begun.elapsed() / 8).min(self.retry * 10));
+            self.pause(self.retry.max(begun.elapsed() / 8).min(self.retry * 10));
         }
+    }
+
+    /// Connects once. The result is nothing where the link is to end, and no connection where none was made.
+    fn try_connect(&self) -> Option<Option<Connection>> {
+        lock(&self.shared).begin()?;
+        let connected = Stream::connect(&self.address, self.limits.connect).and_then(|stream| Ok((stream.try_clone()?, stream)));
+        let (shared, stream) = connected.ok().unzip();
+        lock(&self.shared).end(shared)?;
+        Some(stream.and_then(|stream| Connection::over(stream, self.limits).ok()))
     }
 
     /// Sends what is queued until the connection fails or the queue is dropped, and returns how many requests were answered; nothing where

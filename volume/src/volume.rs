@@ -331,6 +331,8 @@ impl Drop for Volume {
     fn drop(&mut self) {
         // A driver that has ended needs no word.
         let _ = self.inputs.send(Input::Close);
+        // All of them first, so that none waits for another one to end.
+        self.links.iter().for_each(Link::stop);
         self.links.clear();
         if let Some(driver) = self.driver.take() {
             let _ = driver.join();
