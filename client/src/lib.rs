@@ -15,6 +15,8 @@
 //! # }
 //! ```
 
+#![deny(unsafe_code)]
+
 mod address;
 pub mod answers;
 mod calls;
@@ -24,6 +26,8 @@ mod errors;
 mod facts;
 pub mod frames;
 pub mod requests;
+#[allow(unsafe_code)]
+pub mod signals;
 mod stream;
 
 pub use address::{Address, BadAddress};

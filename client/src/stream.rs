@@ -14,8 +14,8 @@ pub enum Stream {
 }
 
 impl Stream {
-    /// Connects to an address. A TCP connection that is not made within the time is given up, for each address that the host's name has. A
-    /// Unix socket answers at once, unless as many connections wait for its server as may.
+    /// Connects to an address. A TCP connection that is not made within the time is given up, for each address of the host's name. A Unix
+    /// socket answers at once, but where its server takes no connections and too many wait, it answers once the server does.
     pub fn connect(address: &Address, patience: Duration) -> io::Result<Stream> {
         match address {
             Address::Unix(path) => UnixStream::connect(path).map(Stream::Unix),

@@ -6,7 +6,7 @@ use std::net::Shutdown;
 use std::os::fd::{AsRawFd, OwnedFd};
 use std::os::unix::net::UnixStream;
 use std::thread::{self, JoinHandle};
-use yieldcleat_client::{answers, frames, requests, Calls, Error, Status};
+use yieldcleat_client::{answers, frames, requests, signals, Calls, Error, Status};
 
 extern "C" {
     /// In `crates/node_c/src/lib.rt`, and told in `include/yieldcleat.h`; nothing compares the declarations.
@@ -72,6 +72,7 @@ impl Node {
     /// The same over pipes for its requests and its answers.
     fn over(requests: (PipeReader, PipeWriter), answers: (PipeReader, PipeWriter), readers: u8, birth: u64) -> Result<Node, Error> {
         let serve = move || {
+            signals::block();
             // SAFETY: the declaration is that of the archive, and both descriptors stay open until the call has returned.
             unsafe { yieldcleat_serve_as(requests.0.as_raw_fd(), answers.1.as_raw_fd(), birth) }
         };
@@ -151,6 +152,7 @@ impl Drop for Node {
 mod tests {
     use super::*;
     use std::os::fd::AsFd;
+    use std::os::unix::thread::{JoinHandleExt, RawPthread};
     use std::panic::{catch_unwind, AssertUnwindSafe};
     use std::sync::mpsc;
     use std::time::Duration;
@@ -158,10 +160,14 @@ mod tests {
 
     extern "C" {
         fn fcntl(descriptor: i32, command: i32, argument: i32) -> i32;
+        fn signal(signal: i32, handler: usize) -> usize;
+        fn siginterrupt(signal: i32, is_interrupting: i32) -> i32;
+        fn pthread_kill(thread: RawPthread, signal: i32) -> i32;
     }
 
     /// Sets the capacity of a pipe.
     const F_SETPIPE_SZ: i32 = 1031;
+    const SIGUSR1: i32 = 10;
 
     /// A pipe that holds one page, as the system makes it past a user's soft limit.
     fn narrow() -> (PipeReader, PipeWriter) {
@@ -220,6 +226,26 @@ mod tests {
             assert_eq!(node.take_all(facts.iter().map(Vec::as_slice)).unwrap().len(), 600);
             assert_eq!(node.front(), Ok(Front { complete: 600, ..front }));
         });
+    }
+
+    extern "C" fn nothing(_signal: i32) {}
+
+    #[test]
+    fn a_signal_does_not_end_the_segment() {
+        // SAFETY: the handler does nothing, so it may run at any moment.
+        unsafe {
+            signal(SIGUSR1, nothing as extern "C" fn(i32) as usize);
+            assert_eq!(siginterrupt(SIGUSR1, 1), 0);
+        }
+        let mut node = Node::open(1).unwrap();
+        for _ in 0..5 {
+            // It is in its next read by then.
+            thread::sleep(Duration::from_millis(50));
+            let segment = node.thread.as_ref().map(JoinHandle::as_pthread_t).unwrap();
+            // SAFETY: the thread is not joined before the node is dropped.
+            assert_eq!(unsafe { pthread_kill(segment, SIGUSR1) }, 0);
+            assert_eq!(node.front(), Ok(Front { epoch: 0, complete: 0, min: 0 }));
+        }
     }
 
     #[test]

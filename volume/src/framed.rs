@@ -95,7 +95,7 @@ fn fault_of(text: &str) -> Option<Fault> {
     })
 }
 
-/// A machine that reads events from one stream and writes their answers to another: the archive's, over pipes, or a process.
+/// A machine that reads events from one stream and writes their answers to another: the archive's, over a socket, or a process.
 pub struct Framed<R, W> {
     answers: R,
     events: W,

@@ -1,9 +1,12 @@
-//! The proved machine: the archive of `crates/volume_c`, on a thread of its own behind a pair of pipes.
+//! The proved machine: the archive of `crates/volume_c`, on a thread of its own behind a socket. A write to a socket raises no SIGPIPE, which
+//! ends a host in C; one to a pipe does.
 
-use std::fs::File;
 use std::io::{self, BufReader};
-use std::os::fd::{AsRawFd, OwnedFd};
+use std::net::Shutdown;
+use std::os::fd::AsRawFd;
+use std::os::unix::net::UnixStream;
 use std::thread::{self, JoinHandle};
+use yieldcleat_client::signals;
 use yieldcleat_volume::{Action, Event, Framed, Machine, OutOfMemory, VolumeError};
 
 extern "C" {
@@ -16,13 +19,10 @@ const STACK: usize = 1 << 20;
 
 /// A machine of its own, which nobody shares.
 pub struct Proved {
-    /// Nothing when it is dropped, so that the thread's input ends.
-    machine: Option<Framed<BufReader<File>, File>>,
+    machine: Framed<BufReader<UnixStream>, UnixStream>,
+    /// The same socket.
+    socket: UnixStream,
     thread: Option<JoinHandle<u8>>,
-}
-
-fn file(end: impl Into<OwnedFd>) -> File {
-    File::from(end.into())
 }
 
 impl Proved {
@@ -31,28 +31,29 @@ impl Proved {
     /// Its error is `Thread`.
     pub fn start(nodes: usize, quorum: u8) -> Result<Proved, VolumeError> {
         let failed = |error: io::Error| VolumeError::Thread(error.kind());
-        let (event_reader, event_writer) = io::pipe().map_err(failed)?;
-        let (answer_reader, answer_writer) = io::pipe().map_err(failed)?;
+        let (socket, other) = UnixStream::pair().map_err(failed)?;
+        let (answers, events) = (socket.try_clone().map_err(failed)?, socket.try_clone().map_err(failed)?);
         let nodes = u8::try_from(nodes).map_err(|_| VolumeError::Argument("a number of nodes"))?;
         let decide = move || {
-            // SAFETY: the declaration is that of the archive, and both descriptors stay open until the call has returned.
-            unsafe { yieldcleat_decide(event_reader.as_raw_fd(), answer_writer.as_raw_fd(), nodes, quorum) }
+            signals::block();
+            // SAFETY: the declaration is that of the archive, and the descriptor stays open until the call has returned.
+            unsafe { yieldcleat_decide(other.as_raw_fd(), other.as_raw_fd(), nodes, quorum) }
         };
         let thread = thread::Builder::new().name("decide".into()).stack_size(STACK).spawn(decide).map_err(failed)?;
-        let machine = Framed::over(BufReader::new(file(answer_reader)), file(event_writer));
-        Ok(Proved { machine: Some(machine), thread: Some(thread) })
+        Ok(Proved { machine: Framed::over(BufReader::new(answers), events), socket, thread: Some(thread) })
     }
 }
 
 impl Machine for Proved {
     fn step(&mut self, event: Event<'_>) -> Result<Vec<Action>, OutOfMemory> {
-        self.machine.as_mut().map_or(Ok(Vec::new()), |machine| machine.step(event))
+        self.machine.step(event)
     }
 }
 
 impl Drop for Proved {
     fn drop(&mut self) {
-        self.machine = None;
+        // The thread's input ends, also where a forked child has the socket. An error says that it has ended already.
+        let _ = self.socket.shutdown(Shutdown::Both);
         if let Some(thread) = self.thread.take() {
             // How it has ended changes nothing any more.
             let _ = thread.join();
