@@ -13,7 +13,7 @@ use std::collections::VecDeque;
 use std::sync::mpsc::{Receiver, RecvTimeoutError, Sender};
 use std::sync::Arc;
 use std::time::{Duration, Instant};
-use yieldcleat_client::engines;
+use yieldcleat_client::{engines, frames};
 
 /// A call of the engine. Its result goes to the sender in it.
 pub enum Call {
@@ -309,6 +309,8 @@ impl<M: Machine> Driver<M> {
         let most = if self.is_opening() { usize::MAX } else { self.most_pending };
         for action in actions {
             match action {
+                // To the machine it is lost, as it would be at the node, and gossip brings what is in it.
+                Action::Ask { request, .. } if is_too_long(&request) => {}
                 // The node has what it is to absorb, and may be admitted at once.
                 Action::Ask { node, request } if request.starts_with(b"absorb ") && self.reopening.is_helped(node) => {}
                 Action::Ask { node, request } => self.ask(node, request, most),
@@ -540,6 +542,11 @@ impl<M: Machine> Driver<M> {
     }
 }
 
+/// Whether no frame holds a request, so that a node would drop it: to absorb more than 64 MiB, which an opening may ask.
+fn is_too_long(request: &[u8]) -> bool {
+    request.len() > frames::LONGEST as usize
+}
+
 /// The commit point of a step that was not refused.
 fn accepted(outcome: Outcome) -> Result<Option<u64>, VolumeError> {
     outcome.refused.map_or(Ok(outcome.committed), |fault| Err(fault.into()))
@@ -583,5 +590,50 @@ mod tests {
         driver.run(&inputs);
         assert_eq!(asked.iter().collect::<Vec<_>>(), [engines::fence(3), engines::fence(4)]);
         assert_eq!(*heard.lock().unwrap(), [b"fresh 2"]);
+    }
+
+    /// Asks a node to absorb what a frame just holds, and what no frame holds, as a member and as a fresh node.
+    struct Spreading;
+
+    const LONGEST: usize = frames::LONGEST as usize;
+
+    fn absorb(heading: &str, length: usize) -> Vec<u8> {
+        let mut request = format!("{heading}absorb 1 ").into_bytes();
+        request.resize(length, b'x');
+        request
+    }
+
+    impl Machine for Spreading {
+        fn step(&mut self, event: Event<'_>) -> Result<Vec<Action>, OutOfMemory> {
+            let Event::Open { .. } = event else {
+                return Ok(Vec::new());
+            };
+            let requests = [
+                absorb("as 3 7 ", LONGEST),
+                absorb("as 3 7 ", LONGEST + 1),
+                b"as 3 7 front".to_vec(),
+                absorb("", LONGEST + 1),
+                b"admit 3 8 0 5".to_vec(),
+            ];
+            Ok(requests.map(|request| Action::Ask { node: 0, request }).into())
+        }
+    }
+
+    #[test]
+    fn what_no_frame_holds_is_not_sent() {
+        let options = Options::new(vec![Address::Unix("nowhere".into())]);
+        let driver = Driver::new(Spreading, &options, Arc::default());
+        let ((says, inputs), (queue, asked)) = (mpsc::channel(), mpsc::channel());
+        let open = Input::Call(Call::Open { generation: 3, done: mpsc::channel().0 });
+        let inputs_of = [Input::Heard(Heard::Up { node: 0, queue }), open, Input::Close];
+        inputs_of.into_iter().for_each(|input| says.send(input).unwrap());
+        driver.run(&inputs);
+        // The long one is held back until it is known that no front comes before it.
+        let (front, admit) = (b"as 3 7 front".to_vec(), b"admit 3 8 0 5".to_vec());
+        let wanted = [front.clone(), admit, absorb("as 3 7 ", LONGEST), front];
+        let lengths = |requests: &[Vec<u8>]| requests.iter().map(Vec::len).collect::<Vec<_>>();
+        let asked: Vec<_> = asked.iter().collect();
+        assert_eq!(lengths(&asked), lengths(&wanted));
+        assert!(asked == wanted);
     }
 }

@@ -9,8 +9,10 @@ use std::thread::{self, JoinHandle};
 use std::time::{Duration, Instant};
 use yieldcleat_client::{frames, requests, Address, Connection, Error, Limits, Stream};
 
-/// The most requests of one frame, and the bytes after which no other one is added to it.
+/// The most requests of one frame.
 const MOST: usize = 256;
+/// The bytes after which no other request is added to a frame. One of more bytes is not added either: a node would drop a frame that it makes
+/// too long.
 const ENOUGH: usize = 1 << 18;
 /// A request or an answer of more bytes is long: an opening that moves one is at work.
 pub const LONG: usize = 1 << 16;
@@ -176,10 +178,11 @@ impl<H: Fn(Heard) -> Option<()>> Worker<H> {
     /// Sends what is queued until the connection fails or the queue is dropped, and returns how many requests were answered; nothing where
     /// nobody listens.
     fn serve(&self, mut connection: Connection) -> Option<usize> {
-        let (mut answered, (queue, queued)) = (0, mpsc::channel());
+        let (mut answered, mut next, (queue, queued)) = (0, None, mpsc::channel());
         (self.heard)(Heard::Up { node: self.node, queue })?;
-        while let Ok(first) = queued.recv() {
-            let batch = gather(first, &queued);
+        while let Some(first) = next.take().or_else(|| queued.recv().ok()) {
+            let (batch, long) = gather(first, &queued);
+            next = long;
             let Ok(answers) = self.ask(&mut connection, &batch) else {
                 break;
             };
@@ -229,15 +232,33 @@ impl<H: Fn(Heard) -> Option<()>> Worker<H> {
     }
 }
 
-/// The requests of the next frame: what is queued, as far as one frame holds it.
-fn gather(first: Vec<u8>, queued: &Receiver<Vec<u8>>) -> Vec<Vec<u8>> {
+/// The requests of the next frame: what is queued, as far as one frame holds it; and one that is to have the frame after it alone.
+fn gather(first: Vec<u8>, queued: &Receiver<Vec<u8>>) -> (Vec<Vec<u8>>, Option<Vec<u8>>) {
     let (mut bytes, mut batch) = (first.len(), vec![first]);
     while batch.len() < MOST && bytes < ENOUGH {
         let Ok(request) = queued.try_recv() else {
             break;
         };
+        if request.len() > ENOUGH {
+            return (batch, Some(request));
+        }
         bytes += request.len();
         batch.push(request);
     }
-    batch
+    (batch, None)
+}
+
+#[cfg(test)]
+mod tests {
+    use super::*;
+
+    #[test]
+    fn a_long_request_has_a_frame_of_its_own() {
+        let (queue, queued) = mpsc::channel();
+        let long = vec![0; ENOUGH + 1];
+        [b"b".to_vec(), long.clone(), b"c".to_vec()].into_iter().for_each(|request| queue.send(request).unwrap());
+        assert_eq!(gather(b"a".to_vec(), &queued), (vec![b"a".to_vec(), b"b".to_vec()], Some(long.clone())));
+        assert_eq!(gather(long.clone(), &queued), (vec![long], None));
+        assert_eq!(gather(b"a".to_vec(), &queued), (vec![b"a".to_vec(), b"c".to_vec()], None));
+    }
 }

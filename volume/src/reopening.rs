@@ -65,7 +65,7 @@ struct Noticed {
     durable: u64,
 }
 
-/// A node that gossip does not bring up to date within so many pauses gets all from the engine.
+/// A node that gossip does not bring up to date within so many pauses gets all from the engine, if a frame holds that.
 const UNHELPED: u32 = 10;
 /// The longest pause where nodes were not admitted by the attempts before: an opening spends epochs.
 const LONGEST_WAIT: Duration = Duration::from_secs(3600);
