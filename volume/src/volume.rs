@@ -134,6 +134,13 @@ impl Volume {
         ask_standing(&self.panel, self.options.nodes.len(), |statuses| if statuses.count() == 0 { deadline } else { end })
     }
 
+    /// Whether all nodes are fresh, where none of them counts: one may have answered too late to be seen before.
+    fn is_empty(&self, deadline: Instant) -> bool {
+        let nodes = self.options.nodes.len();
+        let do_none_count = self.progress.quorum(&self.options).uncounted == nodes;
+        do_none_count && ask_standing(&self.panel, nodes, |_| deadline).are_all_fresh()
+    }
+
     /// Opens under ever greater generations above one that nodes have shown, until it succeeds or the time is up.
     fn open_until(&self, shown: u64, deadline: Instant) -> Result<(), VolumeError> {
         let (mut generation, mut attempt) = (shown.saturating_add(1), self.options.patience / 8);
@@ -141,6 +148,7 @@ impl Volume {
             match self.open_once(generation, attempt, deadline) {
                 Some(Ok(())) => return Ok(()),
                 Some(Err(VolumeError::Fenced { generation: later })) => generation = later.saturating_add(1),
+                Some(Err(VolumeError::Refused(Fault::NoQuorum { .. }))) if self.is_empty(deadline) => return Err(VolumeError::Empty),
                 Some(Err(VolumeError::Refused(Fault::NoQuorum { .. }))) => generation = generation.saturating_add(1),
                 Some(Err(error)) => return Err(error),
                 // It may wait for a node whose answer was lost and that does not repeat it. The next one has more time.

@@ -422,3 +422,12 @@ fn without_a_quorum_it_goes_on_trying() {
     assert_eq!(next, point + 2, "what was refused was not sent");
     assert!(shows(&volume, 1, next) && shows(&volume, 3, next));
 }
+
+#[test]
+fn fresh_nodes_are_found_empty_although_one_answers_late() {
+    let world = World::new(3, 2);
+    world.nodes.iter().for_each(|node| node.set(|state| state.is_member = false));
+    world.nodes[2].set(|state| state.delay = Duration::from_millis(300));
+    let opened = Volume::open(Counting::new(3, 2), world.options());
+    assert_eq!(opened.err(), Some(VolumeError::Empty));
+}
