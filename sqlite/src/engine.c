@@ -15,17 +15,32 @@ static struct handle *handle_of(struct yieldcleat_volume *volume) {
     return handle;
 }
 
-static void close_unused(struct handle *handle) {
-    if (!handle->is_retired || handle->users) return;
-    yieldcleat_volume_close(handle->volume);
-    sqlite3_free(handle);
+/* Leaves the engine's mutex, and then closes what nobody uses any more: where nodes are silent that takes long, and no other connection is
+ * to wait for it. */
+static void leave(struct engine *engine) {
+    struct handle *handle = engine->unused, *next = 0;
+    engine->unused = 0;
+    sqlite3_mutex_leave(engine->mutex);
+    for (; handle; handle = next) {
+        next = handle->next;
+        yieldcleat_volume_close(handle->volume);
+        sqlite3_free(handle);
+    }
 }
 
-static void retire(struct handle **handle) {
-    if (!*handle) return;
-    (*handle)->is_retired = true;
-    close_unused(*handle);
-    *handle = 0;
+/* Has `leave` close a handle that is retired and that nobody uses. */
+static void close_unused(struct engine *engine, struct handle *handle) {
+    if (!handle->is_retired || handle->users) return;
+    handle->next = engine->unused;
+    engine->unused = handle;
+}
+
+static void retire(struct engine *engine, struct handle **place) {
+    struct handle *handle = *place;
+    if (!handle) return;
+    *place = 0;
+    handle->is_retired = true;
+    close_unused(engine, handle);
 }
 
 struct handle *engine_borrow(struct engine *engine) {
@@ -49,19 +64,19 @@ bool engine_return(struct engine *engine, struct handle *handle, enum yieldcleat
     sqlite3_mutex_enter(engine->mutex);
     bool again = fault == YIELDCLEAT_FENCED && handle != engine->reader;
     handle->users--;
-    close_unused(handle);
-    sqlite3_mutex_leave(engine->mutex);
+    close_unused(engine, handle);
+    leave(engine);
     return again;
 }
 
 void engine_lose_writer(struct engine *engine, const struct handle *handle, enum yieldcleat_fault fault) {
     sqlite3_mutex_enter(engine->mutex);
     if (handle == engine->writer) {
-        retire(&engine->writer);
+        retire(engine, &engine->writer);
         engine->losses++;
         if (fault == YIELDCLEAT_FENCED) engine->fences++;
     }
-    sqlite3_mutex_leave(engine->mutex);
+    leave(engine);
 }
 
 /* ---- opening for writing */
@@ -108,8 +123,10 @@ bool is_unproved(enum yieldcleat_fault fault) {
 /* ---- engines */
 
 static void free_engine(struct engine *engine) {
-    retire(&engine->writer);
-    retire(&engine->reader);
+    sqlite3_mutex_enter(engine->mutex);
+    retire(engine, &engine->writer);
+    retire(engine, &engine->reader);
+    leave(engine);
     sqlite3_mutex_free(engine->opening);
     sqlite3_mutex_free(engine->mutex);
     sqlite3_free(engine->place);
@@ -192,6 +209,7 @@ static enum yieldcleat_fault open_reader(struct engine *engine, struct rights ri
     bool is_missing = fault == YIELDCLEAT_NOT_FOUND && rights.may_create;
     bool is_open_half = rights.may_write && engine->point == YIELDCLEAT_FOLLOW && is_unproved(fault);
     if (!is_missing && !is_open_half) return fault;
+    retire(engine, &engine->writer); /* which an opening that failed afterwards has left */
     fault = open_writer(engine, rights.may_create, &engine->writer, &engine->published);
     return fault ? fault : open_for_reading(engine);
 }
@@ -202,8 +220,8 @@ static void check_writer(struct engine *engine, const struct address *address) {
     uint64_t point = 0;
     bool is_same = engine->options.milliseconds == address->milliseconds;
     if (!engine->writer || !is_same || yieldcleat_volume_newest(engine->writer->volume, &point)) {
-        retire(&engine->writer);
-        retire(&engine->reader);
+        retire(engine, &engine->writer);
+        retire(engine, &engine->reader);
     }
     engine->options.milliseconds = address->milliseconds;
     engine->is_idle = engine->may_write = false;
@@ -217,7 +235,7 @@ int engine_open(const char *place, const struct address *address, struct rights 
     if (found->is_idle) check_writer(found, address);
     if (!found->reader) fault = open_reader(found, rights);
     found->may_write |= rights.may_write && !fault;
-    sqlite3_mutex_leave(found->mutex);
+    leave(found);
     if (!fault) {
         *engine = found;
         return SQLITE_OK;

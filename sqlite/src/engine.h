@@ -12,6 +12,7 @@ struct handle {
     struct yieldcleat_volume *volume;
     unsigned users;
     bool is_retired;
+    struct handle *next; /* that is to be closed */
 };
 
 /* A connection's part: the snapshot that it reads, and how many losses and fences of writers it has heard of. */
@@ -33,6 +34,7 @@ struct engine {
     bool may_write;       /* some connection may; and */
     bool is_idle;         /* there was none just now */
     struct handle *reader, *writer;
+    struct handle *unused; /* to be closed; null while nobody holds the mutex */
     struct member *members;
     const struct member *owner; /* who is in a write transaction */
     uint64_t published;         /* of the writer: its newest commit that the other connections see */

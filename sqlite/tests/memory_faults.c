@@ -11,7 +11,7 @@
 
 #define HOOK __attribute__((visibility("default")))
 
-static const char *const names[CALLS] = {"open_writer", "open_reader", "newest", "header", "read", "stage", "commit", "wait", "advance"};
+static const char *const names[CALLS] = {"open_writer", "open_reader", "newest", "header", "read", "stage", "commit", "wait", "advance", "close"};
 
 struct plan {
     int skip, times, fault, calls;
@@ -19,7 +19,7 @@ struct plan {
 
 static pthread_mutex_t mutex = PTHREAD_MUTEX_INITIALIZER; /* guards all below */
 static struct plan plans[CALLS];
-static int answering = NODES, next_doubt, pause_of_waits, skip_writes = -1;
+static int answering = NODES, next_doubt, slowness, skip_writes = -1;
 static long bytes_of_death;
 
 static _Thread_local struct yieldcleat_error error;
@@ -50,7 +50,7 @@ HOOK void memory_volume_nodes(int count) { set(&answering, count); }
 
 HOOK void memory_volume_doubt(int is_durable) { set(&next_doubt, is_durable ? 1 : -1); }
 
-HOOK void memory_volume_delay(int microseconds) { set(&pause_of_waits, microseconds); }
+HOOK void memory_volume_delay(int microseconds) { set(&slowness, microseconds); }
 
 HOOK void memory_volume_die(int skip, long bytes) {
     set(&skip_writes, skip);
@@ -70,7 +70,7 @@ HOOK void memory_volume_reset(void) {
     pthread_mutex_lock(&mutex);
     memset(plans, 0, sizeof plans);
     answering = NODES;
-    next_doubt = pause_of_waits = 0;
+    next_doubt = slowness = 0;
     skip_writes = -1;
     pthread_mutex_unlock(&mutex);
 }
@@ -96,7 +96,7 @@ int doubt(void) {
 
 void delay(void) {
     pthread_mutex_lock(&mutex);
-    int microseconds = pause_of_waits;
+    int microseconds = slowness;
     pthread_mutex_unlock(&mutex);
     if (microseconds > 0) usleep((useconds_t)microseconds);
 }
@@ -140,7 +140,7 @@ enum yieldcleat_fault fail(enum yieldcleat_fault fault, uint64_t point) {
 static bool lacks_nodes(enum call call) {
     int count = nodes_that_answer();
     if (call == READ || call == HEADER) return count == 0;
-    return call != STAGE && call != WAIT && count < QUORUM;
+    return call != STAGE && call != WAIT && call != CLOSE && count < QUORUM;
 }
 
 enum yieldcleat_fault begin(enum call call) {

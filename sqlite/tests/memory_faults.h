@@ -4,7 +4,7 @@
 
 #include "yieldcleat_volume.h"
 
-enum call { OPEN_WRITER, OPEN_READER, NEWEST, HEADER, READ, STAGE, COMMIT, WAIT, ADVANCE, CALLS };
+enum call { OPEN_WRITER, OPEN_READER, NEWEST, HEADER, READ, STAGE, COMMIT, WAIT, ADVANCE, CLOSE, CALLS };
 
 /* Sets the last error of this thread, and returns its fault. */
 enum yieldcleat_fault fail(enum yieldcleat_fault fault, uint64_t point);
@@ -15,7 +15,7 @@ enum yieldcleat_fault begin(enum call call);
 /* What a test asks of the next wait: 0 nothing, 1 a commit in doubt that is durable, -1 one that is not. */
 int doubt(void);
 
-/* Sleeps as long as a wait is to take. */
+/* Sleeps as long as a wait or a closing is to take. */
 void delay(void);
 
 /* How many bytes of those that are about to be written are written before the process is killed; -1 where it lives. */

@@ -4,7 +4,7 @@
 
 #include "yieldcleat_volume.h"
 
-enum { PAGES = YIELDCLEAT_LAST_PAGE + 1, NODES = 6, QUORUM = 4, GAP = 1000 /* between the numbers of two generations */ };
+enum { PAGES = YIELDCLEAT_LAST_PAGE + 1, NODES = 6, QUORUM = 4 };
 
 /* Bytes that grow. */
 struct buffer {

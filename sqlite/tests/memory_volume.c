@@ -152,7 +152,7 @@ static enum yieldcleat_fault take_over(struct yieldcleat_volume *volume, bool ma
     if (!fault && ftruncate(volume->file, volume->read_to)) fault = fail(YIELDCLEAT_IO, 0);
     volume->is_writer = true;
     volume->generation = volume->state->generation + 1;
-    if (!fault) fault = add_entry(volume, OPENED, volume->state->last + GAP, &nothing);
+    if (!fault) fault = add_entry(volume, OPENED, volume->state->last, &nothing);
     if (!fault) fault = write_out(volume, &volume->pending);
     volume->pending.length = 0;
     flock(volume->file, LOCK_UN);
@@ -198,7 +198,10 @@ enum yieldcleat_fault yieldcleat_volume_open_reader(const char *place, const str
 }
 
 void yieldcleat_volume_close(struct yieldcleat_volume *volume) {
-    if (volume) release(volume);
+    if (!volume) return;
+    begin(CLOSE);
+    delay();
+    release(volume);
 }
 
 /* ---- reading */

@@ -1,6 +1,7 @@
 /* A double of a volume, for tests alone: its pages are in memory, and a file of mini-transactions stands in for six nodes, so that other
- * processes and later openings see what was committed. It keeps no promise of a real volume beyond its interface. The calls below make it
- * fail; they hold for all handles of the process. A call of the interface is named as in the header, without `yieldcleat_volume_`. */
+ * processes and later openings see what was committed. It keeps no promise of a real volume beyond its interface: the next writer uses
+ * the points of lost commits again. The calls below make it fail; they hold for all handles of the process. A call of the interface is
+ * named as in the header, without `yieldcleat_volume_`. */
 #ifndef MEMORY_VOLUME_H
 #define MEMORY_VOLUME_H
 
@@ -19,7 +20,7 @@ void memory_volume_doubt(int is_durable);
  * are fewer. */
 void memory_volume_die(int skip, long bytes);
 
-/* Each wait takes so long. */
+/* Each wait and each closing takes so long. */
 void memory_volume_delay(int microseconds);
 
 /* How often a call was made. */

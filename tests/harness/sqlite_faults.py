@@ -1,6 +1,8 @@
 """What a connection returns where the volume fails, and that it goes on afterwards."""
 
 import os
+import threading
+import time
 
 from harness.sqlite_worlds import (ABOVE, BELOW, FENCED, FULL, IO, NO_MEMORY, NO_QUORUM, NOT_FOUND, TIMEOUT,
                                    content, is_whole, last_message, one, refused)
@@ -211,3 +213,34 @@ def check_fenced_calls(world):
         world.heal()
         assert one(ours, "select b from t where a = 1") in ("changed 1", "changed 51") and is_whole(ours)
         ours.close()
+
+
+def check_slow_closing(world):
+    """A handle whose closing takes long, as links to silent nodes do, keeps only the connection waiting that closes it."""
+    made(world)
+    ours, other = world.open(), world.open()
+    change(ours, 1)
+    world.ask("work_change_to", "volume", 51)
+    found = []
+    closing = threading.Thread(target=lambda: found.append((one(ours, "select b from t where a = 1"), time.monotonic())))
+    world.double.memory_volume_delay(2_000_000)
+    before = world.calls("close")
+    closing.start()
+    while world.calls("close") == before:
+        time.sleep(0.001)
+    found.append((one(other, "select b from t where a = 1"), time.monotonic()))
+    closing.join()
+    assert [text for text, _ in found] == ["changed 51"] * 2
+    assert found[1][1] - found[0][1] > 1
+
+
+def check_left_writer(world):
+    """An opening that fails after it has opened the volume for writing leaves no handle that nobody closes."""
+    world.fail("open_reader", IO, 1)  # the first one finds no volume
+    with refused("SQLITE_CANTOPEN"):
+        world.open()
+    world.fail("open_reader", NO_QUORUM)
+    ours = world.open()
+    assert [world.calls(call) for call in ("open_writer", "close")] == [2, 1]
+    ours.execute("create table t(a)")
+    assert world.calls("open_writer") == 2 and is_whole(ours)
