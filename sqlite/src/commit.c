@@ -73,7 +73,7 @@ static struct header next_header(const struct database *database, const struct s
     if (header.size > header.highest) header.highest = header.size;
     if (sets_mark(database, header.commits)) {
         memmove(header.marks, header.marks + 1, sizeof header.marks - sizeof header.marks[0]);
-        header.marks[MARKS - 1] = database->view.point;
+        header.marks[MARKS - 1] = database->view.at.point;
     }
     return header;
 }
@@ -82,14 +82,14 @@ static struct header next_header(const struct database *database, const struct s
 
 static int send_header(struct database *database, struct sending *sending) {
     uint8_t bytes[YIELDCLEAT_HEADER_BYTES];
-    struct view view = {.header = next_header(database, sending)};
-    sending->fault = yieldcleat_volume_commit(sending->volume, bytes, header_write(&view.header, bytes), &view.point);
+    struct view view = {.at.losses = database->view.at.losses, .header = next_header(database, sending)};
+    sending->fault = yieldcleat_volume_commit(sending->volume, bytes, header_write(&view.header, bytes), &view.at.point);
     if (sending->fault) return refuse_fault(&database->report, WRITING, sending->fault);
     pages_settle(&database->pages);
     pages_cut(&database->pages, view.header.size);
     database->view = view;
     database->size = view.header.size;
-    turn_move(database->engine, &database->member, view.point);
+    turn_move(database->engine, &database->member, view.at.point);
     database->is_sent = true;
     return SQLITE_OK;
 }
@@ -108,7 +108,7 @@ static int send(struct database *database, struct sending *sending) {
 
 int commit_send(struct database *database) {
     if (database->lock < SQLITE_LOCK_RESERVED) return SQLITE_OK;
-    struct handle *handle = engine_borrow_writer(database->engine);
+    struct handle *handle = engine_borrow_writer(database->engine, &database->view.at);
     struct sending sending = {.volume = handle ? handle->volume : 0};
     int code = send(database, &sending);
     if (!handle) return code;
@@ -120,17 +120,21 @@ int commit_send(struct database *database) {
 
 /* ---- waiting */
 
+static int wait_until_durable(struct database *database) {
+    struct handle *handle = engine_borrow_writer(database->engine, &database->view.at);
+    if (!handle) return refuse(&database->report, SQLITE_IOERR_LOCK, "commit in doubt: the lock for writing was lost");
+    enum yieldcleat_fault fault = yieldcleat_volume_wait(handle->volume, database->view.at.point, 0);
+    int code = fault ? refuse_fault(&database->report, SYNCING, fault) : SQLITE_OK;
+    if (fault) engine_lose_writer(database->engine, handle, fault);
+    engine_return(database->engine, handle, YIELDCLEAT_OK);
+    return code;
+}
+
 int commit_sync(struct database *database) {
     if (!database->is_sent) return SQLITE_OK;
-    struct handle *handle = engine_borrow_writer(database->engine);
-    if (!handle) return refuse(&database->report, SQLITE_IOERR_LOCK, "commit in doubt: the lock for writing was lost");
-    enum yieldcleat_fault fault = yieldcleat_volume_wait(handle->volume, database->view.point, 0);
-    int code = fault ? refuse_fault(&database->report, SYNCING, fault) : SQLITE_OK;
-    if (fault) {
-        engine_lose_writer(database->engine, handle, fault);
-        database_return(database, &database->before);
-    }
-    engine_return(database->engine, handle, YIELDCLEAT_OK);
+    int code = wait_until_durable(database);
+    if (code) database_return(database, &database->before);
+    else database->view.at.is_durable = true;
     database->is_sent = false;
     return code;
 }
@@ -140,7 +144,7 @@ int commit_sync(struct database *database) {
 /* Gives up the points below the oldest mark, and none that a connection of this process reads. A failure costs nothing but room. */
 static void give_up_points(const struct database *database) {
     uint64_t mark = database->view.header.marks[0], oldest = turn_oldest(database->engine);
-    struct handle *handle = engine_borrow_writer(database->engine);
+    struct handle *handle = engine_borrow_writer(database->engine, &database->view.at);
     if (!handle) return;
     yieldcleat_volume_advance(handle->volume, mark < oldest ? mark : oldest);
     engine_return(database->engine, handle, YIELDCLEAT_OK);
@@ -148,7 +152,7 @@ static void give_up_points(const struct database *database) {
 
 void commit_end(struct database *database) {
     if (database->lock < SQLITE_LOCK_RESERVED) return;
-    bool has_committed = database->view.point != database->before.point;
+    bool has_committed = database->view.at.point != database->before.at.point;
     database->before = database->view;
     if (has_committed) turn_publish(database->engine, &database->member, false);
     if (has_committed && database->view.header.marks[0] && sets_mark(database, database->view.header.commits)) give_up_points(database);

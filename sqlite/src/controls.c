@@ -61,7 +61,7 @@ static int answer_pragma(struct database *database, char **words) {
     const char *name = words[1], *value = words[2];
     if (!sqlite3_stricmp(name, "yieldcleat_error")) words[0] = sqlite3_mprintf("%s", message_of(database));
     if (!sqlite3_stricmp(name, "yieldcleat_point")) {
-        words[0] = sqlite3_mprintf("%llu", (unsigned long long)database->view.point);
+        words[0] = sqlite3_mprintf("%llu", (unsigned long long)database->view.at.point);
     }
     if (!sqlite3_stricmp(name, "yieldcleat_status")) words[0] = describe(database);
     if (words[0]) return SQLITE_OK;
@@ -80,7 +80,7 @@ static int answer(const struct database *database, int operation, void *argument
     case SQLITE_FCNTL_HAS_MOVED: *(int *)argument = 0; return SQLITE_OK;
     case SQLITE_FCNTL_POWERSAFE_OVERWRITE: *(int *)argument = 1; return SQLITE_OK;
     case YIELDCLEAT_FCNTL_MESSAGE: *(const char **)argument = message_of(database); return SQLITE_OK;
-    case YIELDCLEAT_FCNTL_POINT: *(sqlite3_uint64 *)argument = database->view.point; return SQLITE_OK;
+    case YIELDCLEAT_FCNTL_POINT: *(sqlite3_uint64 *)argument = database->view.at.point; return SQLITE_OK;
     default: return SQLITE_NOTFOUND;
     }
 }

@@ -12,21 +12,33 @@ static struct database *of(sqlite3_file *file) { return (struct database *)file;
 
 /* ---- views */
 
-int database_look(struct database *database, uint64_t point) {
+/* A handle that has the commit of a snapshot: until it is durable only the writer that made it has it for certain, and another commit may
+ * get its point. Null where that writer was lost. */
+static struct handle *borrow(struct database *database, const struct snapshot *snapshot) {
+    return snapshot->is_durable ? engine_borrow(database->engine) : engine_borrow_writer(database->engine, snapshot);
+}
+
+static int refuse_lost(struct database *database) {
+    return refuse(&database->report, SQLITE_IOERR_READ, "read: the snapshot may have been lost with the writer; begin a new transaction");
+}
+
+int database_look(struct database *database, const struct snapshot *snapshot) {
     uint8_t bytes[YIELDCLEAT_HEADER_BYTES];
     size_t length = 0;
-    struct view view = {0};
+    struct view view = {.at = *snapshot};
     struct handle *handle = 0;
     enum yieldcleat_fault fault = YIELDCLEAT_OK;
     do {
-        handle = engine_borrow(database->engine);
-        fault = yieldcleat_volume_header(handle->volume, point, &view.point, bytes, &length);
+        handle = borrow(database, snapshot);
+        if (!handle) return refuse_lost(database);
+        fault = yieldcleat_volume_header(handle->volume, snapshot->point, &view.at.point, bytes, &length);
     } while (engine_return(database->engine, handle, fault));
     if (fault) return refuse_fault(&database->report, READING, fault);
     if (!header_read(&view.header, bytes, length)) {
-        return refuse(&database->report, SQLITE_NOTADB, "read: the volume's header at point %llu is of no database", (unsigned long long)point);
+        return refuse(&database->report, SQLITE_NOTADB, "read: the volume's header at point %llu is of no database",
+                      (unsigned long long)snapshot->point);
     }
-    if (view.point != database->view.point) pages_cut(&database->pages, 0);
+    if (!is_same_commit(&view.at, &database->view.at)) pages_cut(&database->pages, 0);
     database->view = view;
     database->size = view.header.size;
     return SQLITE_OK;
@@ -38,7 +50,7 @@ void database_return(struct database *database, const struct view *view) {
     database->view = kept;
     database->size = kept.header.size;
     database->is_sent = false;
-    turn_move(database->engine, &database->member, kept.point);
+    turn_move(database->engine, &database->member, kept.at.point);
 }
 
 int database_fetch(struct database *database, uint32_t number, uint8_t *bytes) {
@@ -48,8 +60,9 @@ int database_fetch(struct database *database, uint32_t number, uint8_t *bytes) {
     memset(bytes, 0, YIELDCLEAT_PAGE_BYTES);
     if (number > database->view.header.highest) return SQLITE_OK;
     do {
-        handle = engine_borrow(database->engine);
-        fault = yieldcleat_volume_read(handle->volume, database->view.point, range, bytes);
+        handle = borrow(database, &database->view.at);
+        if (!handle) return refuse_lost(database);
+        fault = yieldcleat_volume_read(handle->volume, database->view.at.point, range, bytes);
     } while (engine_return(database->engine, handle, fault));
     return fault ? refuse_fault(&database->report, READING, fault) : SQLITE_OK;
 }
@@ -96,10 +109,10 @@ static void forget_cache(struct database *database, uint8_t *counter) {
 
 /* SQLite reads the start and the size of a file before it has a lock: then they are those of the newest commit. */
 static int look_without_lock(struct database *database) {
-    uint64_t point = 0;
+    struct snapshot newest;
     if (database->lock != SQLITE_LOCK_NONE) return SQLITE_OK;
-    enum yieldcleat_fault fault = turn_newest(database->engine, &point);
-    return fault ? refuse_fault(&database->report, READING, fault) : database_look(database, point);
+    enum yieldcleat_fault fault = turn_newest(database->engine, &newest);
+    return fault ? refuse_fault(&database->report, READING, fault) : database_look(database, &newest);
 }
 
 static int database_read(sqlite3_file *file, void *to, int amount, sqlite3_int64 offset) {

@@ -8,7 +8,7 @@
 
 /* A state of the database that the volume has. */
 struct view {
-    uint64_t point;
+    struct snapshot at;
     struct header header;
 };
 
@@ -24,7 +24,7 @@ struct database {
     uint32_t size;      /* in pages, with the changes */
     bool is_sent;       /* the view is a commit of this connection that nobody has waited for */
     bool has_read;      /* there was a transaction, */
-    uint64_t cached;    /* and at this point it ended: SQLite's cache has pages of that state */
+    struct snapshot cached; /* which ended at this snapshot: SQLite's cache has pages of that state */
     bool forgets;       /* the transaction is at another one: the next look at the counter of changes is to differ */
     struct report report;
 };
@@ -32,8 +32,8 @@ struct database {
 /* Opens the database of this name as a file of SQLite. */
 int database_open(const char *name, struct database *database, int flags, int *out_flags);
 
-/* Makes the state at a point the view; it drops the pages of another one. The changes must have been dropped. */
-int database_look(struct database *database, uint64_t point);
+/* Makes the state of a snapshot the view; it drops the pages of another one. The changes must have been dropped. */
+int database_look(struct database *database, const struct snapshot *snapshot);
 
 /* Goes back to a view, without any pages. */
 void database_return(struct database *database, const struct view *view);
@@ -41,7 +41,7 @@ void database_return(struct database *database, const struct view *view);
 /* The content of a page in the view, or null with a code. */
 struct page *database_page(struct database *database, uint32_t number, int *code);
 
-/* Reads a page of a view from the volume. */
+/* Reads a page of the view from the volume. SQLITE_IOERR_READ also where the view may have been lost. */
 int database_fetch(struct database *database, uint32_t number, uint8_t *bytes);
 
 /* Parts of the methods of a file, each in a file of its own. */

@@ -51,9 +51,10 @@ struct handle *engine_borrow(struct engine *engine) {
     return handle;
 }
 
-struct handle *engine_borrow_writer(struct engine *engine) {
+struct handle *engine_borrow_writer(struct engine *engine, const struct snapshot *snapshot) {
     sqlite3_mutex_enter(engine->mutex);
-    struct handle *handle = engine->writer;
+    bool is_other = snapshot && snapshot->losses != engine->losses;
+    struct handle *handle = is_other ? 0 : engine->writer;
     if (handle) handle->users++;
     sqlite3_mutex_leave(engine->mutex);
     return handle;
@@ -135,7 +136,7 @@ static void free_engine(struct engine *engine) {
 
 /* Waits for what synchronous=OFF did not wait for. */
 static void settle(struct engine *engine) {
-    struct handle *handle = engine_borrow_writer(engine);
+    struct handle *handle = engine_borrow_writer(engine, 0);
     if (!handle) return;
     sqlite3_mutex_enter(engine->mutex);
     uint64_t point = engine->published;

@@ -15,12 +15,21 @@ struct handle {
     struct handle *next; /* that is to be closed */
 };
 
-/* A connection's part: the snapshot that it reads, and how many losses and fences of writers it has heard of. */
+/* Which commit is read. The point of a commit that was lost may become that of another one, so a point says which only together with the
+ * writers that were lost before. */
+struct snapshot {
+    uint64_t point;
+    unsigned losses; /* of the process, until it was taken */
+    bool is_durable; /* for certain; else it may be lost with the writer */
+};
+
+/* A connection's part: the snapshot that it reads, and how many fences of writers there had been when it joined. */
 struct member {
     struct member *next;
     bool reads;
     uint64_t point;
-    unsigned losses, fences;
+    unsigned losses; /* until the snapshot was taken */
+    unsigned fences;
 };
 
 struct engine {
@@ -55,8 +64,9 @@ void engine_close(struct engine *engine);
 /* The writer where there is one, or else the reader, for a call of the volume. */
 struct handle *engine_borrow(struct engine *engine);
 
-/* The writer, or null. */
-struct handle *engine_borrow_writer(struct engine *engine);
+/* The writer, or null. With a snapshot it is null also where a writer was lost since that was taken: another process may have written
+ * after it what the snapshot has not, and perhaps with its point. */
+struct handle *engine_borrow_writer(struct engine *engine, const struct snapshot *snapshot);
 
 /* Gives a handle back with the fault of the call. True where it was a writer that is fenced: the caller may try again, with the reader. */
 bool engine_return(struct engine *engine, struct handle *handle, enum yieldcleat_fault fault);

@@ -4,18 +4,18 @@
 SQLITE_EXTENSION_INIT3
 
 static int begin_read(struct database *database) {
-    int code = turn_read(database->engine, &database->member, &database->report);
+    struct snapshot newest;
+    int code = turn_read(database->engine, &database->member, &newest, &database->report);
     if (code) return code;
-    bool has_losses = turn_has_losses(database->engine, &database->member);
-    if (has_losses) pages_cut(&database->pages, 0);
-    bool is_same = !has_losses && database->member.point == database->view.point; /* as it is where nobody has committed */
-    code = is_same ? SQLITE_OK : database_look(database, database->member.point);
+    bool is_same = is_same_commit(&newest, &database->view.at); /* as it is where nobody has committed */
+    if (!is_same) code = database_look(database, &newest);
+    else if (newest.is_durable) database->view.at.is_durable = true;
     if (code) {
         turn_end_read(database->engine, &database->member);
         return code;
     }
-    if (database->has_read && (has_losses || database->view.point != database->cached)) database->forgets = true;
-    turn_move(database->engine, &database->member, database->view.point);
+    if (database->has_read && !is_same_commit(&database->view.at, &database->cached)) database->forgets = true;
+    turn_move(database->engine, &database->member, database->view.at.point);
     database->lock = SQLITE_LOCK_SHARED;
     return SQLITE_OK;
 }
@@ -51,7 +51,7 @@ int database_unlock(sqlite3_file *file, int lock) {
     if (lock == SQLITE_LOCK_NONE) {
         turn_end_read(database->engine, &database->member);
         database->has_read = true;
-        database->cached = database->view.point;
+        database->cached = database->view.at;
     }
     database->lock = lock;
     return SQLITE_OK;

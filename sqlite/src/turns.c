@@ -3,7 +3,7 @@ SQLITE_EXTENSION_INIT3
 
 void turn_join(struct engine *engine, struct member *member) {
     sqlite3_mutex_enter(engine->mutex);
-    *member = (struct member){.next = engine->members, .losses = engine->losses, .fences = engine->fences};
+    *member = (struct member){.next = engine->members, .fences = engine->fences};
     engine->members = member;
     sqlite3_mutex_leave(engine->mutex);
 }
@@ -26,26 +26,35 @@ static enum yieldcleat_fault ask_newest(struct engine *engine, uint64_t *point) 
     return fault;
 }
 
-enum yieldcleat_fault turn_newest(struct engine *engine, uint64_t *point) {
-    enum yieldcleat_fault fault = ask_newest(engine, point);
+enum yieldcleat_fault turn_newest(struct engine *engine, struct snapshot *newest) {
+    uint64_t point = 0;
+    enum yieldcleat_fault fault = ask_newest(engine, &point);
     sqlite3_mutex_enter(engine->mutex);
     bool may_recover = engine->may_write && !engine->writer && is_unproved(fault);
     sqlite3_mutex_leave(engine->mutex);
     if (may_recover) fault = engine_open_writer(engine);
-    if (may_recover && !fault) fault = ask_newest(engine, point);
+    if (may_recover && !fault) fault = ask_newest(engine, &point);
     if (fault) return fault;
     sqlite3_mutex_enter(engine->mutex);
-    if (engine->writer && engine->published > *point) *point = engine->published;
+    *newest = (struct snapshot){.point = point, .losses = engine->losses, .is_durable = true};
+    if (engine->writer && engine->published > point) {
+        newest->point = engine->published;
+        newest->is_durable = false;
+    }
     sqlite3_mutex_leave(engine->mutex);
     return YIELDCLEAT_OK;
 }
 
-int turn_read(struct engine *engine, struct member *member, struct report *report) {
-    uint64_t point = 0;
-    enum yieldcleat_fault fault = turn_newest(engine, &point);
+bool is_same_commit(const struct snapshot *one, const struct snapshot *other) {
+    return one->point == other->point && one->losses == other->losses;
+}
+
+int turn_read(struct engine *engine, struct member *member, struct snapshot *newest, struct report *report) {
+    enum yieldcleat_fault fault = turn_newest(engine, newest);
     if (fault) return refuse_fault(report, READING, fault);
     sqlite3_mutex_enter(engine->mutex);
-    member->point = point;
+    member->point = newest->point;
+    member->losses = newest->losses;
     member->reads = true;
     sqlite3_mutex_leave(engine->mutex);
     return SQLITE_OK;
@@ -61,14 +70,6 @@ void turn_move(struct engine *engine, struct member *member, uint64_t point) {
     sqlite3_mutex_enter(engine->mutex);
     member->point = point;
     sqlite3_mutex_leave(engine->mutex);
-}
-
-bool turn_has_losses(struct engine *engine, struct member *member) {
-    sqlite3_mutex_enter(engine->mutex);
-    bool has = member->losses != engine->losses;
-    member->losses = engine->losses;
-    sqlite3_mutex_leave(engine->mutex);
-    return has;
 }
 
 uint64_t turn_oldest(struct engine *engine) {
@@ -91,7 +92,7 @@ bool turn_is_taken(struct engine *engine, const struct member *member) {
 void turn_publish(struct engine *engine, const struct member *member, bool ends) {
     sqlite3_mutex_enter(engine->mutex);
     if (engine->owner == member) {
-        engine->published = member->point;
+        if (engine->losses == member->losses) engine->published = member->point;
         if (ends) engine->owner = 0;
     }
     sqlite3_mutex_leave(engine->mutex);
@@ -116,7 +117,7 @@ static int claim(struct engine *engine, const struct member *member, bool *has_w
 
 static bool is_newest(struct engine *engine, const struct member *member) {
     sqlite3_mutex_enter(engine->mutex);
-    bool is = engine->published == member->point;
+    bool is = engine->published == member->point && engine->losses == member->losses;
     sqlite3_mutex_leave(engine->mutex);
     return is;
 }

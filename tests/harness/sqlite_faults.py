@@ -1,11 +1,12 @@
 """What a connection returns where the volume fails, and that it goes on afterwards."""
 
+import itertools
 import os
 import threading
 import time
 
 from harness.sqlite_worlds import (ABOVE, BELOW, FENCED, FULL, IO, NO_MEMORY, NO_QUORUM, NOT_FOUND, TIMEOUT,
-                                   content, is_whole, last_message, one, refused)
+                                   content, is_whole, last_message, one, point, refused)
 
 READS = {NO_QUORUM: "SQLITE_IOERR_READ", BELOW: "SQLITE_IOERR_READ", ABOVE: "SQLITE_IOERR_READ", IO: "SQLITE_IOERR_READ", NO_MEMORY: "SQLITE_NOMEM"}
 CODES = {
@@ -244,3 +245,108 @@ def check_left_writer(world):
     assert [world.calls(call) for call in ("open_writer", "close")] == [2, 1]
     ours.execute("create table t(a)")
     assert world.calls("open_writer") == 2 and is_whole(ours)
+
+
+def check_swapped_writer(world):
+    """Another process fences this one while a connection is in a write transaction, and a second connection then opens the volume again: the
+    transaction's commit fails, what the other process has committed stays, and a new connection may write."""
+    for mode, locking, end in itertools.product(("full", "off"), ("normal", "exclusive"), ("commit", "rollback")):
+        name = f"{mode} {locking} {end}"
+        made(world, name)
+        ours, other = world.open(name), world.open(name)
+        ours.executescript(f"pragma synchronous = {mode}; pragma locking_mode = {locking}")
+        change(ours, 2)
+        ours.execute("begin immediate")
+        change(ours, 1)
+        world.ask("work_change_to", name, 51)
+        world.fail("newest", NO_QUORUM, 1)  # so the reader says, after the writer was found fenced, that nothing is proved
+        opened = world.calls("open_writer")
+        assert one(other, "select b from t where a = 1") == "changed 51"
+        assert world.calls("open_writer") == opened + 1
+        if end == "commit":
+            with refused("SQLITE_IOERR_LOCK", "lock for writing was lost", ours):
+                ours.execute("commit")
+        else:
+            ours.execute("rollback")
+        assert not ours.in_transaction
+        if locking == "exclusive":
+            ours.close()
+            ours = world.open(name)
+        third = world.open(name)
+        assert [one(it, "select b from t where a = 1") for it in (ours, other, third)] == ["changed 51"] * 3
+        change(third, 101)
+        for it in (ours, other, third):
+            assert one(it, "select b from t where a = 1") == "changed 101" and is_whole(it)
+
+
+def check_repeated_points(world):
+    """A commit that was lost may have the point of another engine's: no connection takes one for the other, also where its first look fails."""
+    for call in ("no", "newest", "header"):
+        made(world, call)
+        ours, other = world.open(call), world.open(call)
+        ours.execute("pragma synchronous = off")
+        change(ours, 1)
+        assert content(other) == content(ours)
+        lost = point(other)
+        world.ask("work_change_to", call, 51)
+        if call != "no":
+            world.fail(call, IO)
+            with refused("SQLITE_IOERR_READ"):
+                content(other)
+        assert one(other, "select b from t where a = 1") == "changed 51" and is_whole(other)
+        assert point(other) == lost
+
+
+def check_repeated_base(world):
+    """A transaction has read a commit that was lost, and another engine's has its point: it does not write over that one."""
+    made(world)
+    ours, other = world.open(), world.open()
+    ours.execute("pragma synchronous = off")
+    change(ours, 1)
+    other.execute("begin")
+    assert one(other, "select b from t where a = 1") == "changed 1"
+    lost = point(other)
+    ours.execute("pragma synchronous = full")
+    world.doubt(False)
+    with refused("SQLITE_IOERR_FSYNC"):
+        change(ours, 2)
+    world.ask("work_change_to", "volume", 51)
+    with refused("SQLITE_BUSY_SNAPSHOT"):
+        change(other, 3)
+    other.execute("rollback")
+    assert one(other, "select b from t where a = 1") == "changed 51" and point(other) == lost
+    for number, it in enumerate((ours, other)):
+        change(it, 4 + number)
+        assert content(ours) == content(other) == content(world.open()) and is_whole(it)
+
+
+def check_lost_snapshot(world):
+    """A transaction that reads a commit which was lost fails where it must fetch a page, and sees no other commit at its point. Where the commit
+    is durable it reads on."""
+    for mode, locking in itertools.product(("full", "off"), ("normal", "exclusive")):
+        name = f"{mode} {locking}"
+        made(world, name)
+        ours, other = world.open(name), world.open(name)
+        ours.executescript(f"pragma synchronous = {mode}; pragma locking_mode = {locking}")
+        ours.execute("update t set b = 'first' where a = 1")
+        reader = ours if locking == "exclusive" else other
+        rows = reader.execute("select b from t")
+        found, now = [rows.fetchone()], point(reader)
+        assert found == [("first",)] and now == point(ours)
+        world.ask("work_changes", name, now)
+        if mode == "full":
+            assert found + rows.fetchall() == [("first",)] + [("0" * 200,)] * 399
+        else:
+            with refused("SQLITE_IOERR_READ", "lost", reader):
+                rows.fetchall()
+        if locking == "exclusive":
+            ours.close()
+        assert one(other, "select b from t where a = 1") == "changed 101" and is_whole(other)
+
+
+def work_changes(world, name, point_):
+    """Changes all rows, in commits that go beyond a point."""
+    ours = world.open(name)
+    for number in range(100, 150):
+        change(ours, number)
+    assert point(ours) > int(point_)
