@@ -16,7 +16,7 @@ from pathlib import Path
 from harness import ROOT, environment
 
 TESTS = ROOT / "tests"
-CHECKS = ("harness.sqlite_checks", "harness.sqlite_crashes", "harness.sqlite_faults")
+CHECKS = ("harness.sqlite_checks", "harness.sqlite_crashes", "harness.sqlite_faults", "harness.sqlite_rivals")
 SECONDS = 120  # until a check counts as not ended
 FENCED, NO_QUORUM, TIMEOUT, FULL, NOT_FOUND, BELOW, ABOVE, IO, NO_MEMORY, MISUSE = range(1, 11)  # of yieldcleat_volume.h
 KILLED = -1
