@@ -26,7 +26,7 @@ mod node;
 mod store;
 
 pub use node::Node;
-pub use store::{birth, read_log, Activity, Recovery, Store, StoreError};
+pub use store::{birth, read_log, Activity, Home, Recovery, Store, StoreError};
 pub use yieldcleat_client::{engines, Accepted, Admission, Declined, EngineCalls, Fenced, Membership, Name};
 pub use yieldcleat_client::{frames, requests, Calls, Error, Front, Gap, Held, Key, State, Taken};
 pub use yieldcleat_client::{Advance, Fact, Patch, Record, Shape, Truncation, MOST_NUMBER, PAGE_LEN};

@@ -16,7 +16,7 @@ use std::process::{Child, ChildStdin, ChildStdout, Command, Stdio};
 use std::time::Duration;
 use std::{env, thread};
 use yieldcleat::frames::{self, Next};
-use yieldcleat::{requests, Advance, Calls, Node, Patch, Record, Store, StoreError, PAGE_LEN};
+use yieldcleat::{requests, Advance, Calls, Home, Node, Patch, Record, Store, StoreError, PAGE_LEN};
 
 type Failed = Box<dyn std::error::Error>;
 
@@ -62,7 +62,9 @@ fn serve(mut answers_to: impl FnMut(&[&Vec<u8>]) -> Result<Vec<Vec<u8>>, StoreEr
 
 /// A server that comes back from its folder.
 fn serve_durably(folder: &Path) -> Result<(), Failed> {
-    let (mut store, recovery) = Store::open(folder, Node::open(1)?, 1)?;
+    let home = Home::open(folder)?;
+    let node = Node::open_as(1, home.birth())?;
+    let (mut store, recovery) = Store::open_in(home, node, 1)?;
     if recovery.torn > 0 {
         eprintln!("durable: {} bytes of a request that was not answered are cut off", recovery.torn);
     }

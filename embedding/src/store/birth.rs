@@ -11,14 +11,46 @@ use std::path::Path;
 const MAGIC: &[u8; 8] = b"yc birth";
 const LENGTH: usize = 20;
 
-/// The birth that a folder has, or a new one for a folder that has no files of a store, which is made where it is missing.
+/// A folder that no other process opens, and the birth of its node. `Store::open_in` takes it over, so that nobody draws another birth
+/// between the two.
+pub struct Home {
+    folder: Folder,
+    birth: u64,
+}
+
+impl Home {
+    /// Opens a folder, or makes it, and reads its birth. A folder without a log of a store gets a new one.
+    ///
+    /// A birth without a log is not used again: the files may have been lost, and the node would count as one that has what they held.
+    ///
+    /// Errors: `Io`; `Locked` while a store has the folder open; `Missing` where a file of the store is missing beside others; `Damaged`.
+    pub fn open(path: &Path) -> Result<Home, StoreError> {
+        let folder = Folder::open(path)?;
+        let birth = birth_in(path, &folder)?;
+        Ok(Home { folder, birth })
+    }
+
+    /// The birth with which the node has to be opened, `Node::open_as`.
+    pub fn birth(&self) -> u64 {
+        self.birth
+    }
+
+    /// The folder, which stays locked.
+    pub(super) fn into_folder(self) -> Folder {
+        self.folder
+    }
+}
+
+/// The birth that `Home::open` reads or draws in a folder, with the same errors.
 ///
-/// A birth without a log is not used again: the files may have been lost, and the node would count as one that has what they held.
-///
-/// Errors: `Io`; `Locked` while a store has the folder open; `Missing` where a file of the store is missing beside others; `Damaged`.
+/// The folder is free again when this returns. Another process that starts at this time may draw another birth before a store opens the
+/// folder, and the folder keeps only the last one. So open a store in a `Home` wherever that may be.
 pub fn birth(folder: &Path) -> Result<u64, StoreError> {
-    // Two processes that start at the same time draw one birth.
-    let lock = Folder::open(folder)?;
+    Home::open(folder).map(|home| home.birth())
+}
+
+/// The birth of a folder that is locked.
+fn birth_in(folder: &Path, lock: &Folder) -> Result<u64, StoreError> {
     let path = folder.join("birth");
     match File::open(&path) {
         Ok(file) => {
@@ -90,7 +122,9 @@ fn random() -> std::io::Result<u64> {
 #[cfg(test)]
 mod tests {
     use super::super::log::tests::Place;
+    use super::super::Store;
     use super::*;
+    use crate::Node;
 
     #[test]
     fn a_birth_stays_with_its_folder() {
@@ -106,6 +140,21 @@ mod tests {
         let mut names: Vec<_> = fs::read_dir(place.path()).unwrap().map(|it| it.unwrap().file_name()).collect();
         names.sort();
         assert_eq!(names, ["birth", "lock"]);
+    }
+
+    #[test]
+    fn a_home_is_locked_from_its_birth_to_the_end_of_its_store() {
+        let place = Place::new("home");
+        let is_locked = || matches!(birth(place.path()), Err(StoreError::Locked { .. }));
+        let home = Home::open(place.path()).unwrap();
+        let first = home.birth();
+        assert!(is_locked());
+        let mut store = Store::open_in(home, Node::open_as(1, first).unwrap(), 1).unwrap().0;
+        assert!(is_locked());
+        let status = store.answer(&[b"status"]).unwrap().remove(0);
+        assert_eq!(String::from_utf8_lossy(&status), format!("status 0 {first} 0 0 0 0"));
+        drop(store);
+        assert_eq!(Home::open(place.path()).unwrap().birth(), first);
     }
 
     #[test]

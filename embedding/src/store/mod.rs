@@ -11,7 +11,7 @@ mod errors;
 mod folder;
 mod log;
 
-pub use birth::birth;
+pub use birth::{birth, Home};
 pub use errors::StoreError;
 
 use crate::Node;
@@ -112,8 +112,18 @@ impl Store {
     ///
     /// Errors: `Io`, `Locked`, `Missing`, `Damaged`, and `Unexpected` where the node does not answer as it did. The files stay as they
     /// are then, but for a torn end of the log, which is cut off.
-    pub fn open(folder: &Path, mut node: Node, readers: u8) -> Result<(Store, Recovery), StoreError> {
-        let folder = Folder::open(folder)?;
+    pub fn open(folder: &Path, node: Node, readers: u8) -> Result<(Store, Recovery), StoreError> {
+        Store::open_locked(Folder::open(folder)?, node, readers)
+    }
+
+    /// The same in a folder whose birth the node has, and which nobody else has opened since.
+    ///
+    /// Errors: those of `open`, but `Locked`.
+    pub fn open_in(home: Home, node: Node, readers: u8) -> Result<(Store, Recovery), StoreError> {
+        Store::open_locked(home.into_folder(), node, readers)
+    }
+
+    fn open_locked(folder: Folder, mut node: Node, readers: u8) -> Result<(Store, Recovery), StoreError> {
         let generation = match folder.generation()? {
             Some(generation) => generation,
             None => begin(&folder, readers)?,
