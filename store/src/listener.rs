@@ -12,6 +12,9 @@ use yieldcleat_client::{Address, Stream};
 
 /// The stack of a connection's thread.
 pub const STACK: usize = 1 << 18;
+/// How long nobody is accepted after an error that may pass, and after how many such errors in a row that is said.
+const PAUSE: Duration = Duration::from_millis(50);
+const MANY: u32 = 20;
 
 /// A socket that listens.
 pub enum Listener {
@@ -47,25 +50,37 @@ impl Listener {
         }
     }
 
-    /// The next connection. A passing error, as too many open files, is waited out.
+    /// The next connection. An error of a client or of the system, as too many open files, is waited out.
+    ///
+    /// Errors: those of the socket itself, which takes no connection any more.
     pub fn accept(&self) -> io::Result<Stream> {
+        let mut errors = 0;
         loop {
             let accepted = match self {
                 Listener::Unix(listener, _) => listener.accept().map(|it| Stream::Unix(it.0)),
                 Listener::Tcp(listener) => listener.accept().map(|it| prompt(it.0)),
             };
             match accepted {
-                Err(error) if is_passing(&error) => thread::sleep(Duration::from_millis(50)),
+                Err(error) if !is_of_socket(&error) => {
+                    errors += 1;
+                    if errors == MANY {
+                        crate::say(format_args!("warning: no connections at {} for now: {error}", self.address()));
+                    }
+                    thread::sleep(PAUSE);
+                }
                 other => return other,
             }
         }
     }
 }
 
-fn is_passing(error: &io::Error) -> bool {
-    const TOO_MANY_FILES: [i32; 2] = [23, 24];
-    let is_of_client = matches!(error.kind(), ErrorKind::ConnectionAborted | ErrorKind::ConnectionReset | ErrorKind::Interrupted);
-    is_of_client || error.raw_os_error().is_some_and(|number| TOO_MANY_FILES.contains(&number))
+/// Whether an error says that the socket is no socket that listens: each later `accept` has it too.
+fn is_of_socket(error: &io::Error) -> bool {
+    const BAD_FILE: i32 = 9;
+    const BAD_ADDRESS: i32 = 14;
+    const NOT_LISTENING: i32 = 22;
+    const NO_SOCKET: i32 = 88;
+    matches!(error.raw_os_error(), Some(BAD_FILE | BAD_ADDRESS | NOT_LISTENING | NO_SOCKET))
 }
 
 /// A connection whose answers do not wait for one another. Where the system refuses that, they do.
@@ -86,6 +101,14 @@ fn remove_stale(path: &Path) -> io::Result<()> {
 #[cfg(test)]
 mod tests {
     use super::*;
+
+    #[test]
+    fn only_errors_of_the_socket_end_it() {
+        let is_of_socket = |number| is_of_socket(&io::Error::from_raw_os_error(number));
+        assert!([9, 14, 22, 88].into_iter().all(is_of_socket));
+        // EPERM, EINTR, ENOMEM, ENFILE, EMFILE, EPROTO, ENETDOWN, ECONNABORTED, ENOBUFS, ETIMEDOUT.
+        assert!(![1, 4, 12, 23, 24, 71, 100, 103, 105, 110].into_iter().any(is_of_socket));
+    }
 
     #[test]
     fn a_stale_socket_is_replaced_and_no_other_file() {

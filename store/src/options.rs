@@ -30,7 +30,7 @@ Serves one storage segment from the files in DIR. ADDR is unix:PATH or HOST:PORT
 
 Statuses: 0 stopped by SIGTERM or SIGINT, 2 bad command line, 3 DIR is in use,
 4 a file cannot be read or written or is damaged, 5 the segment does not run,
-6 it cannot listen on an address.
+6 it cannot listen on an address, or not any more.
 ";
 
 /// What the command line asks for.

@@ -12,11 +12,12 @@ use crate::snapshots::Snapshots;
 use crate::{http, say};
 use std::io;
 use std::sync::atomic::{AtomicBool, AtomicU64, AtomicUsize, Ordering::Relaxed, Ordering::SeqCst};
+use std::sync::mpsc::{self, Sender};
 use std::sync::{Arc, Mutex};
 use std::thread::{self, Builder};
 use std::time::{Duration, Instant};
 use std::{fmt, process};
-use yieldcleat::{birth, Node, Store, StoreError};
+use yieldcleat::{Home, Node, Store, StoreError};
 use yieldcleat_client::{frames, Address, Stream};
 
 /// How long answers may take to be written when the server ends.
@@ -26,7 +27,8 @@ const GRACE: Duration = Duration::from_secs(3);
 #[derive(Debug)]
 pub enum Failure {
     Store(StoreError),
-    Listen(Address, io::Error),
+    /// A socket does not listen at an address, or takes no connection any more.
+    Listen(String, io::Error),
     /// The system starts no thread, or takes no mask of signals.
     System(io::Error),
 }
@@ -68,12 +70,7 @@ impl From<yieldcleat_client::Error> for Failure {
 /// Serves until a signal stops it.
 pub fn run(options: &Options) -> Result<(), Failure> {
     let stop = Stop::block().map_err(Failure::System)?;
-    let node = Node::open_as(options.readers, birth(&options.data)?)?;
-    let (store, recovery) = Store::open(&options.data, node, options.readers)?;
-    say(format_args!("{}: {} requests read back", options.data.display(), recovery.requests));
-    if recovery.torn > 0 {
-        say(format_args!("{} bytes of an entry that was not acknowledged are cut off", recovery.torn));
-    }
+    let store = open(options)?;
     let metrics = Arc::new(Metrics::new(options.memory_bytes, options.peers.iter().map(Address::to_string)));
     let snapshots = Arc::new(Snapshots::default());
     let housekeeping = Housekeeping::new(options.fold_every, options.snapshot_after, snapshots.clone());
@@ -81,7 +78,8 @@ pub fn run(options: &Options) -> Result<(), Failure> {
     let service = Arc::new(service(options, &handle, &metrics, &snapshots));
     let listeners = bind(options)?;
     let engine = spawn("engine", move || engine.run())?;
-    let sockets = start(options, listeners, &service)?;
+    let (failed, failures) = mpsc::channel();
+    let sockets = start(options, listeners, &service, &failed)?;
     gossip(options, &handle, &metrics)?;
     say(format_args!("ready"));
     let stopping = service.clone();
@@ -89,7 +87,20 @@ pub fn run(options: &Options) -> Result<(), Failure> {
     let ended = engine.join().unwrap_or(Err(StoreError::Stopped));
     sockets.iter().for_each(|it| it.remove());
     finish(&service);
-    ended.map_err(Failure::Store)
+    ended?;
+    failures.try_recv().map_or(Ok(()), Err)
+}
+
+/// Opens the files of the node, for this process alone from before its birth is read or drawn.
+fn open(options: &Options) -> Result<Store, Failure> {
+    let home = Home::open(&options.data)?;
+    let node = Node::open_as(options.readers, home.birth())?;
+    let (store, recovery) = Store::open_in(home, node, options.readers)?;
+    say(format_args!("{}: {} requests read back", options.data.display(), recovery.requests));
+    if recovery.torn > 0 {
+        say(format_args!("{} bytes of an entry that was not acknowledged are cut off", recovery.torn));
+    }
+    Ok(store)
 }
 
 fn service(options: &Options, handle: &Handle, metrics: &Arc<Metrics>, snapshots: &Arc<Snapshots>) -> Service {
@@ -116,22 +127,29 @@ fn bind(options: &Options) -> Result<Vec<(Listener, bool)>, Failure> {
     let addresses = of_frames.chain(options.metrics.iter().map(|address| (address, true)));
     let listen = |(address, is_http): (&Address, bool)| match Listener::bind(address) {
         Ok(listener) => Ok((listener, is_http)),
-        Err(error) => Err(Failure::Listen(address.clone(), error)),
+        Err(error) => Err(Failure::Listen(address.to_string(), error)),
     };
     addresses.map(listen).collect()
 }
 
-/// Starts a thread for each socket.
-fn start(options: &Options, listeners: Vec<(Listener, bool)>, service: &Arc<Service>) -> Result<Vec<Arc<Listener>>, Failure> {
+/// Starts a thread for each socket. A socket that takes no connection any more ends the server, and why is sent to `failed`.
+fn start(
+    options: &Options,
+    listeners: Vec<(Listener, bool)>,
+    service: &Arc<Service>,
+    failed: &Sender<Failure>,
+) -> Result<Vec<Arc<Listener>>, Failure> {
     let mut kept = Vec::new();
     for (listener, is_http) in listeners {
-        let (listener, service, most) = (Arc::new(listener), service.clone(), options.connections as u64);
+        let (listener, service, failed, most) = (Arc::new(listener), service.clone(), failed.clone(), options.connections as u64);
         say(format_args!("listening at {}{}", listener.address(), if is_http { " for metrics" } else { "" }));
         kept.push(listener.clone());
         spawn("listener", move || {
             let ended = if is_http { http::serve(&listener, &service.metrics) } else { accept(&listener, &service, most) };
             if let Err(error) = ended {
-                say(format_args!("warning: no connections at {} any more: {error}", listener.address()));
+                // The receiver is there until the server has ended.
+                let _ = failed.send(Failure::Listen(listener.address(), error));
+                service.stop();
             }
         })?;
     }
@@ -191,8 +209,7 @@ fn wait_for_signal(stop: &Stop, service: &Service) {
             process::abort();
         }
     }
-    service.is_stopping.store(true, SeqCst);
-    service.handle.stop();
+    service.stop();
 }
 
 /// Waits until the answers that there are have been written.

@@ -29,6 +29,14 @@ pub struct Service {
     pub busy: AtomicUsize,
 }
 
+impl Service {
+    /// Ends the server, after the requests that wait.
+    pub fn stop(&self) {
+        self.is_stopping.store(true, SeqCst);
+        self.handle.stop();
+    }
+}
+
 /// A frame of a client.
 enum Frame<'a> {
     /// With its share of the memory that requests may take.
