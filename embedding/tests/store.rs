@@ -172,6 +172,57 @@ fn a_checkpoint_may_fail() {
     assert_eq!(front(&mut folder.open(Node::open(1).unwrap()).unwrap()), "front 0 6 0");
 }
 
+/// A failed rename leaves it unsure which generation the folder has.
+#[test]
+fn a_checkpoint_that_stops_the_store_says_so() {
+    let folder = Folder::new("unsure");
+    let mut store = folder.open(Node::open(1).unwrap()).unwrap();
+    store.answer(&takes(1..=3)).unwrap();
+    fs::create_dir_all(folder.0.join("snapshot.1/inside")).unwrap();
+    assert!(matches!(store.checkpoint(), Err(StoreError::Io { .. })) && store.is_stopped());
+    assert!(matches!(store.answer(&[b"front"]), Err(StoreError::Stopped)));
+    drop(store);
+    fs::remove_dir_all(folder.0.join("snapshot.1")).unwrap();
+    assert_eq!(front(&mut folder.open(Node::open(1).unwrap()).unwrap()), "front 0 3 0");
+}
+
+/// The next log begins with a staging that is not at its end: so many bytes, also after a restart.
+#[test]
+fn the_bytes_of_a_staging_are_known() {
+    let (folder, mut other) = (Folder::new("staged"), Node::open(1).unwrap());
+    takes(1..=300).iter().for_each(|request| assert_eq!(other.ask(request).unwrap(), b"changed"));
+    let total = other.freeze(7).unwrap();
+    let adds = (0..total).map(|index| requests::add(&other.piece(index).unwrap()));
+    let staged: Vec<_> = [requests::stage(7, total)].into_iter().chain(adds).collect();
+    let mut store = folder.open(Node::open(1).unwrap()).unwrap();
+    store.answer(&takes(1..=50)).unwrap();
+    assert_eq!(store.activity().staging, 0);
+    store.answer(&staged).unwrap();
+    let staging = store.activity().staging;
+    assert!(staging > staged.iter().map(|it| it.len() as u64).sum());
+    store.checkpoint().unwrap();
+    for _ in 0..2 {
+        // The other bytes are those of the header.
+        assert_eq!((store.activity().staging, store.activity().log), (staging, staging + 36));
+        drop(store);
+        store = folder.open(Node::open(1).unwrap()).unwrap();
+    }
+    assert_eq!(store.answer(&[requests::unite()]).unwrap(), [b"united"]);
+    assert_eq!((store.activity().staging, front(&mut store)), (0, "front 0 300 0".into()));
+}
+
+/// Long answers are given in portions, and what was not asked has changed nothing.
+#[test]
+fn answers_end_where_they_are_enough() {
+    let folder = Folder::new("portions");
+    let mut store = folder.open(Node::open(1).unwrap()).unwrap();
+    let asked = takes(1..=5);
+    assert_eq!(store.answer_until(&asked, 20).unwrap(), [b"changed"; 3]);
+    assert_eq!((front(&mut store), store.logged()), ("front 0 3 0".into(), 4));
+    assert_eq!(store.answer_until(&asked[3..], 0).unwrap(), [b"changed"]);
+    assert!(store.answer_until(&[] as &[&[u8]], 0).unwrap().is_empty());
+}
+
 /// A crash at any step of a checkpoint leaves a generation that is whole.
 #[test]
 fn a_crash_within_a_checkpoint() {

@@ -8,7 +8,7 @@ use std::hash::{BuildHasher, Hasher};
 use std::sync::atomic::Ordering::Relaxed;
 use std::sync::Arc;
 use std::time::{Duration, Instant};
-use yieldcleat::{Store, StoreError};
+use yieldcleat::{Activity, Store, StoreError};
 use yieldcleat_client::{answers, frames, requests};
 
 /// The most pages of a slice.
@@ -157,10 +157,15 @@ impl Housekeeping {
         }
     }
 
+    /// The bytes of the log at which a snapshot is scheduled. The next log begins with a staging that is not at its end: the log has as
+    /// much beside it before the staging is written again.
+    fn least(&self, activity: &Activity) -> f64 {
+        self.snapshot_after.max(2 * activity.snapshot).max(2 * activity.staging) as f64 * self.stagger
+    }
+
     fn begin_snapshot(&mut self, store: &mut Store) -> Result<(), StoreError> {
         let activity = store.activity();
-        let (least, now) = (self.snapshot_after.max(2 * activity.snapshot) as f64 * self.stagger, Instant::now());
-        let log = activity.log as f64;
+        let (least, log, now) = (self.least(&activity), activity.log as f64, Instant::now());
         if self.began.is_some() || log < least || now < self.again_at {
             return Ok(());
         }
@@ -175,6 +180,8 @@ impl Housekeeping {
     }
 
     /// Notes whether a snapshot goes on, is there, or has failed.
+    ///
+    /// Its error is one after which the store answers nothing.
     fn judge(&mut self, store: &Store, went: Result<bool, StoreError>) -> Result<(), StoreError> {
         let Some(began) = self.began else {
             return Ok(());
@@ -186,7 +193,7 @@ impl Housekeeping {
                 let (activity, took) = (store.activity(), began.elapsed().as_millis());
                 crate::say(format_args!("snapshot {} of {} bytes took {took} ms", activity.generation, activity.snapshot));
             }
-            Err(StoreError::Stopped) => return Err(StoreError::Stopped),
+            Err(error) if store.is_stopped() => return Err(error),
             Err(error) => self.put_off(&error.to_string()),
         }
         self.began = None;
@@ -221,6 +228,14 @@ mod tests {
         let advance = Advance { epoch: 0, reader: 1, point: 1 };
         assert_eq!(page_of(&requests::take(&advance.encode().unwrap())), None);
         assert_eq!((page_of(b"take \x01"), page_of(b"front")), (None, None));
+    }
+
+    #[test]
+    fn a_staging_is_not_written_again_and_again() {
+        let mut it = Housekeeping::new(Duration::ZERO, 100, Arc::default());
+        it.stagger = 1.0;
+        let least = |snapshot, staging| it.least(&Activity { snapshot, staging, ..Activity::default() });
+        assert_eq!([least(20, 0), least(60, 0), least(60, 30), least(60, 90)], [100.0, 120.0, 120.0, 180.0]);
     }
 
     #[test]

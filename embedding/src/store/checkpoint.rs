@@ -35,6 +35,14 @@ impl Frozen {
     }
 }
 
+#[cfg(test)]
+impl Checkpoint {
+    /// From now on the system refuses to write the log behind the snapshot.
+    pub fn refuse(&mut self) {
+        self.log.refuse();
+    }
+}
+
 /// A snapshot that is not whole, and the log behind it. After an error it is of no use.
 pub struct Checkpoint {
     pub generation: u64,
@@ -63,8 +71,13 @@ impl Checkpoint {
     }
 
     /// Appends changes to the log behind the snapshot. They are on the disk when `end` returns.
+    ///
+    /// Errors: `Io`, also where there is no room, and `TooLong`.
     pub fn write(&mut self, changes: &[u8]) -> Result<(), StoreError> {
-        self.log.append_unflushed(changes)
+        self.log.append_unflushed(changes).map_err(|error| match error {
+            StoreError::Full { path, error } => StoreError::Io { path, error },
+            other => other,
+        })
     }
 
     /// Writes up to so many more pieces. The result is true when the snapshot is on the disk, or the disk has failed.

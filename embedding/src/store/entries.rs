@@ -44,6 +44,11 @@ impl Kind {
     }
 }
 
+/// The bytes of an entry that has this request alone.
+pub fn length(request: &[u8]) -> u64 {
+    (HEAD + 4 + request.len()) as u64
+}
+
 /// The number of so many bytes from an offset on; the bytes are there.
 fn number(bytes: &[u8], from: usize, count: usize) -> u64 {
     bytes[from..from + count].iter().fold(0, |number, byte| number << 8 | u64::from(*byte))

@@ -40,6 +40,8 @@ pub struct Store {
     /// Whether the node keeps a snapshot that a checkpoint has made, and not one that a client asked for.
     is_displaced: bool,
     checkpoint: Option<Checkpoint>,
+    /// Why the last checkpoint was given up, until `go_on_with_checkpoint` returns it.
+    given_up: Option<StoreError>,
 }
 
 /// What a store has found in its folder.
@@ -64,6 +66,8 @@ pub struct Activity {
     /// The bytes of the present log, and of the snapshot before it.
     pub log: u64,
     pub snapshot: u64,
+    /// The bytes with which the next log begins: those of a staging that is not at its end, which no snapshot has.
+    pub staging: u64,
     pub generation: u64,
 }
 
@@ -74,13 +78,16 @@ struct Progress {
     logged: u64,
     /// Of these, the place of the `stage` that began the staging, where there is one.
     staging: Option<u64>,
+    /// The bytes of the staging, as the next log has them.
+    staged: u64,
 }
 
 impl Progress {
     fn count(&mut self, request: &[u8]) {
         match requests::word(request) {
-            b"stage" => self.staging = Some(self.logged),
-            b"finish" | b"unite" => self.staging = None,
+            b"stage" => (self.staging, self.staged) = (Some(self.logged), entries::length(request)),
+            b"add" if self.staging.is_some() => self.staged += entries::length(request),
+            b"finish" | b"unite" => (self.staging, self.staged) = (None, 0),
             _ => {}
         }
         self.logged += 1;
@@ -141,13 +148,19 @@ impl Store {
         let recovery = Recovery { requests: snapshot + progress.logged, torn };
         let activity =
             Activity { log: log.length(), snapshot: folder.length(Kind::Snapshot, generation), generation, ..Activity::default() };
-        let (log, unwritten) = (Some(log), Vec::new());
-        Ok((Store { node, folder, generation, log, progress, unwritten, activity, is_displaced: true, checkpoint: None }, recovery))
+        let (log, unwritten, checkpoint, given_up) = (Some(log), Vec::new(), None, None);
+        let store = Store { node, folder, generation, log, progress, unwritten, activity, is_displaced: true, checkpoint, given_up };
+        Ok((store, recovery))
     }
 
     /// What it has done with its files.
     pub fn activity(&self) -> Activity {
-        self.activity
+        Activity { staging: self.progress.staged, ..self.activity }
+    }
+
+    /// Whether a call has failed so that each later one is `Stopped`.
+    pub fn is_stopped(&self) -> bool {
+        self.log.is_none()
     }
 
     /// How many requests the log has: what is asked before the node is back, beside the snapshot.
@@ -161,11 +174,22 @@ impl Store {
     /// Errors: `Full`, and the node is asked nothing until there is room for what it has changed; `Io`, `Node`, `TooLong`, and `Stopped`
     /// behind any of these three.
     pub fn answer<R: AsRef<[u8]>>(&mut self, batch: &[R]) -> Result<Vec<Vec<u8>>, StoreError> {
+        self.answer_until(batch, usize::MAX)
+    }
+
+    /// The same, and asks no more requests once the answers have so many bytes. There are answers to the requests that were asked, at least
+    /// to the first one.
+    pub fn answer_until<R: AsRef<[u8]>>(&mut self, batch: &[R], enough: usize) -> Result<Vec<Vec<u8>>, StoreError> {
         self.write(Vec::new())?;
         let log = self.log.take().ok_or(StoreError::Stopped)?;
-        let (mut answers, mut changes) = (Vec::new(), Vec::new());
+        let (mut answers, mut changes, mut bytes) = (Vec::new(), Vec::new(), 0);
         for request in batch {
-            answers.push(self.ask(request.as_ref(), &mut changes)?);
+            let answer = self.ask(request.as_ref(), &mut changes)?;
+            bytes += answer.len();
+            answers.push(answer);
+            if bytes >= enough {
+                break;
+            }
         }
         self.log = Some(log);
         self.write(changes)?;
@@ -198,12 +222,12 @@ impl Store {
         Ok(())
     }
 
-    /// Writes the same changes to the log behind the snapshot that is being written, if there is one; that fails alone.
+    /// Writes the same changes to the log behind the snapshot that is being written, if there is one. The checkpoint fails alone.
     fn write_behind_snapshot(&mut self) {
-        if let Some(checkpoint) = &mut self.checkpoint {
-            if checkpoint.write(&self.unwritten).is_err() {
-                self.abandon_checkpoint();
-            }
+        let written = self.checkpoint.as_mut().map_or(Ok(()), |checkpoint| checkpoint.write(&self.unwritten));
+        if let Err(error) = written {
+            self.abandon_checkpoint();
+            self.given_up = Some(error);
         }
     }
 
@@ -280,6 +304,7 @@ impl Store {
     /// Its errors are those of `checkpoint`.
     pub fn begin_checkpoint(&mut self) -> Result<(), StoreError> {
         self.abandon_checkpoint();
+        self.given_up = None;
         self.write(Vec::new())?;
         let next = self.generation + 1;
         self.checkpoint = Some(self.prepare(next).inspect_err(|_| self.folder.remove_drafts(next))?);
@@ -293,8 +318,11 @@ impl Store {
     /// Writes up to so many pieces of the snapshot, and puts it in place of the log when the disk has all of it. The result is false when
     /// there is nothing left to do.
     ///
-    /// Its errors are those of `checkpoint`.
+    /// Its errors are those of `checkpoint`; also that of an earlier call of `answer` that could not write the log behind the snapshot.
     pub fn go_on_with_checkpoint(&mut self, pieces: u32) -> Result<bool, StoreError> {
+        if let Some(error) = self.given_up.take() {
+            return Err(error);
+        }
         let Some(checkpoint) = &mut self.checkpoint else {
             return Ok(false);
         };
@@ -436,6 +464,25 @@ fn restore(path: &Path, generation: u64, node: &mut Node) -> Result<u64, StoreEr
 mod tests {
     use super::log::tests::Place;
     use super::*;
+
+    /// The log behind a snapshot fails alone, and its error is returned once.
+    #[test]
+    fn why_a_checkpoint_is_given_up_is_returned() {
+        let place = Place::new("given-up");
+        let advance = |point| requests::take(&yieldcleat_client::Advance { epoch: 0, reader: 1, point }.encode().unwrap());
+        let mut store = Store::open(place.path(), Node::open(1).unwrap(), 1).unwrap().0;
+        store.begin_checkpoint().unwrap();
+        store.checkpoint.as_mut().unwrap().refuse();
+        assert_eq!(store.answer(&[advance(1)]).unwrap(), [b"changed"]);
+        assert!(!store.has_checkpoint());
+        match store.go_on_with_checkpoint(1) {
+            Err(StoreError::Io { path, .. }) => assert!(path.ends_with("log.1"), "{path:?}"),
+            other => panic!("{other:?}"),
+        }
+        assert!(matches!(store.go_on_with_checkpoint(1), Ok(false)));
+        store.checkpoint().unwrap();
+        assert_eq!(store.answer(&[b"front"]).unwrap(), [b"front 0 0 1"]);
+    }
 
     #[test]
     fn what_the_disk_refuses_is_not_answered() {
