@@ -1,4 +1,4 @@
-//! How many bytes of requests are held at a time.
+//! How many bytes of long requests are held at a time.
 
 use std::sync::{Condvar, Mutex, MutexGuard, PoisonError};
 
@@ -26,13 +26,6 @@ impl Budget {
         }
         let left = self.freed.wait_while(self.lock(), |left| *left < bytes);
         *left.unwrap_or_else(PoisonError::into_inner) -= bytes;
-        Some(Share { budget: self, bytes })
-    }
-
-    /// The same without waiting; nothing where there are not so many now.
-    pub fn try_take(&self, bytes: usize) -> Option<Share<'_>> {
-        let mut left = self.lock();
-        *left = left.checked_sub(bytes)?;
         Some(Share { budget: self, bytes })
     }
 
@@ -66,7 +59,6 @@ mod tests {
         let budget = Budget::new(100);
         assert!(budget.take(101).is_none());
         let first = budget.take(60).unwrap();
-        assert!(budget.try_take(41).is_none() && budget.try_take(40).is_some());
         let (sender, receiver) = mpsc::channel();
         thread::scope(|scope| {
             scope.spawn(|| {

@@ -5,6 +5,8 @@
 
 use crate::housekeeping::Housekeeping;
 use crate::metrics::{Metrics, Seen};
+use std::collections::VecDeque;
+use std::mem;
 use std::sync::atomic::Ordering::Relaxed;
 use std::sync::mpsc::{sync_channel, Receiver, RecvTimeoutError, SyncSender};
 use std::sync::Arc;
@@ -15,6 +17,8 @@ use yieldcleat_client::{answers, engines};
 /// The most requests of one batch, and the bytes of requests after which it takes no more.
 const MOST: usize = 4096;
 const ENOUGH: usize = 8 << 20;
+/// The bytes of answers after which they are given before more requests are asked.
+const PORTION: usize = 16 << 20;
 /// How often the thread looks round where no request comes.
 const PACE: Duration = Duration::from_millis(20);
 /// How often it publishes how far the segment is, and tries whether there is room again.
@@ -31,10 +35,30 @@ pub enum Refusal {
 
 pub type Answers = Result<Vec<Vec<u8>>, Refusal>;
 
+/// Answers to the first of some requests, and the requests that are not asked yet.
+#[derive(Debug, Default, PartialEq, Eq)]
+pub struct Portion {
+    pub answers: Vec<Vec<u8>>,
+    pub rest: Vec<Vec<u8>>,
+}
+
 /// Requests that are asked one after the other.
 struct Job {
     requests: Vec<Vec<u8>>,
-    reply: SyncSender<Answers>,
+    sender: SyncSender<Result<Portion, Refusal>>,
+}
+
+impl Job {
+    /// Gives answers to the first requests, and the other requests back.
+    fn reply(&mut self, answers: Answers) {
+        let mut requests = mem::take(&mut self.requests).into_iter();
+        let portion = answers.map(|answers| {
+            requests.by_ref().take(answers.len()).for_each(drop);
+            Portion { answers, rest: requests.collect() }
+        });
+        // An error says that the connection has ended meanwhile.
+        let _ = self.sender.send(portion);
+    }
 }
 
 enum Message {
@@ -49,9 +73,20 @@ pub struct Handle(SyncSender<Message>);
 impl Handle {
     /// Asks requests in order, and waits until what they have changed is on the disk.
     pub fn ask(&self, requests: Vec<Vec<u8>>) -> Answers {
-        let (reply, answers) = sync_channel(1);
-        self.0.send(Message::Job(Job { requests, reply })).map_err(|_| Refusal::Stopped)?;
-        answers.recv().unwrap_or(Err(Refusal::Stopped))
+        let (mut answers, mut rest) = (Vec::new(), requests);
+        while !rest.is_empty() {
+            let portion = self.ask_some(rest)?;
+            answers.extend(portion.answers);
+            rest = portion.rest;
+        }
+        Ok(answers)
+    }
+
+    /// The same for as many of the requests, at least one, as have answers of moderate length together.
+    pub fn ask_some(&self, requests: Vec<Vec<u8>>) -> Result<Portion, Refusal> {
+        let (sender, portion) = sync_channel(1);
+        self.0.send(Message::Job(Job { requests, sender })).map_err(|_| Refusal::Stopped)?;
+        portion.recv().unwrap_or(Err(Refusal::Stopped))
     }
 
     /// Ends the thread after the requests that wait.
@@ -104,16 +139,16 @@ impl Engine {
     }
 
     /// The first job and those that wait after it, and whether the thread has to stop.
-    fn gather(&self, first: Job) -> (Vec<Job>, bool) {
+    fn gather(&self, first: Job) -> (VecDeque<Job>, bool) {
         let size = |job: &Job| job.requests.iter().map(Vec::len).sum::<usize>();
         let (mut count, mut bytes) = (first.requests.len(), size(&first));
-        let mut jobs = vec![first];
+        let mut jobs = VecDeque::from([first]);
         while count < MOST && bytes < ENOUGH {
             match self.messages.try_recv() {
                 Ok(Message::Job(job)) => {
                     count += job.requests.len();
                     bytes += size(&job);
-                    jobs.push(job);
+                    jobs.push_back(job);
                 }
                 Ok(Message::Stop) => return (jobs, true),
                 Err(_) => break,
@@ -122,11 +157,19 @@ impl Engine {
         (jobs, false)
     }
 
-    /// Answers all jobs after one flush.
-    fn answer(&mut self, jobs: Vec<Job>) -> Result<(), StoreError> {
+    /// Answers all jobs, and flushes once for each portion of the answers. One portion has all of them, unless they are long.
+    fn answer(&mut self, mut jobs: VecDeque<Job>) -> Result<(), StoreError> {
+        while !jobs.is_empty() {
+            self.answer_portion(&mut jobs)?;
+        }
+        Ok(())
+    }
+
+    /// Asks the requests of the first jobs, and removes the jobs that have got answers.
+    fn answer_portion(&mut self, jobs: &mut VecDeque<Job>) -> Result<(), StoreError> {
         let batch: Vec<&Vec<u8>> = jobs.iter().flat_map(|job| &job.requests).collect();
         let before = self.store.activity().flushes;
-        let answered = self.store.answer(&batch);
+        let answered = self.store.answer_until(&batch, PORTION);
         let activity = self.store.activity();
         if activity.flushes > before {
             self.metrics.flushes.observe(activity.last_flush);
@@ -135,15 +178,12 @@ impl Engine {
         self.note_room(&answered, batch.len());
         match answered {
             Ok(answers) => {
-                self.housekeeping.note(&batch);
-                let mut answers = answers.into_iter();
-                for job in &jobs {
-                    reply(job, Ok(answers.by_ref().take(job.requests.len()).collect()));
-                }
+                self.housekeeping.note(&batch[..answers.len()]);
+                give(jobs, answers);
                 Ok(())
             }
             Err(StoreError::Full { .. }) => {
-                jobs.iter().for_each(|job| reply(job, Err(Refusal::DiskFull)));
+                jobs.drain(..).for_each(|mut job| job.reply(Err(Refusal::DiskFull)));
                 Ok(())
             }
             Err(error) => Err(error),
@@ -197,7 +237,57 @@ impl Engine {
     }
 }
 
-fn reply(job: &Job, answers: Answers) {
-    // An error says that the connection has ended meanwhile.
-    let _ = job.reply.send(answers);
+/// Gives answers to the first jobs, which are removed. The last of them may get only some of its answers.
+fn give(jobs: &mut VecDeque<Job>, answers: Vec<Vec<u8>>) {
+    let mut answers = answers.into_iter();
+    while jobs.front().is_some_and(|job| job.requests.is_empty() || answers.len() > 0) {
+        if let Some(mut job) = jobs.pop_front() {
+            job.reply(Ok(answers.by_ref().take(job.requests.len()).collect()));
+        }
+    }
+}
+
+#[cfg(test)]
+mod tests {
+    use super::*;
+    use std::thread;
+
+    fn job(requests: &[&[u8]]) -> (Job, Receiver<Result<Portion, Refusal>>) {
+        let (sender, portion) = sync_channel(1);
+        (Job { requests: requests.iter().map(|it| it.to_vec()).collect(), sender }, portion)
+    }
+
+    #[test]
+    fn a_job_gets_answers_or_its_requests_back() {
+        let (one, first) = job(&[b"a"]);
+        let (two, second) = job(&[b"b", b"c", b"d"]);
+        let (three, third) = job(&[b"e"]);
+        let (none, fourth) = job(&[]);
+        let mut jobs = VecDeque::from([one, two, three, none]);
+        give(&mut jobs, vec![b"A".to_vec(), b"B".to_vec()]);
+        assert_eq!(first.recv(), Ok(Ok(Portion { answers: vec![b"A".to_vec()], rest: vec![] })));
+        let rest = vec![b"c".to_vec(), b"d".to_vec()];
+        assert_eq!(second.recv(), Ok(Ok(Portion { answers: vec![b"B".to_vec()], rest })));
+        assert!(jobs.len() == 2 && third.try_recv().is_err());
+        give(&mut jobs, vec![b"E".to_vec()]);
+        assert_eq!(third.recv(), Ok(Ok(Portion { answers: vec![b"E".to_vec()], rest: vec![] })));
+        assert_eq!((fourth.recv(), jobs.len()), (Ok(Ok(Portion::default())), 0));
+    }
+
+    #[test]
+    fn a_caller_that_wants_all_answers_asks_for_the_rest() {
+        let (sender, messages) = sync_channel(1);
+        let engine = thread::spawn(move || {
+            let mut asked = Vec::new();
+            while let Ok(Message::Job(mut job)) = messages.recv() {
+                asked.push(job.requests.len());
+                let first = job.requests[0].clone();
+                job.reply(Ok(vec![first]));
+            }
+            asked
+        });
+        let requests = vec![b"a".to_vec(), b"b".to_vec(), b"c".to_vec()];
+        assert_eq!(Handle(sender).ask(requests.clone()), Ok(requests));
+        assert_eq!(engine.join().unwrap(), [3, 2, 1]);
+    }
 }

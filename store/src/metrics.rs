@@ -111,7 +111,7 @@ impl Metrics {
             metric(text, name, "counter", help, value.load(Relaxed));
         }
         metric(text, "connections", "gauge", "Open connections.", self.connections.load(Relaxed));
-        metric(text, "request_bytes_held", "gauge", "Bytes of requests in memory.", self.budget.taken() as u64);
+        metric(text, "request_bytes_held", "gauge", "Bytes of requests above 64 KiB in memory.", self.budget.taken() as u64);
         metric(text, "disk_full", "gauge", "1 while the log has no room.", self.is_full.load(Relaxed).into());
         metric(text, "uptime_seconds", "gauge", "Seconds since the start.", self.started.elapsed().as_secs());
     }

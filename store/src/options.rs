@@ -18,9 +18,10 @@ Serves one storage segment from the files in DIR. ADDR is unix:PATH or HOST:PORT
   --readers R            readers of the log, 1 to 15, for a new DIR (1)
   --connections N        the most connections at a time (64)
   --frame-bytes N        the most bytes of a request (67108864)
-  --memory-bytes N       the most bytes of requests held at a time (268435456)
+  --memory-bytes N       the most bytes of requests above 64 KiB held at a time (268435456)
   --queue N              the most requests of connections that wait for the segment (1024)
-  --patience MS          how long a peer or a client may stall within a frame (30000)
+  --patience MS          how long a peer or a client may stall within a frame (30000); a
+                         frame may take so long, and a second more for each megabyte
   --idle MS              how long a client may be silent between frames (3600000)
   --gossip-every MS      the pause between two rounds of gossip with a peer (200)
   --gossip-bytes N       the most bytes of a delta; a snapshot brings more (8000000)

@@ -109,7 +109,7 @@ fn service(options: &Options, handle: &Handle, metrics: &Arc<Metrics>, snapshots
         metrics: metrics.clone(),
         snapshots: snapshots.clone(),
         connections: AtomicU64::new(0),
-        frame_bytes: options.frame_bytes,
+        longest: options.frame_bytes.min(u32::try_from(options.memory_bytes).unwrap_or(u32::MAX)),
         delta_bytes: options.gossip_bytes,
         patience: options.patience,
         idle: options.idle,

@@ -1,15 +1,20 @@
 //! One connection of a client: frames in, frames out, in order.
 
 use crate::budget::Share;
-use crate::engine::{Handle, Refusal};
+use crate::engine::{Handle, Portion, Refusal};
 use crate::gate::{judge, Verdict};
 use crate::metrics::Metrics;
 use crate::snapshots::{Owner, Snapshots};
+use std::collections::VecDeque;
 use std::io::{self, BufRead, BufReader, ErrorKind, Read, Write};
 use std::sync::atomic::{AtomicBool, AtomicU64, AtomicUsize, Ordering::Relaxed, Ordering::SeqCst};
 use std::sync::Arc;
 use std::time::{Duration, Instant};
 use yieldcleat_client::{frames, Stream};
+
+/// The bytes that a connection reads ahead, and those of a frame that are read before it takes a share of the memory: who announces a long
+/// frame and sends little of it keeps nothing from others.
+const AHEAD: usize = 1 << 16;
 
 /// What all connections share.
 pub struct Service {
@@ -18,9 +23,10 @@ pub struct Service {
     pub snapshots: Arc<Snapshots>,
     /// How many connections have been served, for their numbers.
     pub connections: AtomicU64,
-    pub frame_bytes: u32,
+    /// The bytes of the longest frame that is taken.
+    pub longest: u32,
     pub delta_bytes: u32,
-    /// How long a client may stall within a frame, and read no answer.
+    /// How long a client may stall within a frame, take for a short one, and read no answer.
     pub patience: Duration,
     /// How long it may be silent between frames.
     pub idle: Duration,
@@ -39,8 +45,8 @@ impl Service {
 
 /// A frame of a client.
 enum Frame<'a> {
-    /// With its share of the memory that requests may take.
-    Whole(Vec<u8>, Share<'a>),
+    /// With its share of the memory that long requests may take.
+    Whole(Vec<u8>, Option<Share<'a>>),
     /// It is longer than the server takes, and is dropped.
     TooLong,
 }
@@ -58,16 +64,13 @@ pub fn serve(stream: Stream, service: &Service) -> io::Result<()> {
 fn serve_as(connection: u64, stream: Stream, service: &Service) -> io::Result<()> {
     stream.set_timeouts(Some(service.patience), Some(service.patience))?;
     let mut writer = stream.try_clone()?;
-    let mut reader = BufReader::with_capacity(1 << 16, stream);
+    let mut reader = BufReader::with_capacity(AHEAD, stream);
     while wait(&mut reader, service)? {
         let frames = gather(&mut reader, service)?;
         service.busy.fetch_add(1, SeqCst);
-        let answered = answer(connection, frames, service).map_or(Ok(true), |bytes| {
-            service.metrics.sent.fetch_add(bytes.len() as u64, Relaxed);
-            writer.write_all(&bytes).map(|()| false)
-        });
+        let answered = answer(connection, frames, service, &mut writer);
         service.busy.fetch_sub(1, SeqCst);
-        if answered? {
+        if !answered? {
             return Ok(());
         }
     }
@@ -89,20 +92,14 @@ fn wait(reader: &mut BufReader<Stream>, service: &Service) -> io::Result<bool> {
     }
 }
 
-/// The next frame, and those that have come with it. A connection that holds memory waits for no more of it: two of them
-/// could wait for each other.
+/// The next frame, and those that have all come with it.
 fn gather<'a>(reader: &mut BufReader<Stream>, service: &'a Service) -> io::Result<Vec<Frame<'a>>> {
     let mut length = [0; 4];
     reader.read_exact(&mut length)?;
-    let length = u32::from_be_bytes(length);
-    let share = if length <= service.frame_bytes { service.metrics.budget.take(length as usize) } else { None };
-    let mut gathered = vec![read(reader, length, share, service)?];
-    while let Some(length) = next_whole(reader.buffer(), service.frame_bytes) {
-        let Some(share) = service.metrics.budget.try_take(length as usize) else {
-            break;
-        };
+    let mut gathered = vec![read(reader, u32::from_be_bytes(length), service)?];
+    while let Some(length) = next_whole(reader.buffer(), service.longest) {
         reader.consume(4);
-        gathered.push(read(reader, length, Some(share), service)?);
+        gathered.push(read(reader, length, service)?);
     }
     Ok(gathered)
 }
@@ -113,27 +110,66 @@ fn next_whole(buffer: &[u8], longest: u32) -> Option<u32> {
     (frames::is_whole(buffer) && length <= longest).then_some(length)
 }
 
-/// The bytes of a frame, of which the length is read. Without a share they are dropped.
-fn read<'a>(reader: &mut BufReader<Stream>, length: u32, share: Option<Share<'a>>, service: &Service) -> io::Result<Frame<'a>> {
+/// The bytes of a frame, of which the length is read. A frame that is too long is dropped. All of it has to come within a time, of which
+/// the wait for memory is no part.
+fn read<'a>(reader: &mut BufReader<Stream>, length: u32, service: &'a Service) -> io::Result<Frame<'a>> {
     service.metrics.frames.fetch_add(1, Relaxed);
     service.metrics.received.fetch_add(u64::from(length) + 4, Relaxed);
-    let Some(share) = share else {
-        frames::skip(reader, length)?;
+    let length = length as usize;
+    let mut end = Instant::now() + time_for(length, service.patience);
+    if length > service.longest as usize {
+        pull(reader, length, end, |_| {})?;
         return Ok(Frame::TooLong);
-    };
-    let mut bytes = Vec::new();
-    let count = reader.by_ref().take(length.into()).read_to_end(&mut bytes)?;
-    if count < length as usize {
-        return Err(ErrorKind::UnexpectedEof.into());
     }
-    Ok(Frame::Whole(bytes, share))
+    let mut bytes = Vec::new();
+    pull(reader, length.min(AHEAD), end, |some| bytes.extend_from_slice(some))?;
+    let left = length - bytes.len();
+    if left == 0 {
+        return Ok(Frame::Whole(bytes, None));
+    }
+    let waiting = Instant::now();
+    let share = service.metrics.budget.take(length).ok_or(ErrorKind::OutOfMemory)?;
+    end += waiting.elapsed();
+    bytes.reserve_exact(left);
+    pull(reader, left, end, |some| bytes.extend_from_slice(some))?;
+    Ok(Frame::Whole(bytes, Some(share)))
 }
 
-/// The frames of the answers; nothing where the server is about to end, and nobody may take a missing answer for one.
-fn answer(connection: u64, frames: Vec<Frame>, service: &Service) -> Option<Vec<u8>> {
-    let (mut verdicts, mut asked, mut shares) = (Vec::new(), Vec::new(), Vec::new());
+/// How long the bytes of a frame may take: the patience, and a second for each megabyte.
+fn time_for(length: usize, patience: Duration) -> Duration {
+    patience + Duration::from_micros(length as u64)
+}
+
+/// Hands so many bytes to `each`, as they come.
+///
+/// Errors: those of the socket, and `TimedOut` for a client that sends, but not all of them until `end`.
+fn pull(reader: &mut impl BufRead, count: usize, end: Instant, mut each: impl FnMut(&[u8])) -> io::Result<()> {
+    let mut left = count;
+    while left > 0 {
+        let come = match reader.fill_buf() {
+            Err(error) if error.kind() == ErrorKind::Interrupted => continue,
+            come => come?,
+        };
+        if come.is_empty() {
+            return Err(ErrorKind::UnexpectedEof.into());
+        }
+        let taken = come.len().min(left);
+        each(&come[..taken]);
+        reader.consume(taken);
+        left -= taken;
+        if left > 0 && Instant::now() >= end {
+            return Err(ErrorKind::TimedOut.into());
+        }
+    }
+    Ok(())
+}
+
+/// Answers frames in their order, in portions. The result is false where the server is about to end, and nobody may take a missing answer
+/// for one.
+fn answer(connection: u64, frames: Vec<Frame>, service: &Service, writer: &mut impl Write) -> io::Result<bool> {
+    let (mut verdicts, mut asked, mut shares) = (VecDeque::new(), Vec::new(), Vec::new());
     for frame in frames {
-        verdicts.push(match frame {
+        verdicts.push_back(match frame {
             Frame::TooLong => Some(b"long frame".to_vec()),
             Frame::Whole(request, share) => {
                 shares.push(share);
@@ -141,18 +177,42 @@ fn answer(connection: u64, frames: Vec<Frame>, service: &Service) -> Option<Vec<
             }
         });
     }
-    let count = asked.len();
-    let answers = match if asked.is_empty() { Ok(Vec::new()) } else { service.handle.ask(asked) } {
-        Ok(answers) => answers,
-        Err(Refusal::DiskFull) => vec![b"disk full".to_vec(); count],
-        Err(Refusal::Stopped) => return None,
-    };
-    let (mut answers, mut bytes) = (answers.into_iter(), Vec::new());
-    for verdict in verdicts {
-        let answer = verdict.or_else(|| answers.next())?;
-        frames::append(&mut bytes, &[&answer]).ok()?;
+    while !verdicts.is_empty() {
+        let Some(portion) = ask(asked, service) else {
+            return Ok(false);
+        };
+        asked = portion.rest;
+        let bytes = settle(&mut verdicts, portion.answers)?;
+        service.metrics.sent.fetch_add(bytes.len() as u64, Relaxed);
+        writer.write_all(&bytes)?;
     }
-    Some(bytes)
+    Ok(true)
+}
+
+/// Asks the segment requests; nothing where the server is about to end.
+fn ask(asked: Vec<Vec<u8>>, service: &Service) -> Option<Portion> {
+    if asked.is_empty() {
+        return Some(Portion::default());
+    }
+    let count = asked.len();
+    match service.handle.ask_some(asked) {
+        Ok(portion) => Some(portion),
+        Err(Refusal::DiskFull) => Some(Portion { answers: vec![b"disk full".to_vec(); count], rest: Vec::new() }),
+        Err(Refusal::Stopped) => None,
+    }
+}
+
+/// The frames of the next answers: those of the server, and of the segment as far as there are any. Their verdicts are done.
+fn settle(verdicts: &mut VecDeque<Option<Vec<u8>>>, answers: Vec<Vec<u8>>) -> io::Result<Vec<u8>> {
+    let (mut answers, mut bytes) = (answers.into_iter(), Vec::new());
+    while let Some(verdict) = verdicts.pop_front() {
+        let Some(answer) = verdict.or_else(|| answers.next()) else {
+            verdicts.push_front(None);
+            break;
+        };
+        frames::append(&mut bytes, &[&answer])?;
+    }
+    Ok(bytes)
 }
 
 /// What the server answers by itself. Otherwise the segment is asked.
@@ -168,5 +228,34 @@ fn own_answer(connection: u64, request: Vec<u8>, asked: &mut Vec<Vec<u8>>, servi
             asked.push(request);
             None
         }
+    }
+}
+
+#[cfg(test)]
+mod tests {
+    use super::*;
+
+    #[test]
+    fn who_sends_too_slowly_is_left() {
+        let bytes = [7; 100];
+        let slow = || BufReader::with_capacity(10, &bytes[..]);
+        let (now, late) = (Instant::now(), Instant::now() + Duration::from_secs(3600));
+        let mut come = Vec::new();
+        assert!(pull(&mut slow(), 100, late, |some| come.extend_from_slice(some)).is_ok());
+        assert_eq!(come, bytes);
+        let error = |count, end| pull(&mut slow(), count, end, |_| {}).map_err(|error| error.kind());
+        assert_eq!(error(100, now), Err(ErrorKind::TimedOut));
+        assert_eq!(error(101, late), Err(ErrorKind::UnexpectedEof));
+        assert_eq!(error(10, now), Ok(()), "all of it comes at once");
+        assert_eq!(time_for(2_000_000, Duration::from_millis(300)), Duration::from_millis(2300));
+    }
+
+    #[test]
+    fn answers_come_in_portions() {
+        let mut verdicts = VecDeque::from([None, Some(b"busy".to_vec()), None, Some(b"own".to_vec()), None]);
+        let mut next = |answers: &[&[u8]]| settle(&mut verdicts, answers.iter().map(|it| it.to_vec()).collect()).unwrap();
+        assert_eq!(next(&[b"a"]), b"\0\0\0\x01a\0\0\0\x04busy");
+        assert_eq!(next(&[b"b", b"c"]), b"\0\0\0\x01b\0\0\0\x03own\0\0\0\x01c");
+        assert!(verdicts.is_empty());
     }
 }
