@@ -108,7 +108,7 @@ impl Link {
 impl Drop for Link {
     fn drop(&mut self) {
         self.stop();
-        // A thread that is told to stop begins no connection.
+        // After `stop` the thread begins no connection.
         let is_connecting = lock(&self.shared).is_connecting;
         if let Some(thread) = self.thread.take().filter(|_| !is_connecting) {
             // A link that has panicked has said so; the others go on.

@@ -1,13 +1,16 @@
 //! The driver over the machine of `crates/volume_node` and nodes of `crates/fleet_node`, each in a process of its own: engines that are
 //! killed, engines that are fenced, nodes that lose all they had. The environment names both programs; without them nothing is tested.
 
+mod waiting;
+
 use std::path::{Path, PathBuf};
 use std::process::{Child, ChildStdin, ChildStdout, Command, Stdio};
 use std::sync::atomic::{AtomicU32, AtomicU64, Ordering};
 use std::sync::{Arc, Mutex, PoisonError};
-use std::time::{Duration, Instant};
+use std::time::Duration;
 use std::{env, fs, process, thread};
 use std::{io::BufReader, net::Shutdown, os::unix::net::UnixListener, os::unix::net::UnixStream};
+use waiting::until;
 use yieldcleat_client::{engines, frames, Address, Limits, Patch};
 use yieldcleat_volume::{Framed, Options, PageWrite, Reader, Volume, VolumeError};
 
@@ -221,14 +224,6 @@ fn write(place: u64) -> Vec<PageWrite> {
 
 fn shows(volume: &Volume, place: u64, point: u64) -> bool {
     volume.read(1 + (place % 3) as u16, point, 8 * (place % 100) as u16, 8).unwrap() == place.to_be_bytes()
-}
-
-fn until(what: impl Fn() -> bool) {
-    let begun = Instant::now();
-    while !what() {
-        assert!(begun.elapsed() < Duration::from_secs(10));
-        thread::sleep(Duration::from_millis(10));
-    }
 }
 
 #[test]

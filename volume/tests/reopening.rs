@@ -2,13 +2,15 @@
 //! proved machine has tests of its own; this one recovers nothing but what it has written itself.
 
 mod nodes;
+mod waiting;
 
 use nodes::{Node, State};
 use std::collections::{BTreeMap, BTreeSet};
 use std::path::PathBuf;
 use std::sync::atomic::{AtomicBool, AtomicU32, AtomicU64, Ordering};
-use std::time::{Duration, Instant};
+use std::time::Duration;
 use std::{env, fs, process, thread};
+use waiting::until;
 use yieldcleat_client::{Address, Limits, Patch, Record};
 use yieldcleat_volume::{Action, Event, Fault, Machine, Options, OutOfMemory, PageWrite, Volume, VolumeError};
 
@@ -291,14 +293,6 @@ fn write(place: u64) -> Vec<PageWrite> {
 
 fn shows(volume: &Volume, place: u64, point: u64) -> bool {
     volume.read(1 + (place % 2) as u16, point, 8 * (place % 100) as u16, 8).unwrap() == place.to_be_bytes()
-}
-
-fn until(what: impl Fn() -> bool) {
-    let begun = Instant::now();
-    while !what() {
-        assert!(begun.elapsed() < Duration::from_secs(20));
-        thread::sleep(Duration::from_millis(5));
-    }
 }
 
 #[test]

@@ -3,11 +3,13 @@
 
 #[path = "../c/src/proved.rs"]
 mod proved;
+mod waiting;
 
 use proved::Proved;
 use std::sync::atomic::{AtomicBool, AtomicUsize, Ordering};
 use std::thread;
-use std::time::{Duration, Instant};
+use std::time::Duration;
+use waiting::until;
 use yieldcleat_volume::{Action, Event, Fault, Machine};
 
 const SIGPIPE: i32 = 13;
@@ -47,14 +49,6 @@ extern "C" fn yieldcleat_decide(input: i32, output: i32, nodes: u8, _quorum: u8)
 }
 
 extern "C" fn nothing(_signal: i32) {}
-
-fn until(what: impl Fn() -> bool) {
-    let begun = Instant::now();
-    while !what() {
-        assert!(begun.elapsed() < Duration::from_secs(20));
-        thread::sleep(Duration::from_millis(5));
-    }
-}
 
 #[test]
 fn a_signal_does_not_end_the_machine() {
