@@ -66,9 +66,6 @@ above_zero k pos = above_from_pair 0 0 k.epoch k.number (elim (cases_lt 0 k.epoc
 
 -- ---- the order of waiting advances
 
-abbrev BeforeIn : WaitPlace → WaitPlace → Type 0
-BeforeIn p q = (p.0 < q.0) ⊎ ((p.0 ≡ q.0) × PairBefore p.1 p.2 q.1 q.2)
-
 abbrev pub place_of : AdvanceData → WaitPlace
 place_of a = (a.epoch, a.reader, a.point)
 

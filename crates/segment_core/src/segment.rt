@@ -266,7 +266,7 @@ impl Segment {
     {
         let records = records?;
         if let Some((first, later)) = records.split_first() {
-            // Such a record hides the image: neither is copied, and zeros are written once.
+            // A record with `init` starts from zeros: the base image is not read, and zeros are written once.
             if first.init() {
                 return page_from(self.alloc, first, later);
             }
