@@ -78,21 +78,34 @@ class Case(NamedTuple):
 
 
 def encoded(text):
-    """The bytes of a block: `\\` at the end of a line joins it with the next one, `\\xNN` is a byte, `\\{TEXT*N}` is a text N times."""
+    """The bytes of a text: `\\` at the end of a line joins it with the next one, `\\n` is LF, `\\xNN` a byte, `\\{TEXT*N}` a text N times."""
     text = re.sub(r"\\\{([^}]*)\*([0-9]+)\}", lambda it: it[1] * int(it[2]), text.replace("\\\n", ""))
-    return re.sub(r"\\(r|x[0-9a-f]{2})", lambda it: ast.literal_eval(f"'{it[0]}'"), text).encode("latin-1")
+    return re.sub(r"\\(n|r|x[0-9a-f]{2})", lambda it: ast.literal_eval(f"'{it[0]}'"), text).encode("latin-1")
+
+
+def of_row(row):
+    """Task, text, answer and explanation of a row `TASK: TEXT -> ANSWER -> EXPLANATION`; the explanation may be left out."""
+    task, _, rest = row.partition(": ")
+    text, output, *said = rest.split(" -> ")
+    return task, text, output + "\n" * bool(output), "".join(said)
+
+
+def of_block(block):
+    """The same of a block: the head `TASK NAME`, the text, `--` and the answer."""
+    head, _, rest = block.partition("\n")
+    text, _, output = ("\n" + rest.rstrip("\n")).partition("\n--")
+    return head, text.removeprefix("\n") + "\n" * bool(text), output.removeprefix("\n") + "\n" * bool(output), ""
 
 
 def cases():
-    """The texts of tests/cases/*.texts: `== TASK NAME`, the text, `--`, the answer; perhaps `-- explained`, and what --explain says."""
+    """The cases of tests/cases/*.texts. Behind `== rows` each line is a case, behind `== TASK NAME` there is one."""
     for path in sorted(CASES.glob("*.texts")):
         for block in re.split(r"^== ", path.read_text(), flags=re.M)[1:]:
-            head, _, rest = block.partition("\n")
-            task, _, name = head.partition(" ")
-            text, _, rest = ("\n" + rest).partition("\n--\n")
-            output, _, said = rest.rstrip("\n").partition("\n-- explained\n")
-            text, output = encoded(text.removeprefix("\n") + "\n" * bool(text)), encoded(output + "\n" * bool(output))
-            yield Case(f"{path.stem}: {task} {name or last_line(text)}", task, text, output, said.encode() or None)
+            rows = map(of_row, block.rstrip("\n").split("\n")[1:]) if block.startswith("rows\n") else [of_block(block)]
+            for head, text, output, said in rows:
+                task, _, name = head.partition(" ")
+                text = encoded(text)
+                yield Case(f"{path.stem}: {task} {name or last_line(text)}", task, text, encoded(output), said.encode() or None)
 
 
 def last_line(text):

@@ -28,11 +28,11 @@ pub enum Held {
 /// Why a book has not learnt a fact. It is unchanged.
 #[derive(Clone, Copy, Debug, PartialEq, Eq, Error)]
 pub enum BookRefusal {
-    #[error("a reader or a roster of another size than its own")]
+    #[error("{shown} does not fit the roster of {own} readers")]
     OtherRoster { own: u8, shown: u8 },
-    #[error("another truncation of the epoch is held")]
+    #[error("another truncation of the epoch is stored")]
     OtherCut(Cut),
-    #[error("the fact contradicts what is held")]
+    #[error("the fact contradicts what is stored")]
     Contradiction(Held),
     #[error("out of memory")]
     Memory,

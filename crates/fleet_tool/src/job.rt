@@ -123,18 +123,18 @@ fn texts_command<'a>(alloc: Global) -> Result<Command<'a>, AllocError>
         alloc,
         program(alloc),
         "run",
-        "Answers the script on standard input",
+        "Runs the script on standard input",
         help::RUN,
     )?;
     let with_check = with_lines(
         alloc,
         with_run,
         "check",
-        "Tells whether the log on standard input is sound",
+        "Checks whether the log on standard input is sound",
         help::CHECK,
     )?;
     let inspect = Command::new(alloc, "inspect")
-        .about("Tells what each line of hexadecimal digits on standard input encodes")
+        .about("Decodes each line of hexadecimal digits on standard input")
         .after_help(help::INSPECT);
     with_check.subcommand(inspect)
 }

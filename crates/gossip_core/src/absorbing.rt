@@ -21,10 +21,10 @@ use thiserror::Error;
 #[derive(Clone, Copy, Debug, PartialEq, Eq, Error)]
 pub enum AbsorbRefusal {
     /// The segment does not answer for the summary that the delta was made for: `shown` is uncovered.
-    #[error("the segment does not answer for the summary")]
+    #[error("the segment does not cover the summary")]
     Uncovered { shown: Shown },
     /// A fact that the delta exports is refused.
-    #[error("what the delta tells is refused")]
+    #[error("a fact of the delta is refused")]
     Refused(Refusal),
 }
 

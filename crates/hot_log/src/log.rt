@@ -61,7 +61,7 @@ pub enum Put {
 /// Why a put was refused.
 #[derive(Clone, Copy, Debug, PartialEq, Eq, Error)]
 pub enum PutFault {
-    #[error("another record is held under the key")]
+    #[error("another record with this key is stored")]
     OtherRecord,
     #[error("out of memory")]
     Memory,

@@ -24,25 +24,25 @@ use thiserror::Error;
 #[derive(Clone, Copy, Debug, PartialEq, Eq, Error)]
 pub enum Breach {
     /// The earlier fact of the same key (law 1).
-    #[error("fact {place} has the same key and another content")]
+    #[error("fact {place} has the same key and different content")]
     OtherFact { place: u64 },
     /// The least epoch that has no truncation, up to the fact's own (laws 2 and 5).
     #[error("epoch {epoch} has no truncation")]
     NotBegun { epoch: u16 },
     /// The truncation of the record's epoch, whose `hi` is not below its LSN (law 2).
-    #[error("its number is not above the hi of fact {place}")]
+    #[error("its LSN is not above the hi of fact {place}")]
     NotAbove { place: u64 },
     /// The record that the backlink should name, above the LSN that it names (laws 3 and 4).
-    #[error("its backlink passes over the record of fact {place}")]
+    #[error("its backlink skips the record of fact {place}")]
     Passes { place: u64 },
     /// The LSN that the backlink names, above those of all records that it may name (laws 3 and 4).
-    #[error("its backlink names {number}, which no record has that it may name")]
+    #[error("its backlink {number} is not the LSN of a record that it may name")]
     NoTarget { number: u64 },
     /// The reader, outside the roster (law 5).
-    #[error("reader {reader} is not of the roster")]
+    #[error("reader {reader} is not in the roster")]
     NoReader { reader: u8 },
     /// The later truncation that all readers are past, whose `lo` is below the advance's point (law 5).
-    #[error("fact {place} cuts below its point, and all readers are past that")]
+    #[error("fact {place} truncates below its point, although all readers are past that truncation")]
     CutBelow { place: u64 },
 }
 

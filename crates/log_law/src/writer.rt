@@ -19,9 +19,9 @@ pub enum WriterFault {
     Shape(ShapeFault),
     #[error("lo is below the minimum read point {point}")]
     LoBelowAdvance { point: u64 },
-    #[error("the number is not above {bound}")]
+    #[error("the LSN is not above {bound}")]
     NumberNotAbove { bound: u64 },
-    #[error("reader {shown} is not of the roster of {own}")]
+    #[error("reader {shown} is not in the roster of {own} readers")]
     OtherRoster { own: u8, shown: u8 },
     #[error("no epoch is left")]
     EpochsUsedUp,

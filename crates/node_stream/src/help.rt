@@ -1,49 +1,50 @@
-//! What the program says of itself.
+//! The help of the program.
 
 pub const VERSION: &str = "fleet-node 1.0
 ";
 
-pub const HELP: &str = "One storage segment that answers request lines, or request frames
+pub const HELP: &str = "One storage segment that answers requests on standard input
 
 Usage: fleet-node [--frames] [--birth N] | --help | --version
 
-Input, a line each, ended by LF; words stand between single spaces:
-  open R                an empty segment of R readers, 1 to 15, stands in place of the segment; at first R is 1
-  take HEX              a fact has come
+Input, a line each, ended by LF, with single spaces between words:
+  open R                replaces the segment by an empty one of R readers, 1 to 15; the first segment has 1
+  take HEX              delivers a fact
   front                 epoch, complete point and minimum read point
   gap                   what the complete point waits for
-  state                 what is stored, in numbers
-  read G Q OFF LEN      LEN bytes from OFF on of page G at point Q
-  next E N              the held record with the least key above epoch E and number N
+  state                 counts of what is stored
+  read G Q OFF LEN      LEN bytes from offset OFF of page G at point Q
+  next E N              the stored record with the least key above epoch E and LSN N
   ask                   the summary of the segment
-  answer HEX [N]        what the segment has beyond a summary; with N large where that is more than N bytes
-  absorb HEX HEX        a summary that was told here, and the delta that answers it
-  fold G                page G is brought to the anchor
-  discard, tidy         forget what is folded; fold all, and forget what is not needed
-  freeze NAME           a snapshot is kept until the next one
-  piece I               its piece I, from 0
-  stage NAME T          a staging for the T pieces of a snapshot
-  add HEX               a piece of it
-  finish                the segment of its pieces stands in place of the segment
-  unite                 the segment of its pieces is joined into the segment
+  answer HEX [N]        what the segment has beyond a summary; with N, large where that exceeds N bytes
+  absorb HEX HEX        merges a delta; the first value is the summary of this segment that it answers
+  fold G                folds page G up to the anchor
+  discard               removes folded records
+  tidy                  folds all pages, and removes what is not needed
+  freeze NAME           keeps a snapshot, until the next one
+  piece I               piece I of the snapshot, from 0
+  stage NAME T          begins a staging for the T pieces of a snapshot
+  add HEX               adds a piece to the staging
+  finish                replaces the segment by the segment of the staged pieces
+  unite                 merges the segment of the staged pieces into the segment
 
-Several engines, of which the node answers one; it is the node of birth N, 0 without --birth:
-  status                generation, birth, member or not, front, and the accepted truncation
-  fence G               a member answers the engine of generation G from now on
-  as G B REQUEST        REQUEST, for the engine of generation G and in birth B alone
-  propose G B E LO HI   a truncation is accepted from that engine
-  admit G B E C [..]    a fresh node of birth B becomes a member; behind C stand G, E, LO and HI of a truncation that it has accepted
+Several engines, of which the node serves one; N of --birth is the birth of the node, 0 without it:
+  status                generation, birth, membership, front, and the accepted truncation
+  fence G               a member serves the engine of generation G from now on
+  as G B REQUEST        REQUEST, only for the engine of generation G and in birth B
+  propose G B E LO HI   accepts a truncation from that engine
+  admit G B E C [..]    makes a fresh node of birth B a member; after C: G, E, LO and HI of a truncation that it has accepted
 
-Each line is answered by one line, before the next one is looked at. A line that asks for nothing is answered bad line, bad hex or wire N,
-one of more than 67108864 bytes long line; memory says that there was no memory, and then nothing has changed.
+Each line gets one line as its answer, before the next one is read. The answer to an invalid line is bad line, bad hex or wire N, and
+to a line of more than 67108864 bytes long line. The answer memory says that memory ran out and nothing has changed.
 
-With --frames each request and each answer is a frame: a length in four bytes, the highest first, and so many bytes, those of the line
-without its LF. Bytes stand there as they are in place of HEX; absorb has the number of the summary's bytes and a space in front of both,
-and answer HEX N is within, a space, N, a space and the summary's bytes.
-A frame that asks for nothing is answered bad request or wire N, one of more than 67108864 bytes long frame. Behind the word many and a
-space stand whole frames of requests; the answer is the frames of their answers, 67108864 bytes of them at most. What exceeds these is
-answered long and has changed nothing: ask again in a frame of its own, or with fewer requests in one.
+With --frames each request and each answer is a frame: its length in four bytes, most significant byte first, and its bytes, which are
+those of the line without LF. Bytes replace HEX; in absorb the length of the summary and a space precede both values, and answer HEX N
+is within, a space, N, a space and the summary.
+The answer to an invalid frame is bad request or wire N, and to a frame of more than 67108864 bytes long frame. The word many and a
+space may precede whole frames of requests; the answer consists of the frames of their answers, at most 67108864 bytes. An answer that
+does not fit is long, and its request has changed nothing: send it again in a frame of its own, or with fewer requests in one frame.
 
-Statuses: 0 the input has ended, 2 a bad command line, 4 a device that failed, 5 no memory.
-The lines, the frames and their answers stand in docs/EMBEDDING.md, the bytes in docs/FORMATS.md.
+Exit status: 0 the input has ended, 2 a bad command line, 4 a device failed, 5 out of memory.
+docs/EMBEDDING.md describes requests and answers, docs/FORMATS.md the bytes.
 ";

@@ -36,12 +36,12 @@ pub enum ShapeFault {
 impl fmt::Display for ShapeFault {
     fn fmt<W: fmt::Write>(&self, f: &mut fmt::Formatter<W>) -> fmt::Result {
         f.write_str(match self {
-            ShapeFault::NumberIsZero => "the number or point is zero",
-            ShapeFault::BackNotBelow => "the segment backlink is not below the number",
+            ShapeFault::NumberIsZero => "the LSN or point is 0",
+            ShapeFault::BackNotBelow => "the segment backlink is not below the LSN",
             ShapeFault::BlockBackAbove => "the block backlink is above the segment backlink",
             ShapeFault::ManyWrites => "more than 64 writes",
-            ShapeFault::EmptyWrite => "a write without bytes",
-            ShapeFault::OffPage => "a write goes past the end of its page",
+            ShapeFault::EmptyWrite => "a write has no bytes",
+            ShapeFault::OffPage => "a write ends past its page",
             ShapeFault::ManyBytes => "more than 8,192 bytes",
             ShapeFault::EpochIsZero => "a truncation of epoch 0",
             ShapeFault::LoAboveHi => "lo is above hi",

@@ -22,11 +22,11 @@ impl fmt::Display for WireFault {
     fn fmt<W: fmt::Write>(&self, f: &mut fmt::Formatter<W>) -> fmt::Result {
         f.write_str(match self {
             WireFault::Short => "the bytes end inside a field",
-            WireFault::UnknownTag => "a tag that may not stand here",
+            WireFault::UnknownTag => "a tag that is not allowed here",
             WireFault::Shape => "a shape rule is broken",
             WireFault::Order => "an element is not above the one before it",
             WireFault::Rest => "bytes are left after the value",
-            WireFault::TooLong => "a list is longer than its count field holds",
+            WireFault::TooLong => "a list has more elements than its count field can express",
         })
     }
 }

@@ -21,8 +21,9 @@ impl fmt::Display for NumberFault {
     fn fmt<W: fmt::Write>(&self, f: &mut fmt::Formatter<W>) -> fmt::Result {
         f.write_str(match self {
             NumberFault::Above(limit) => return write!(f, "is above {limit}"),
-            NumberFault::Empty => "is empty: one space parts two fields, and none stands at an end",
-            NumberFault::NotDigits => "has a byte that is no decimal digit",
+            NumberFault::Empty =>
+                "is empty: exactly one space separates two fields, and a line neither starts nor ends with a space",
+            NumberFault::NotDigits => "has a byte that is not a decimal digit",
             NumberFault::LeadingZero => "has a leading zero",
         })
     }
@@ -41,12 +42,12 @@ pub enum PatchFault {
 impl fmt::Display for PatchFault {
     fn fmt<W: fmt::Write>(&self, f: &mut fmt::Formatter<W>) -> fmt::Result {
         f.write_str(match self {
-            PatchFault::Colon => "has no colon, or several",
+            PatchFault::Colon => "must have exactly one colon",
             PatchFault::Place =>
-                "has a place that is no OFF up to 65535, and no OFF*LEN with LEN up to 4096",
-            PatchFault::Digits => "has digits that are odd in number, or not hexadecimal",
-            PatchFault::NoBytes => "brings no bytes",
-            PatchFault::FillBytes => "is a fill, and brings more than one byte",
+                "must start with OFF, at most 65535, or with OFF*LEN, where LEN is at most 4096",
+            PatchFault::Digits => "must have an even number of digits, all hexadecimal",
+            PatchFault::NoBytes => "has no bytes",
+            PatchFault::FillBytes => "is a fill and must have exactly one byte",
         })
     }
 }
@@ -71,16 +72,16 @@ impl fmt::Display for LineReason {
         f.write_str(match self {
             LineReason::FieldCount { wanted } => return write!(
                 f,
-                "its word takes {wanted} fields behind it"
+                "it must have {wanted} fields after its first word"
             ),
             LineReason::Field { at, fault } => return write!(f, "field {at} {fault}"),
             LineReason::Zero { at } => return write!(f, "field {at} is 0"),
             LineReason::Patch { at, fault } => return write!(f, "patch {at} of field 7 {fault}"),
             LineReason::Shape(fault) => return fmt::Display::fmt(fault, f),
-            LineReason::CarriageReturn => "it ends with CR, and a line ends with LF alone",
-            LineReason::UnknownWord => "no line that begins with that word may stand here",
-            LineReason::AdvanceFieldCount => "`min` takes 2 or 3 fields behind it",
-            LineReason::PastPage => "the bytes to read end past the page, at 4096",
+            LineReason::CarriageReturn => "it ends with CR, but lines end with LF alone",
+            LineReason::UnknownWord => "its first word is unknown or not allowed here",
+            LineReason::AdvanceFieldCount => "it must have 2 or 3 fields after `min`",
+            LineReason::PastPage => "the bytes to read end past the page, which has 4096",
             LineReason::ManyPatches => "field 7 has more than 64 patches",
         })
     }
@@ -135,7 +136,7 @@ impl fmt::Display for TextReason {
             TextReason::Line(reason) => return fmt::Display::fmt(reason, f),
             TextReason::NoGo => "the text ends before the line `go`",
             TextReason::NoNodes => "the text ends before the line `nodes K`",
-            TextReason::NoLineEnd => "no LF ends it",
+            TextReason::NoLineEnd => "it does not end with LF",
             TextReason::ManyFacts => "there are more than 1,000,000 fact lines",
             TextReason::ManySteps => "there are more than 1,000,000 step lines",
         })
