@@ -26,7 +26,7 @@ pub enum FinishFault {
     #[error("piece {index} is missing")]
     Missing { index: u32 },
     /// The piece of this index cannot follow those before it.
-    #[error("piece {index} cannot stand where it does")]
+    #[error("piece {index} cannot follow the piece before it")]
     Malformed { index: u32 },
     #[error("out of memory")]
     Memory,

@@ -13,10 +13,10 @@ use thiserror::Error;
 #[derive(Clone, Copy, Debug, PartialEq, Eq, Error)]
 pub enum AddFault {
     /// The piece is of another name or total than the staging's.
-    #[error("the piece is of another snapshot")]
+    #[error("the piece belongs to another snapshot")]
     Stranger,
     /// The piece of this index has come already.
-    #[error("piece {index} has come already")]
+    #[error("piece {index} is staged already")]
     Double { index: u32 },
     #[error("out of memory")]
     Memory,

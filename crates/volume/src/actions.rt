@@ -61,14 +61,17 @@ impl fmt::Display for Fault {
     fn fmt<W: fmt::Write>(&self, f: &mut fmt::Formatter<W>) -> fmt::Result {
         match self {
             Fault::Fenced { generation } => write!(f, "fenced by generation {generation}"),
-            Fault::NoQuorum { have, need } => write!(f, "{have} nodes, and a quorum is {need}"),
+            Fault::NoQuorum { have, need } => write!(
+                f,
+                "only {have} nodes can be part of a quorum of {need}"
+            ),
             Fault::NotOpen => f.write_str("the volume is not open"),
-            Fault::Ahead { durable } => write!(f, "durable up to {durable} alone"),
-            Fault::Full => f.write_str("no number or epoch is left"),
+            Fault::Ahead { durable } => write!(f, "durable only up to {durable}"),
+            Fault::Full => f.write_str("no LSN or epoch is left"),
             Fault::NotFresh => f.write_str("a node is not fresh"),
-            Fault::Reserved => f.write_str("the bytes are the volume's own"),
-            Fault::LongHeader => f.write_str("a header of more than 1,024 bytes"),
-            Fault::Damaged => f.write_str("the nodes do not have the log of one volume"),
+            Fault::Reserved => f.write_str("the volume reserves these bytes"),
+            Fault::LongHeader => f.write_str("the header has more than 1,024 bytes"),
+            Fault::Damaged => f.write_str("the nodes do not store the log of one volume"),
             Fault::Shape(fault) => write!(f, "{fault}"),
         }
     }

@@ -28,7 +28,8 @@ impl fmt::Display for SettingsFault {
     fn fmt<W: fmt::Write>(&self, f: &mut fmt::Formatter<W>) -> fmt::Result {
         f.write_str(match self {
             SettingsFault::Nodes => "no nodes, or more than 15",
-            SettingsFault::Quorum => "a quorum of half of the nodes or less, or of more than all",
+            SettingsFault::Quorum =>
+                "a quorum must be more than half of the nodes, and not more than all",
         })
     }
 }
