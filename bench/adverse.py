@@ -3,7 +3,7 @@
 
     adverse.py [--peer PROGRAM] [--program PROGRAM] [--only a,b] [--sizes N ..] [--runs N] [--most GROWTH]
 
-Each task is a script of about a size, in facts. A row tells the seconds of processor time, the most memory held, and for each the
+Each task is a script of about a size, in facts. A row shows the CPU seconds, the most memory held, and for each the
 exponent of growth from the least size to the greatest, by the bytes of the text. With --peer another program reads the same texts,
 and the answers may not differ by a byte. With --most the status is 1 where an exponent is above it.
 """
@@ -96,7 +96,7 @@ def from_the_end(size):
 
 
 def epochs_from_the_end(size):
-    """The same of a log with a truncation in a hundred records."""
+    """The same of a log with a truncation for every 100 records."""
     facts = log(size, max(1, size // SHARE), 20)
     return taken(facts, range(len(facts), 0, -1))
 
@@ -129,7 +129,7 @@ def truncation_after_ten(size):
 
 
 def truncations_at_the_end(size):
-    """All records, and then the truncations: each opens an epoch of which records are held."""
+    """All records, and then the truncations: each opens an epoch whose records are stored already."""
     facts = log(size, epochs_of(size), 20)
     return taken(facts, places_of(facts, "rec", "cut", "min"))
 

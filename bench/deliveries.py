@@ -3,7 +3,7 @@
 
 The program is the crate `thread_cases`, proved and built over this tree's `node_cell`, of whose input the first section is used. It makes
 the facts of a log, deals them to threads and lets those deliver them, each fact once. A round has a run that delivers to a node, one
-to the mutex, and one that makes and deals the facts and lets them go, whose wall and processor seconds are taken off those of both.
+to the mutex, and one that makes and deals the facts and lets them go, whose wall and CPU seconds are taken off those of both.
 The medians of the rounds are printed.
 """
 
@@ -28,7 +28,7 @@ def built():
 
 
 def measured(program, taker, threads, facts):
-    """Wall and processor seconds of a run."""
+    """Wall and CPU seconds of a run."""
     before, start = resource.getrusage(resource.RUSAGE_CHILDREN), time.perf_counter()
     line = f"deliver {taker} all {threads} {facts}"
     answer = subprocess.run([program], input=f"{line}\n".encode(), stdout=subprocess.PIPE, check=True).stdout.decode()
@@ -40,7 +40,7 @@ def measured(program, taker, threads, facts):
 
 
 def told(runs, idle, facts):
-    """Deliveries a second and processor seconds, without those of the run that delivers nothing."""
+    """Deliveries a second and CPU seconds, without those of the run that delivers nothing."""
     walls, busy = zip(*((run[0] - none[0], run[1] - none[1]) for run, none in zip(runs, idle)))
     return f"{facts / statistics.median(walls):,.0f} / {statistics.median(busy):.3f}"
 
@@ -53,7 +53,7 @@ def main(words):
     parser.add_argument("--program", type=pathlib.Path, help="the program, where it is built already")
     given = parser.parse_args(words)
     program = given.program or built()
-    print("| threads | a node, deliveries a second / processor seconds | a mutex |\n|---|---|---|")
+    print("| threads | a node, deliveries a second / CPU seconds | a mutex |\n|---|---|---|")
     for threads in given.threads:
         rounds = [[measured(program, taker, threads, given.facts) for taker in ("none", "cell", "mutex")] for _ in range(given.runs)]
         idle, cell, mutex = zip(*rounds)

@@ -1,6 +1,6 @@
 #!/usr/bin/env python3
 """Measures takes of a sound log by frames through the archive in this process, one at a time, many at once and many in a frame, and by
-lines through a process of `fleet-node`: seconds on the clock, processor seconds of both sides, and takes a second of each.
+lines through a process of `fleet-node`: seconds on the clock, CPU seconds of both sides, and takes a second of each.
 
     frames.py [--archive ARCHIVE] [--program PROGRAM] [--sizes N ..] [--batches B ..] [--runs N]
 
@@ -8,7 +8,7 @@ A batch is sent at once, each take in a frame of its own or all in one, and its 
 one is what a call that waits for its answer costs. By lines all come at once from a file. Each answer must be `changed`.
 
 Then the archive's segment alone, in a process that has all frames in a file: takes, and as many that are read to their end and refused
-for a byte behind it. What these cost is the way to a call and back, so the rest is the call itself.
+for a byte after it. What these cost is the way to a call and back, so the rest is the call itself.
 """
 
 import argparse
@@ -34,7 +34,7 @@ CHANGED = frame(b"changed")
 
 
 def alone(frames):
-    """Frames one behind the other."""
+    """Frames, one after the other."""
     return b"".join(frames)
 
 
@@ -44,7 +44,7 @@ def together(frames):
 
 
 def by_frames(serve, requests, batch, put):
-    """Seconds, and processor seconds, until all is answered."""
+    """Seconds, and CPU seconds, until all is answered."""
     segment = archive.Segment(serve)
     parts = [(put(requests[at : at + batch]), min(batch, len(requests) - at)) for at in range(0, len(requests), batch)]
     answers = {count: CHANGED * count if put is alone else frame(CHANGED * count) for _, count in parts}
@@ -68,7 +68,7 @@ def by_lines(program, size, folder):
 
 
 def of_segment(served, requests, put, folder):
-    """Processor seconds of a process that answers all of them out of a file."""
+    """CPU seconds of a process that answers all of them out of a file."""
     source, target = os.path.join(folder, "given"), os.path.join(folder, "answers")
     with open(source, "wb") as given:
         for at in range(0, len(requests), MOST):
@@ -98,7 +98,7 @@ def main():
     parser.add_argument("--runs", type=int, default=3, help="how often each is measured")
     given = parser.parse_args()
     print(f"{os.cpu_count()} cores, median of {given.runs}\n")
-    print("| takes | how many | s | processor s | a second | a processor second |\n|---|---|---|---|---|---|")
+    print("| takes | how many | s | CPU s | a second | a CPU second |\n|---|---|---|---|---|---|")
     with tempfile.TemporaryDirectory(prefix="frames-") as folder:
         serve = archive.library(given.archive.resolve(), pathlib.Path(folder))
         for size in given.sizes:

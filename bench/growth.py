@@ -61,7 +61,7 @@ def print_all(description, tasks, sizes, statuses):
     if unknown or len(given.sizes) < 2:
         parser.error(f"no task is named {unknown[0]}" if unknown else "two sizes at least")
     programs = [path.resolve() for path in (given.program, given.peer) if path is not None]
-    print(f"{os.cpu_count()} cores, processor time, median of {given.runs}\n")
+    print(f"{os.cpu_count()} cores, CPU time, median of {given.runs}\n")
     print("| task | size | kB | s | peer, s | MB | peer, MB |\n|---|---|---|---|---|---|---|")
     with tempfile.TemporaryDirectory(prefix="fleet-growth-") as folder:
         found = [told(name, tasks[name], statuses.get(name, 0), programs, given, folder) for name in names]

@@ -3,7 +3,7 @@
 
     hostile.py [--peer PROGRAM] [--program PROGRAM] [--only a,b] [--sizes N ..] [--runs N] [--most GROWTH]
 
-Each task is a text over a sound log, whose length grows as its size does. A row tells the seconds of processor time, the most memory
+Each task is a text over a sound log, whose length grows as its size does. A row shows the CPU seconds, the most memory
 held, and for each the exponent of growth from the least size to the greatest, by the bytes of the text. With --peer another program
 reads the same texts, and the answers may not differ by a byte. With --most the status is 1 where an exponent is above it.
 
@@ -75,7 +75,7 @@ def dead_with_one_backlink(size):
 
 
 def reads_behind_dead(size):
-    """The same, and then as many reads of the page behind its annulled records."""
+    """The same, and then as many reads of the page after its annulled records."""
     return [*dead_with_one_backlink(size), *["read 1 1 1 0 1"] * size]
 
 
@@ -271,7 +271,7 @@ MOST_HELD = 3  # how often its own length a bad text may hold
 
 
 def instructions_of(program, lines, folder, wanted=0):
-    """The instructions of a run over the lines, which ends with the status that is wanted."""
+    """The instructions of a run over the lines, which must end with the given status."""
     text = os.path.join(folder, "given")
     with open(text, "w") as given:
         given.writelines(line + "\n" for line in lines)

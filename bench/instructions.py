@@ -17,7 +17,7 @@ COUNTERS = (
 
 
 def counted_by(words, form, command, source=subprocess.DEVNULL, wanted=0):
-    """The instructions of a command as a counter tells them, or None where it tells none or the command ends with another status."""
+    """The instructions of a command as a counter reports them, or None where it reports none or the command ends with another status."""
     ran = subprocess.run([*words, *command], stdin=source, stdout=subprocess.DEVNULL, stderr=subprocess.PIPE)
     found = form.search(ran.stderr)
     return int(found[1]) if found and ran.returncode == wanted else None

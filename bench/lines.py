@@ -1,5 +1,5 @@
 #!/usr/bin/env python3
-"""Measures `fleet-node` on request lines of several sizes: processor seconds, lines a second of them, and the most memory held.
+"""Measures `fleet-node` on request lines of several sizes: CPU seconds, lines a second of them, and the most memory held.
 
     lines.py [--program PROGRAM] [--only a,b] [--sizes N ..] [--runs N]
 
@@ -51,7 +51,7 @@ TASKS = {"takes": takes, "reads": reads, "fronts": fronts}
 
 
 def run_once(program, source, target):
-    """Processor seconds, and the most memory held, in MB."""
+    """CPU seconds, and the most memory held, in MB."""
     with open(source, "rb") as given, open(target, "wb") as answers:
         child = subprocess.Popen([program], stdin=given, stdout=answers)
         _, status, used = os.wait4(child.pid, 0)
@@ -83,7 +83,7 @@ def main():
     unknown = [name for name in given.only.split(",") if name not in TASKS]
     if unknown:
         parser.error(f"no task is named {unknown[0]}")
-    print(f"{os.cpu_count()} cores, processor time, median of {given.runs}\n")
+    print(f"{os.cpu_count()} cores, CPU time, median of {given.runs}\n")
     print("| task | lines | s | lines a second | MB |\n|---|---|---|---|---|")
     with tempfile.TemporaryDirectory(prefix="fleet-lines-") as folder:
         for name in given.only.split(","):

@@ -14,7 +14,7 @@ import random
 import sys
 
 GAP = 8  # numbers between the last of an epoch and the `hi` of the next
-INIT_EACH = 64  # of so many records one begins its page anew
+INIT_EACH = 64  # of so many records one begins its page from zeros
 FILL_EACH = 4  # of so many records one fills a range
 
 
@@ -99,7 +99,7 @@ def main():
     parser.add_argument("--epochs", type=int, default=0, help="how many truncations, 0 to 65535")
     parser.add_argument("--advances", type=int, default=0, help="how many advances of the minimum read point")
     parser.add_argument("--readers", type=int, default=1, help="how many readers advance in turn, 1 to 15")
-    parser.add_argument("--inits", action="store_true", help=f"one of {INIT_EACH} records begins its page anew")
+    parser.add_argument("--inits", action="store_true", help=f"one of {INIT_EACH} records begins its page from zeros")
     parser.add_argument("--fills", action="store_true", help=f"one of {FILL_EACH} records fills a range")
     parser.add_argument("--shuffle", type=int, metavar="SEED", help="put the facts in a random order")
     parser.add_argument("--run", action="store_true", help="end with `go` and the nodes: a script without steps")

@@ -3,7 +3,7 @@
 
     measure.py [--peer PROGRAM] [--program PROGRAM] [--only a,b] [--sizes N ..] [--runs N]
 
-Each task is a text of a size, in facts or in steps, which each program reads N times in turn. A row tells the processor time of both
+Each task is a text of a size, in facts or in steps, which each program reads N times in turn. A row shows the CPU time of both
 (user and system, the median), their ratio, the exponent of growth from the least size to the greatest, and the most memory
 that each held; where perf or callgrind counts them and the text is no longer than the counter can bear, also the millions of
 instructions, which do not waver. Then come three calls that are to cost the same however much is held: a fold of one page, a discard of one
@@ -43,7 +43,7 @@ def room_of(size):
 
 
 def held_of(size):
-    """How many records are held beside those that the calls go to, which want four steps each, and a last step."""
+    """How many other records are stored: each record that the calls name takes four steps, and there is a last step."""
     return min(size, MOST - 4 * CALLS - 1)
 
 
@@ -155,7 +155,7 @@ WORDS = {"check": "check", "inspect": "inspect"}  # what the program is told to 
 
 
 def held(size):
-    """Records of other pages, all held, and the writer behind them."""
+    """Records of other pages, all stored, and the writer after them."""
     writer = make_log.Writer()
     pages = pages_of(SIZES[0])
     facts = [writer.record(1 + turn % pages) for turn in range(held_of(size))]
@@ -197,7 +197,7 @@ FLAT = {"fold": fold_calls, "discard": discard_calls, "read": read_calls}
 
 
 def run_once(program, word, source, target, wanted=0):
-    """Processor seconds, and the most memory held, in MB, of a run that ends with the status that is wanted."""
+    """CPU seconds, and the most memory used, in MB, of a run that must end with the given status."""
     with open(source, "rb") as given, open(target, "wb") as answer:
         child = subprocess.Popen([program, word], stdin=given, stdout=answer)
         _, status, used = os.wait4(child.pid, 0)
@@ -219,7 +219,7 @@ def write_apart(lines_of, source):
 
 
 def run_all(programs, word, lines_of, runs, folder, wanted=0):
-    """For each program the median of its processor seconds, and its peak; the programs take turns."""
+    """For each program the median of its CPU seconds, and its peak; the programs take turns."""
     source = os.path.join(folder, "given")
     write_apart(lines_of, source)
     targets = [os.path.join(folder, f"answer{place}") for place in range(len(programs))]

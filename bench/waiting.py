@@ -2,7 +2,7 @@
 """Measures how threads wait at a node's lock, beside a mutex round the same work.
 
 The program is the crate `thread_cases`, proved and built over this tree's `node_lock`, of whose input the first section is used. Each
-task is run a few times at each number of threads, with the lock and with the mutex, and the medians of the wall and processor seconds are
+task is run a few times at each number of threads, with the lock and with the mutex, and the medians of the wall and CPU seconds are
 printed.
 """
 
@@ -31,7 +31,7 @@ def built():
 
 
 def measured(program, line):
-    """Wall and processor seconds of a run."""
+    """Wall and CPU seconds of a run."""
     before, start = resource.getrusage(resource.RUSAGE_CHILDREN), time.perf_counter()
     subprocess.run([program], input=line, stdout=subprocess.DEVNULL, check=True)
     wall, after = time.perf_counter() - start, resource.getrusage(resource.RUSAGE_CHILDREN)
@@ -50,7 +50,7 @@ def main(words):
     parser.add_argument("--program", type=pathlib.Path, help="the program, where it is built already")
     given = parser.parse_args(words)
     program = given.program or built()
-    print("| task | threads | the lock, wall / processor seconds | a mutex |\n|---|---|---|---|")
+    print("| task | threads | the lock, wall / CPU seconds | a mutex |\n|---|---|---|---|")
     for name, kind, turns, rounds in TASKS:
         for threads in given.threads:
             told = [median(program, given.runs, f"turns {lock} {kind} {threads} {turns} {rounds}\n") for lock in ("lock", "mutex")]

@@ -4,7 +4,7 @@
 A database writes redo records, truncates them once, and lets its readers advance. One node is killed and comes back from the files
 that this program keeps for it: its last snapshot and what it has taken since. Another one loses its files as well, and comes back
 empty: what it lacks is too large for one answer, so it stages the pieces of a peer's snapshot, and unites them with what it has taken
-meanwhile. In the end all three tell the same summary, byte for byte, and each page that may be read is that of a plain replay.
+meanwhile. In the end all three send the same summary, byte for byte, and each page that may be read is that of a plain replay.
 
     examples/cluster.py                      with ./fleet-node, which is built where it is not there
     examples/cluster.py --program PROGRAM    with another program that answers the same lines
@@ -47,14 +47,14 @@ class Database:
         return record(self.epoch, self.number, back, page, block_back, offset, data)
 
     def truncate(self, count):
-        """Annuls the last so many records: the database has crashed, and begins its next epoch behind what it keeps."""
+        """Annuls the last so many records: the database has crashed, and begins its next epoch after what it keeps."""
         del self.alive[-count:]
         self.epoch += 1
         lo, self.number = self.alive[-1][0], self.number + 10
         return truncation(self.epoch, lo, self.number)
 
     def advance(self):
-        """No reader wants anything below the first half of what is written."""
+        """No reader needs anything below the first half of what is written."""
         return advance(self.epoch, self.alive[len(self.alive) // 2][0])
 
     def page(self, page, point):
@@ -96,7 +96,7 @@ class Node(Client):
         return len(pieces)
 
     def restart(self):
-        """A new process, told all that is kept of the old one; how many lines that was."""
+        """Starts a new process and sends it all that is kept of the old one; returns the number of lines."""
         self.start()
         lines = [line for file in (self.snapshot, self.tail) if file.exists() for line in file.read_text().splitlines()]
         for line in lines:
@@ -126,7 +126,7 @@ class Network:
         self.carried += [(moment + self.choose.randrange(1, 40), deliver) for _ in range(copies)]
 
     def wake(self, moment, act):
-        """What a node means to do at a later moment goes over no network."""
+        """What a node means to do later is sent over no network."""
         self.carried.append((moment, act))
 
     def deliver(self, moment):
@@ -202,7 +202,7 @@ class Cluster:
         self.network.wake(self.moment + PATIENCE, unite)
 
     def tend(self):
-        """Work that changes no answer: a page is folded, and what is folded is thrown away."""
+        """Work that changes no answer: a page is folded, and what is folded is dropped."""
         node = self.choose.choice(self.nodes)
         node.take("fold", self.choose.randrange(PAGES))
         node.take("discard")

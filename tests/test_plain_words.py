@@ -1,8 +1,9 @@
-"""That the documents and the docstrings of public items are plain: the words that they avoid, and limits of length.
+"""That documents, help pages, messages and the docstrings of public items are plain: the words that they avoid, and limits of length.
 
 Names in backquotes and blocks of code are left out, so formats, commands and signatures keep their words.
 """
 
+import ast
 import re
 
 import pytest
@@ -10,6 +11,8 @@ import pytest
 from harness import ROOT
 
 PAGES = [ROOT / "README.md", *sorted((ROOT / "docs").glob("*.md")), *sorted(ROOT.glob("*/README.md")), *sorted(ROOT.glob("crates/*/README.md"))]
+HELP = sorted((ROOT / "docs/help").glob("*.txt"))
+PROGRAMS = ["bench/*.py", "examples/*.py", "tools/*.py", "client/src/**/*.rs", "embedding/src/**/*.rs", "sqlite/src/*.c", "store/src/**/*.rs", "volume/src/**/*.rs"]
 CRATES = sorted(path.name for path in (ROOT / "crates").iterdir() if (path / "src").is_dir())
 
 # What to write in place of a word; the words are those that mean several things, or that the field has another term for.
@@ -44,6 +47,8 @@ AVOIDED = {re.compile(rf"\b(?:{words})\b", re.I): instead for words, instead in 
 BLOCK = r"^```[\s\S]*?^```$|^    .*$"
 CODE = re.compile(BLOCK + r"|`[^`\n]*`", re.M)
 WORD = re.compile(r"\S*\w\S*")
+# A comment, a character, bytes or a text of a source file; the text alone is a group.
+TOKEN = re.compile(r"""//.*|/\*[\s\S]*?\*/|'(?:\\.|[^'\\])'|b"(?:[^"\\]|\\.)*"|"((?:[^"\\]|\\[\s\S])*)\"""")
 LONGEST_MEAN = 20  # words of a sentence, on each page
 # Words of a page, without its blocks of code.
 MOST_WORDS = {
@@ -107,6 +112,16 @@ def docstrings(text):
     return "\n".join(kept)
 
 
+def messages(path):
+    """The texts in a source file that have a space, a line each, without what a format fills in. Modules of tests are left out."""
+    if path.suffix == ".py":
+        found = [it.value for it in ast.walk(ast.parse(path.read_text())) if isinstance(it, ast.Constant) and isinstance(it.value, str)]
+    else:
+        source = re.sub(r"#\[cfg\(test\)\][\s\S]*", "", path.read_text())
+        found = [it[1] for it in TOKEN.finditer(source) if it[1]]
+    return "\n".join(re.sub(r"\{[^}]*\}|\n", " ", it) for it in found if " " in it)
+
+
 def without_code(text):
     return re.sub(BLOCK, "", text, flags=re.M)
 
@@ -120,7 +135,7 @@ def sentences(text):
                 yield len(WORD.findall(sentence))
 
 
-@pytest.mark.parametrize("page", PAGES, ids=name_of)
+@pytest.mark.parametrize("page", PAGES + HELP, ids=name_of)
 def test_pages_avoid_words(page):
     text = page.read_text()
     assert list(avoided(meanings(text) if page.name == "GLOSSARY.md" else text)) == []
@@ -131,6 +146,11 @@ def test_docstrings_avoid_words(crate):
     files = sorted((ROOT / "crates" / crate / "src").glob("**/*.rt"))
     found = [f"{name_of(path)}, {word}" for path in files for word in avoided(docstrings(path.read_text()))]
     assert found == []
+
+
+@pytest.mark.parametrize("place", PROGRAMS + [f"crates/{name}/src/**/*.rt" for name in CRATES if not name.endswith("_cases")])
+def test_messages_avoid_words(place):
+    assert [f"{name_of(path)}, {word}" for path in sorted(ROOT.glob(place)) for word in avoided(messages(path))] == []
 
 
 @pytest.mark.parametrize("page", PAGES, ids=name_of)

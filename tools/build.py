@@ -70,7 +70,7 @@ def mark_programs(names, began):
 
 
 def stale(crates, order):
-    """The crates whose library is older than a source of theirs or of a crate below; only a hint, since rt looks at the contents."""
+    """The crates whose library is older than a source of theirs or of a crate below; only a hint, since rt compares the contents."""
     found = set()
     for name in order:
         stamp = ROOT / "crates" / name / "out/rlib/stamp"

@@ -10,7 +10,7 @@ From the top: the chain of the segment, with a lane for each epoch and what each
 advances of each reader; and of each node what came to it, its anchor, and where its pages may be read. In place of nodes a log
 has a row that all its facts came to. A log that is not sound is drawn without nodes, with the first place that breaks a law.
 
-What is said of nodes comes from the rules (`oracle.py`), and not from the program. What a node has folded or thrown away does not
+What is said of nodes comes from the rules (`oracle.py`), and not from the program. What a node has folded or dropped does not
 show, for it changes no answer. A text that is no log and no script, one of more than 400 facts and a step that is not there end with
 a message on standard error and status 2.
 """
@@ -136,7 +136,7 @@ def draw_head(picture, title, subtitle):
 
 
 def draw_grid(picture, begin):
-    """A faint line down each column, behind all else."""
+    """A faint line down each column, below all else."""
     front, picture.forms = picture.forms, []
     for x in picture.at.values():
         picture.line(x, begin, x, picture.y, forms.GRID)

@@ -1,7 +1,7 @@
 """The forms of a picture of a log, as SVG: a canvas that collects them, the marks on it, and the legend of those that were drawn.
 
-Each place is a whole number and nothing goes by the order of a set, so one picture has one encoding in bytes. No mark is told from
-another by its colour alone: each has its own shape, or its own dashes.
+Each place is a whole number and nothing goes by the order of a set, so one picture has one encoding in bytes. No two marks
+differ in colour alone: each has its own shape, or its own dashes.
 """
 
 from html import escape
@@ -58,13 +58,13 @@ class Canvas:
         self.kinds.add(kind)
         LEGEND[kind][1](self, x, y)
 
-    def svg(self, width, height, title, told):
-        """The whole picture; `told` says in words what it shows."""
+    def svg(self, width, height, title, description):
+        """The whole picture; `description` says in words what it shows."""
         head = (
             f'<svg xmlns="http://www.w3.org/2000/svg" width="{width}" height="{height}" viewBox="0 0 {width} {height}" '
-            'role="img" aria-labelledby="title told" font-family="DejaVu Sans, Verdana, Arial, sans-serif">'
+            'role="img" aria-labelledby="title description" font-family="DejaVu Sans, Verdana, Arial, sans-serif">'
         )
-        words = (f'<title id="title">{escape(title)}</title>', f'<desc id="told">{escape(told)}</desc>')
+        words = (f'<title id="title">{escape(title)}</title>', f'<desc id="description">{escape(description)}</desc>')
         ground = f'<rect width="{width}" height="{height}" fill="{PAPER}"/>'
         return "\n".join([head, *words, PATTERNS, ground, *self.forms, "</svg>", ""])
 
@@ -161,11 +161,11 @@ def small_init(canvas, x, y):
 
 # Of each kind: its words, and how it is drawn beside them
 LEGEND = {
-    "linked box": ("record, with number and page", small_box("linked")),
+    "linked box": ("record, with LSN and page", small_box("linked")),
     "dead box": ("dead record", small_box("dead")),
     "waiting box": ("record of an epoch not begun", small_box("waiting")),
     "apart box": ("record that is not linked", small_box("apart")),
-    "init": ("its page begins anew (init)", small_init),
+    "init": ("its page begins with zeros (init)", small_init),
     "fault": ("the record breaks a law", flag),
     "backlink": ("backlink to the record before", lambda canvas, x, y: arrow(canvas, f"M{x + 14},{y} H{x - 14}")),
     "annulled": ("annulled by a truncation", lambda canvas, x, y: annulled(canvas, x - 12, y - 9, 24, 16)),
@@ -173,7 +173,7 @@ LEGEND = {
     "point": ("advance, or a reader's point", point),
     "later point": ("advance that waits", lambda canvas, x, y: point(canvas, x, y, PAPER, stroke_dasharray="2 2")),
     "linked": ("linked", lambda canvas, x, y: canvas.circle(x, y, 6, INK)),
-    "apart": ("came, but is behind a gap", lambda canvas, x, y: canvas.circle(x, y, 6, stroke=INK, stroke_width=2)),
+    "apart": ("came, but is after a gap", lambda canvas, x, y: canvas.circle(x, y, 6, stroke=INK, stroke_width=2)),
     "waiting": ("waits for its epoch", waiting),
     "dead": ("came, and is dead", cross),
     "absent": ("has not come", absent),
