@@ -72,11 +72,11 @@ def test_what_is_no_log(store_program, fleet, tmp_path, rng):
     text[60] ^= 1
     (damaged / "log.0").write_bytes(text)
     for words, status, why in [
-        ((whole, other), 4, b"the logs are of 1 and of 2 readers"),
+        ((whole, other), 4, b"the logs have 1 and 2 readers"),
         ((damaged,), 4, b"is damaged at byte"),
         ((tmp_path / "nowhere",), 4, b"is missing"),
         ((), 2, b"a folder is needed"),
-        (("--no",), 2, b"there is no option"),
+        (("--no",), 2, b"unknown option"),
     ]:
         done = ask(store_program, fleet, *words)
         assert done[:2] == (status, b"") and why in done.said, done

@@ -18,7 +18,7 @@ pub struct BadAddress(String);
 
 impl fmt::Display for BadAddress {
     fn fmt(&self, f: &mut fmt::Formatter<'_>) -> fmt::Result {
-        write!(f, "`{}` is no address: write unix:PATH or HOST:PORT", self.0)
+        write!(f, "`{}` is not an address: write unix:PATH or HOST:PORT", self.0)
     }
 }
 

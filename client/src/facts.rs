@@ -87,12 +87,12 @@ pub enum Shape {
 impl fmt::Display for Shape {
     fn fmt(&self, f: &mut fmt::Formatter<'_>) -> fmt::Result {
         f.write_str(match self {
-            Shape::Number => "a number out of its range",
-            Shape::Backlink => "a backlink that does not lead back",
-            Shape::Patch => "a patch that is empty or leaves its page",
+            Shape::Number => "a number is out of range",
+            Shape::Backlink => "a backlink is not below its LSN",
+            Shape::Patch => "a patch is empty or ends past its page",
             Shape::Size => "too many patches or bytes",
-            Shape::Truncation => "no such truncation",
-            Shape::Reader => "no such reader",
+            Shape::Truncation => "the truncation has epoch 0, or lo above hi",
+            Shape::Reader => "readers are 1 to 15",
         })
     }
 }

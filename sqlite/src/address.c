@@ -19,7 +19,7 @@ static int read_number(const char *name, const char *parameter, uint64_t most, u
         *number = value;
         return SQLITE_OK;
     }
-    return refuse(report, SQLITE_CANTOPEN, "open: %s=%s is no number up to %llu", parameter, text, (unsigned long long)most);
+    return refuse(report, SQLITE_CANTOPEN, "open: %s=%s must be a number up to %llu", parameter, text, (unsigned long long)most);
 }
 
 /* Without locks a connection has no snapshot, and each read would be of another state. */

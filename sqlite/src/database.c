@@ -35,7 +35,7 @@ int database_look(struct database *database, const struct snapshot *snapshot) {
     } while (engine_return(database->engine, handle, fault));
     if (fault) return refuse_fault(&database->report, READING, fault);
     if (!header_read(&view.header, bytes, length)) {
-        return refuse(&database->report, SQLITE_NOTADB, "read: the volume's header at point %llu is of no database",
+        return refuse(&database->report, SQLITE_NOTADB, "read: the volume's header at point %llu belongs to no database",
                       (unsigned long long)snapshot->point);
     }
     if (!is_same_commit(&view.at, &database->view.at)) pages_cut(&database->pages, 0);
@@ -152,7 +152,7 @@ static int check_start(struct database *database, const uint8_t *start) {
 }
 
 static int check_write(struct database *database, const uint8_t *bytes, int amount, sqlite3_int64 offset) {
-    if (database->lock < SQLITE_LOCK_RESERVED) return refuse(&database->report, SQLITE_READONLY, "write: there is no lock for writing");
+    if (database->lock < SQLITE_LOCK_RESERVED) return refuse(&database->report, SQLITE_READONLY, "write: the connection has no lock for writing");
     if (amount != PAGE || offset % PAGE) return refuse(&database->report, SQLITE_IOERR_WRITE, "write: pages have %d bytes", PAGE);
     if (offset / PAGE >= YIELDCLEAT_LAST_PAGE) {
         return refuse(&database->report, SQLITE_FULL, "write: a volume has %d pages", YIELDCLEAT_LAST_PAGE);

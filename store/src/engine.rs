@@ -21,7 +21,7 @@ const ENOUGH: usize = 8 << 20;
 const PORTION: usize = 16 << 20;
 /// How often the thread looks round where no request comes.
 const PACE: Duration = Duration::from_millis(20);
-/// How often it publishes how far the segment is, and tries whether there is room again.
+/// How often it publishes how far the segment is, and tries whether the disk has room again.
 const LOOK: Duration = Duration::from_millis(50);
 
 /// Why a request is not answered by the segment.
@@ -200,7 +200,7 @@ impl Engine {
                     crate::say(format_args!("warning: {error}: nothing is acknowledged until there is room"));
                 }
             }
-            _ if was_full => crate::say(format_args!("there is room again")),
+            _ if was_full => crate::say(format_args!("the disk has room again")),
             _ => {}
         }
     }

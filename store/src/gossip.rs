@@ -146,13 +146,13 @@ impl Gossip {
             Err(Error::Busy) => return Ok(()),
             frozen => frozen?,
         };
-        crate::say(format_args!("{} has much that is missing here: its snapshot comes in {total} pieces", self.address));
+        crate::say(format_args!("catching up with {}: fetching its snapshot in {total} pieces", self.address));
         self.local.stage(name, total)?;
         for first in (0..total).step_by(PIECES as usize) {
             self.bring_pieces(peer, first..total.min(first.saturating_add(PIECES)))?;
         }
         self.local.unite()?;
-        crate::say(format_args!("the snapshot of {} is united", self.address));
+        crate::say(format_args!("merged the snapshot of {}", self.address));
         terms.metrics.with_peer(self.place, |it| it.snapshots += 1);
         Ok(())
     }
@@ -175,7 +175,7 @@ impl Gossip {
             it.trouble = Some(error.to_string());
         });
         if was_up {
-            crate::say(format_args!("warning: no gossip with {}: {error}", self.address));
+            crate::say(format_args!("warning: gossip with {} failed: {error}", self.address));
         }
     }
 }

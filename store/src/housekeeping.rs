@@ -188,7 +188,7 @@ impl Housekeeping {
         };
         match went {
             Ok(true) if store.has_checkpoint() => return Ok(()),
-            Ok(_) if store.activity().generation == self.generation => self.put_off("a client asks for a snapshot of its own"),
+            Ok(_) if store.activity().generation == self.generation => self.put_off("a client is reading a snapshot"),
             Ok(_) => {
                 let (activity, took) = (store.activity(), began.elapsed().as_millis());
                 crate::say(format_args!("snapshot {} of {} bytes took {took} ms", activity.generation, activity.snapshot));

@@ -38,7 +38,7 @@ fn reply(line: &str, metrics: &Metrics) -> String {
     let (status, body) = match line.split(' ').collect::<Vec<_>>()[..] {
         ["GET", "/metrics", ..] => ("200 OK", metrics.text()),
         ["GET", "/report", ..] => ("200 OK", metrics.report()),
-        ["GET", ..] => ("404 Not Found", "there is /metrics and /report\n".to_string()),
+        ["GET", ..] => ("404 Not Found", "the paths are /metrics and /report\n".to_string()),
         _ => ("405 Method Not Allowed", "only GET\n".to_string()),
     };
     let kind = "text/plain; version=0.0.4; charset=utf-8";

@@ -64,7 +64,7 @@ impl Listener {
                 Err(error) if !is_of_socket(&error) => {
                     errors += 1;
                     if errors == MANY {
-                        crate::say(format_args!("warning: no connections at {} for now: {error}", self.address()));
+                        crate::say(format_args!("warning: cannot accept connections at {} for now: {error}", self.address()));
                     }
                     thread::sleep(PAUSE);
                 }

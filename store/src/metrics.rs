@@ -104,7 +104,7 @@ impl Metrics {
             ("sent_bytes_total", "Bytes of answer frames.", &self.sent),
             ("connections_refused_total", "Connections above the limit.", &self.turned_away),
             ("batches_total", "Groups of requests that the segment answered with one flush at most.", &self.batches),
-            ("disk_full_refusals_total", "Requests refused since the disk was full.", &self.refused_full),
+            ("disk_full_refusals_total", "Requests refused because the disk was full.", &self.refused_full),
             ("folded_pages_total", "Folds of pages in the background.", &self.folds),
         ];
         for (name, help, value) in counters {
@@ -154,9 +154,9 @@ const PEER_METRICS: [(&str, &str, &str); 7] = [
     ("up", "gauge", "1 where the last round of gossip with the peer succeeded."),
     ("epoch", "gauge", "The peer's complete epoch."),
     ("complete", "gauge", "The peer's complete point."),
-    ("lag", "gauge", "How far the own complete point is below that of the peer; of one epoch."),
+    ("lag", "gauge", "How far this node's complete point is below the peer's, within one epoch."),
     ("rounds_total", "counter", "Rounds of gossip."),
-    ("snapshots_total", "counter", "Snapshots brought from the peer."),
+    ("snapshots_total", "counter", "Snapshots fetched from the peer."),
     ("failures_total", "counter", "Rounds that failed."),
 ];
 
@@ -189,21 +189,21 @@ fn write_seen(text: &mut String, seen: &Seen) {
         ("front_epoch", "Complete epoch, all of it on the disk.", front.epoch.into()),
         ("front_complete", "Complete point, all of it on the disk.", front.complete),
         ("front_min", "Minimum read point.", front.min),
-        ("guard_generation", "Generation of the engine that the node answers; 0 before it is a member.", membership.generation),
+        ("guard_generation", "Generation of the engine that the node serves; 0 before it is a member.", membership.generation),
         ("guard_member", "1 where the node is a member of a volume.", membership.is_member.into()),
         ("guard_accepted_epoch", "Epoch of the truncation that the node accepted last; 0 before the first.", accepted_epoch(membership)),
         ("anchor", "Point up to which pages may be folded.", state.anchor),
-        ("records_held", "Records the segment holds.", state.held),
+        ("records_held", "Records the segment stores.", state.held),
         ("records_kept", "Records it keeps in its summary.", state.kept),
         ("page_images", "Page images it stores.", state.images),
-        ("truncations", "Truncations it knows.", state.truncations),
+        ("truncations", "Truncations it stores.", state.truncations),
         ("log_bytes", "Bytes of the log.", activity.log),
         ("snapshot_bytes", "Bytes of the snapshot before the log.", activity.snapshot),
         ("log_generation", "Snapshots of this directory, from its first start.", activity.generation),
     ];
     gauges.into_iter().for_each(|(name, help, value)| metric(text, name, "gauge", help, value));
     metric(text, "log_written_bytes_total", "counter", "Bytes appended to the log.", activity.written);
-    metric(text, "snapshots_total", "counter", "Snapshots that took the place of a log.", activity.snapshots);
+    metric(text, "snapshots_total", "counter", "Snapshots that replaced a log.", activity.snapshots);
 }
 
 fn accepted_epoch(membership: &Membership) -> u64 {
@@ -215,10 +215,10 @@ fn write_report(text: &mut String, seen: &Seen) {
     let Membership { generation, birth, is_member, front, .. } = membership;
     let _ = match is_member {
         true => writeln!(text, "guard: a member, of generation {generation}; birth {birth}"),
-        false => writeln!(text, "guard: no member; birth {birth}"),
+        false => writeln!(text, "guard: not a member; birth {birth}"),
     };
     let _ = writeln!(text, "front: epoch {}, complete {}, minimum read point {}", front.epoch, front.complete, front.min);
-    let _ = writeln!(text, "holds {} records and {} pages; folded up to {}", state.held, state.images, state.anchor);
+    let _ = writeln!(text, "stores {} records and {} pages; folded up to {}", state.held, state.images, state.anchor);
     let _ = writeln!(text, "files: generation {}, log {} bytes, snapshot {} bytes", activity.generation, activity.log, activity.snapshot);
 }
 
@@ -227,7 +227,7 @@ fn write_peer(text: &mut String, peer: &Peer, own: Option<Front>) {
         (Some(0), _) => "not ahead of this node".to_string(),
         (Some(lag), _) => format!("ahead of this node by {lag}"),
         (None, Some(front)) => format!("at epoch {}", front.epoch),
-        (None, None) => "not heard yet".to_string(),
+        (None, None) => "no answer yet".to_string(),
     };
     let trouble = peer.trouble.as_ref().map_or(String::new(), |why| format!("; last round: {why}"));
     let _ = writeln!(text, "peer {}: {}, {lag}{trouble}", peer.address, if peer.is_up { "up" } else { "down" });

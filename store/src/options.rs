@@ -11,27 +11,27 @@ usage: yieldcleat-store --data DIR --listen ADDR [OPTION VALUE]...
 
 Serves one storage segment from the files in DIR. ADDR is unix:PATH or HOST:PORT.
 
-  --data DIR             the files of this node; made where it is missing
-  --listen ADDR          take connections here; may be given several times
+  --data DIR             the files of this node; created if missing
+  --listen ADDR          accept connections here; may be given several times
   --peer ADDR            gossip with the node at ADDR; may be given several times
   --metrics ADDR         answer HTTP requests for /metrics and /report here
   --readers R            readers of the log, 1 to 15, for a new DIR (1)
-  --connections N        the most connections at a time (64)
-  --frame-bytes N        the most bytes of a request (67108864)
-  --memory-bytes N       the most bytes of requests above 64 KiB held at a time (268435456)
-  --queue N              the most requests of connections that wait for the segment (1024)
+  --connections N        at most so many connections at a time (64)
+  --frame-bytes N        at most so many bytes in a request (67108864)
+  --memory-bytes N       at most so many bytes in memory of requests above 64 KiB (268435456)
+  --queue N              at most so many requests wait for the segment (1024)
   --patience MS          how long a peer or a client may stall within a frame (30000); a
-                         frame may take so long, and a second more for each megabyte
+                         frame may take this long, and a second more for each megabyte
   --idle MS              how long a client may be silent between frames (3600000)
   --gossip-every MS      the pause between two rounds of gossip with a peer (200)
-  --gossip-bytes N       the most bytes of a delta; a snapshot brings more (8000000)
+  --gossip-bytes N       at most so many bytes in a delta; above that, a snapshot (8000000)
   --fold-every MS        the pause between two slices of folding (50)
-  --snapshot-after N     the least bytes of the log before a snapshot replaces it (67108864)
+  --snapshot-after N     a snapshot replaces a log of at least so many bytes (67108864)
   --help, --version
 
-Statuses: 0 stopped by SIGTERM or SIGINT, 2 bad command line, 3 DIR is in use,
+Exit status: 0 stopped by SIGTERM or SIGINT, 2 bad command line, 3 DIR is in use,
 4 a file cannot be read or written or is damaged, 5 the segment does not run,
-6 it cannot listen on an address, or not any more.
+6 it cannot listen on an address, or has lost one.
 ";
 
 /// What the command line asks for.
@@ -75,10 +75,10 @@ pub enum BadOption {
 impl fmt::Display for BadOption {
     fn fmt(&self, f: &mut fmt::Formatter<'_>) -> fmt::Result {
         match self {
-            BadOption::Unknown(word) => write!(f, "there is no option `{word}`"),
+            BadOption::Unknown(word) => write!(f, "unknown option `{word}`"),
             BadOption::NoValue(option) => write!(f, "{option} needs a value"),
             BadOption::Twice(option) => write!(f, "{option} is given twice"),
-            BadOption::Missing(option) => write!(f, "{option} is needed"),
+            BadOption::Missing(option) => write!(f, "{option} is required"),
             BadOption::Value { option, value, why } => write!(f, "{option} cannot be `{value}`: {why}"),
         }
     }
@@ -148,7 +148,7 @@ impl Given {
         if (least..=most).contains(&number) {
             Ok(number)
         } else {
-            Err(BadOption::Value { option: option.into(), value: number.to_string(), why: format!("it is {least} to {most}") })
+            Err(BadOption::Value { option: option.into(), value: number.to_string(), why: format!("it must be {least} to {most}") })
         }
     }
 

@@ -98,7 +98,7 @@ fn open(options: &Options) -> Result<Store, Failure> {
     let (store, recovery) = Store::open_in(home, node, options.readers)?;
     say(format_args!("{}: {} requests read back", options.data.display(), recovery.requests));
     if recovery.torn > 0 {
-        say(format_args!("{} bytes of an entry that was not acknowledged are cut off", recovery.torn));
+        say(format_args!("cut off {} bytes of an entry that was not acknowledged", recovery.torn));
     }
     Ok(store)
 }
@@ -203,9 +203,9 @@ fn gossip(options: &Options, handle: &Handle, metrics: &Arc<Metrics>) -> Result<
 
 fn wait_for_signal(stop: &Stop, service: &Service) {
     match stop.wait() {
-        Ok(name) => say(format_args!("{name}: answering what waits, then ending")),
+        Ok(name) => say(format_args!("{name}: answering pending requests, then ending")),
         Err(error) => {
-            say(format_args!("no signals: {error}"));
+            say(format_args!("cannot handle signals: {error}"));
             process::abort();
         }
     }

@@ -163,7 +163,7 @@ def check_full(program, folder, disk, choose):
         it.full.unlink()
         it.start()
         assert it.client().complete() == 30 and shows(it.client(), 30)
-        assert "until there is room" in it.log() and "there is room again" in it.log()
+        assert "until there is room" in it.log() and "the disk has room again" in it.log()
 
 
 def check_lock(program, folder, _disk, _choose):

@@ -110,15 +110,15 @@ impl fmt::Display for VolumeError {
             }
             VolumeError::Busy(quorum) => match quorum.have < quorum.need.into() {
                 true => write!(f, "{quorum}"),
-                false => f.write_str("too much is not durable yet"),
+                false => f.write_str("too many bytes are not durable yet"),
             },
             VolumeError::NotReopened(quorum) => write!(f, "the volume is being opened again, to admit a node: {quorum}"),
-            VolumeError::NotRead { page, point } => write!(f, "no node answers for page {page} at {point}"),
+            VolumeError::NotRead { page, point } => write!(f, "no node could read page {page} at point {point}"),
             VolumeError::Below { min } => write!(f, "the point is below the minimum read point {min}"),
-            VolumeError::Above { newest } => write!(f, "the point is above the newest one that is known, {newest}"),
-            VolumeError::Argument(what) => write!(f, "{what} is out of its range"),
+            VolumeError::Above { newest } => write!(f, "the point is above the newest known one, {newest}"),
+            VolumeError::Argument(what) => write!(f, "{what} is out of range"),
             VolumeError::Memory => f.write_str("out of memory"),
-            VolumeError::Thread(kind) => write!(f, "a thread was not started: {kind}"),
+            VolumeError::Thread(kind) => write!(f, "cannot start a thread: {kind}"),
             VolumeError::Closed => f.write_str("the volume is closed"),
         }
     }

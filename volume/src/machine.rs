@@ -74,15 +74,15 @@ impl fmt::Display for Fault {
     fn fmt(&self, f: &mut fmt::Formatter<'_>) -> fmt::Result {
         match self {
             Fault::Fenced { generation } => write!(f, "fenced by an engine of generation {generation}"),
-            Fault::NoQuorum { have, need } => write!(f, "no write quorum: {have} nodes can be part of one, and it takes {need}"),
+            Fault::NoQuorum { have, need } => write!(f, "no write quorum: only {have} nodes can be part of one of {need}"),
             Fault::NotOpen => f.write_str("the volume is not open"),
             Fault::Ahead { durable } => write!(f, "the point is above the durable commit point {durable}"),
-            Fault::Full => f.write_str("no number or no epoch is left"),
+            Fault::Full => f.write_str("no LSN or no epoch is left"),
             Fault::NotFresh => f.write_str("the nodes are not all fresh"),
-            Fault::Reserved => f.write_str("page 0 and the last 8 bytes of each page are the volume's own"),
+            Fault::Reserved => f.write_str("the volume reserves page 0 and the last 8 bytes of each page"),
             Fault::LongHeader => f.write_str("the header has more than 1,024 bytes"),
-            Fault::Damaged => f.write_str("what the nodes have is not the log of one volume"),
-            Fault::Shape => f.write_str("a record or an advance of no shape"),
+            Fault::Damaged => f.write_str("the nodes do not store the log of one volume"),
+            Fault::Shape => f.write_str("an invalid record or advance"),
         }
     }
 }

@@ -48,8 +48,8 @@ pub enum BadOptions {
 impl fmt::Display for BadOptions {
     fn fmt(&self, f: &mut fmt::Formatter<'_>) -> fmt::Result {
         match self {
-            BadOptions::Nodes { count } => write!(f, "{count} nodes are not 1 to {MOST_NODES}"),
-            BadOptions::Quorum { quorum, nodes } => write!(f, "{quorum} of {nodes} nodes are no write quorum"),
+            BadOptions::Nodes { count } => write!(f, "{count} nodes: a volume has 1 to {MOST_NODES}"),
+            BadOptions::Quorum { quorum, nodes } => write!(f, "{quorum} of {nodes} nodes cannot be a write quorum"),
             BadOptions::Twice { first, second } => write!(f, "nodes {} and {} have the same address", first + 1, second + 1),
         }
     }

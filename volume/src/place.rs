@@ -75,10 +75,10 @@ mod tests {
     #[test]
     fn what_names_no_volume() {
         for (text, why) in [
-            ("", "0 nodes are not 1 to 15"),
-            ("unix:a\nnowhere\n", "line 2: `nowhere` is no address: write unix:PATH or HOST:PORT"),
+            ("", "0 nodes: a volume has 1 to 15"),
+            ("unix:a\nnowhere\n", "line 2: `nowhere` is not an address: write unix:PATH or HOST:PORT"),
             ("unix:a\nquorum two\n", "line 2: a quorum is a number of nodes"),
-            ("unix:a\nunix:b\nquorum 1\n", "1 of 2 nodes are no write quorum"),
+            ("unix:a\nunix:b\nquorum 1\n", "1 of 2 nodes cannot be a write quorum"),
         ] {
             assert_eq!(Options::of_text(text).err().map(|bad| bad.to_string()), Some(why.to_string()));
         }

@@ -66,7 +66,7 @@ fn serve_durably(folder: &Path) -> Result<(), Failed> {
     let node = Node::open_as(1, home.birth())?;
     let (mut store, recovery) = Store::open_in(home, node, 1)?;
     if recovery.torn > 0 {
-        eprintln!("durable: {} bytes of a request that was not answered are cut off", recovery.torn);
+        eprintln!("durable: cut off {} bytes of a request that had no answer", recovery.torn);
     }
     let mut until = CHECKPOINT;
     serve(|batch| {
@@ -172,7 +172,7 @@ impl Server {
             }
             let complete = complete(self.answer()?)?;
             if complete <= last {
-                return Err(format!("record {} was taken and is not there", last + 1).into());
+                return Err(format!("record {} was acknowledged and is missing", last + 1).into());
             }
             last = complete;
         }
@@ -240,7 +240,7 @@ fn judge(mut server: Server) -> Result<(), Failed> {
     }
     drop(server.input);
     if !server.child.wait()?.success() {
-        return Err("the child ended badly".into());
+        return Err("the child ended with an error".into());
     }
     println!("{RECORDS} records, {KILLS} kills: nothing that was acknowledged is lost, and each page is that of a plain replay");
     Ok(())

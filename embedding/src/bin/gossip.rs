@@ -112,7 +112,7 @@ fn run(name: &str, parity: usize, mut peer: Peer) -> Result<(), Failed> {
     let front = node.front()?;
     println!("{name} after {rounds} round: {front:?}");
     if (front.epoch, front.complete) != (1, HI + 1) || node.read(3, front.complete, 0, 4096)? != page() {
-        return Err(format!("{name} has something else than the log").into());
+        return Err(format!("{name} differs from the log").into());
     }
     println!("{name}: the page is that of a plain replay");
     Ok(())

@@ -53,7 +53,7 @@ impl fmt::Display for StoreError {
             StoreError::Locked { folder } => write!(f, "{} is open in another store", folder.display()),
             StoreError::Missing { path } => write!(f, "{} is missing", path.display()),
             StoreError::Damaged { path, offset } => write!(f, "{} is damaged at byte {offset}", path.display()),
-            StoreError::Unexpected { request, answer } => write!(f, "the node answers `{request}` by `{answer}`"),
+            StoreError::Unexpected { request, answer } => write!(f, "the node answered `{request}` with `{answer}`"),
             StoreError::Node(error) => write!(f, "{error}"),
             StoreError::TooLong => f.write_str("the batch is too long"),
             StoreError::Stopped => f.write_str("an earlier call has failed"),

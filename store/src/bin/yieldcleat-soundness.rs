@@ -15,18 +15,18 @@ use yieldcleat::{read_log, requests, StoreError};
 const HELP: &str = "\
 usage: yieldcleat-soundness [--fleet PROGRAM] DIR...
 
-Asks `fleet check` whether the facts in the request logs of these stores are a sound log: whether the
-database that wrote them kept the laws of redo logs. DIR is the --data of a store that is stopped. The
-answer is that of `fleet check --explain`, whose facts are in the order of epochs and numbers.
+Checks with `fleet check` that the facts in the request logs of these stores are a sound log, which
+means that the database that wrote them kept the laws of redo logs. DIR is the --data of a stopped
+store. The answer is that of `fleet check --explain` for the facts in the order of epochs and LSNs.
 
   --fleet PROGRAM        the program `fleet` (./fleet)
-  --print                print the facts in place of checking them
+  --print                print the facts instead of checking them
   --help
 
 A log that begins after a snapshot lacks the facts before it. Give the stores of a test a large
 --snapshot-after.
 
-Statuses: 0 sound, 2 bad command line, 3 unsound, 4 a file or a program fails.
+Exit status: 0 sound, 2 bad command line, 3 unsound, 4 a file or a program fails.
 ";
 
 /// What the command line asks for.
@@ -54,7 +54,7 @@ impl fmt::Display for Failure {
         match self {
             Failure::CommandLine(why) => write!(f, "{why}; --help shows the options"),
             Failure::Store(error) => write!(f, "{error}"),
-            Failure::Readers(one, other) => write!(f, "the logs are of {one} and of {other} readers"),
+            Failure::Readers(one, other) => write!(f, "the logs have {one} and {other} readers"),
             Failure::Program(program, error) => write!(f, "{}: {error}", program.display()),
             Failure::Status(program, status) => write!(f, "{} ends with {status}", program.display()),
             Failure::Output(error) => write!(f, "output failed: {error}"),
@@ -140,7 +140,7 @@ fn read_options(words: impl Iterator<Item = String>) -> Result<Option<Options>, 
             "--help" => return Ok(None),
             "--print" => options.prints = true,
             "--fleet" => options.fleet = words.next().ok_or_else(|| Failure::CommandLine("--fleet needs a value".into()))?.into(),
-            option if option.starts_with("--") => return Err(Failure::CommandLine(format!("there is no option `{option}`"))),
+            option if option.starts_with("--") => return Err(Failure::CommandLine(format!("unknown option `{option}`"))),
             _ => options.folders.push(word.into()),
         }
     }

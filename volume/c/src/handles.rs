@@ -153,7 +153,7 @@ impl Handle {
     pub fn read(&self, point: u64, page: u32, offset: u32, length: u32) -> Result<Vec<u8>, Failure> {
         let page = user_page(page)?;
         if length == 0 || offset.checked_add(length).is_none_or(|end| end > PAGE_BYTES) {
-            return Err(Failure::misuse("a range outside the page"));
+            return Err(Failure::misuse("the range ends past its page"));
         }
         self.check_point(point)?;
         let (offset, length) = (offset as u16, length as u16);
@@ -173,7 +173,7 @@ impl Handle {
     fn staging(&self) -> Result<(&Volume, &Mutex<Vec<PageWrite>>), Failure> {
         match &self.side {
             Side::Writer { volume, staged } => Ok((volume, staged)),
-            Side::Reader { .. } => Err(Failure::misuse("a reader's handle writes nothing")),
+            Side::Reader { .. } => Err(Failure::misuse("the handle of a reader cannot write")),
         }
     }
 
