@@ -91,10 +91,11 @@ def of_row(row):
 
 
 def of_block(block):
-    """The same of a block: the head `TASK NAME`, the text, `--` and the answer."""
-    head, _, rest = block.partition("\n")
-    text, _, output = ("\n" + rest.rstrip("\n")).partition("\n--")
-    return head, text.removeprefix("\n") + "\n" * bool(text), output.removeprefix("\n") + "\n" * bool(output), ""
+    """The same of a block: the head `TASK NAME`, and lines `TEXT -> ANSWER`, either of which may be left out."""
+    head, *lines = block.rstrip("\n").split("\n")
+    parts = [line.partition("-> ") for line in lines]
+    text = "".join(given.removesuffix(" " * bool(arrow)) + "\n" for given, arrow, _ in parts if given or not arrow)
+    return head, text, "".join(answer + "\n" for _, arrow, answer in parts if arrow), ""
 
 
 def cases():
