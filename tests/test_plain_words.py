@@ -11,9 +11,11 @@ import pytest
 from harness import ROOT
 
 PAGES = [ROOT / "README.md", *sorted((ROOT / "docs").glob("*.md")), *sorted(ROOT.glob("*/README.md")), *sorted(ROOT.glob("crates/*/README.md"))]
+HEADERS = sorted(ROOT.glob("*/include/*.h"))
 HELP = sorted((ROOT / "docs/help").glob("*.txt"))
-PROGRAMS = ["bench/*.py", "examples/*.py", "tools/*.py", "client/src/**/*.rs", "embedding/src/**/*.rs", "sqlite/src/*.c", "store/src/**/*.rs", "volume/src/**/*.rs"]
-CRATES = sorted(path.name for path in (ROOT / "crates").iterdir() if (path / "src").is_dir())
+SOURCES = [f"{crate}/src/**/*.rs" for crate in ("client", "embedding", "store", "volume", "volume/c")]
+SOURCES += [f"crates/{path.name}/src/**/*.rt" for path in sorted((ROOT / "crates").iterdir()) if (path / "src").is_dir()]
+TOOLS = ["bench/*.py", "examples/*.py", "tools/*.py", "sqlite/src/*.c", "sqlite/src/*.h"]
 
 # What to write in place of a word; the words are those that mean several things, or that the field has another term for.
 PLAIN = {
@@ -135,20 +137,18 @@ def sentences(text):
                 yield len(WORD.findall(sentence))
 
 
-@pytest.mark.parametrize("page", PAGES + HELP, ids=name_of)
+@pytest.mark.parametrize("page", PAGES + HELP + HEADERS, ids=name_of)
 def test_pages_avoid_words(page):
     text = page.read_text()
     assert list(avoided(meanings(text) if page.name == "GLOSSARY.md" else text)) == []
 
 
-@pytest.mark.parametrize("crate", CRATES)
-def test_docstrings_avoid_words(crate):
-    files = sorted((ROOT / "crates" / crate / "src").glob("**/*.rt"))
-    found = [f"{name_of(path)}, {word}" for path in files for word in avoided(docstrings(path.read_text()))]
-    assert found == []
+@pytest.mark.parametrize("place", SOURCES)
+def test_docstrings_avoid_words(place):
+    assert [f"{name_of(path)}, {word}" for path in sorted(ROOT.glob(place)) for word in avoided(docstrings(path.read_text()))] == []
 
 
-@pytest.mark.parametrize("place", PROGRAMS + [f"crates/{name}/src/**/*.rt" for name in CRATES if not name.endswith("_cases")])
+@pytest.mark.parametrize("place", [place for place in SOURCES + TOOLS if "_cases/" not in place])
 def test_messages_avoid_words(place):
     assert [f"{name_of(path)}, {word}" for path in sorted(ROOT.glob(place)) for word in avoided(messages(path))] == []
 

@@ -53,14 +53,14 @@ pub enum Gap {
     Truncation { epoch: u16 },
 }
 
-/// Under which a record is held.
+/// The key of a record: its epoch and its LSN.
 #[derive(Debug, Clone, Copy, PartialEq, Eq, PartialOrd, Ord, Default)]
 pub struct Key {
     pub epoch: u16,
     pub number: u64,
 }
 
-/// A held record: its key, and its bytes as a fact.
+/// A stored record: its key, and its bytes as a fact.
 #[derive(Debug, Clone, PartialEq, Eq)]
 pub struct Held {
     pub key: Key,
@@ -226,7 +226,7 @@ pub fn gap(answer: &[u8]) -> Result<Option<Gap>, Error> {
     truncation.map(|epoch| Some(Gap::Truncation { epoch })).ok_or_else(|| error_of(answer))
 }
 
-/// The held record of an answer, if there was one.
+/// The stored record in an answer, if there was one.
 pub fn held(answer: &[u8]) -> Result<Option<Held>, Error> {
     if answer == b"none" {
         return Ok(None);

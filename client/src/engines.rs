@@ -80,7 +80,7 @@ pub fn fence(generation: u64) -> Vec<u8> {
     format!("fence {generation}").into_bytes()
 }
 
-/// What stands before a request that is carried out for one engine alone.
+/// The prefix of a request that is carried out for one engine alone.
 pub fn heading(name: Name) -> Vec<u8> {
     format!("as {} {} ", name.generation, name.birth).into_bytes()
 }

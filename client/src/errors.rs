@@ -20,7 +20,7 @@ pub enum Refused {
     Record,
 }
 
-/// What of a summary the segment does not answer for any more, so that the delta may lack something. Ask anew.
+/// The part of a summary that the segment does not cover, so the delta may lack something. Ask for a new summary.
 #[derive(Debug, Clone, Copy, PartialEq, Eq)]
 pub enum Uncovered {
     Anchor { anchor: u64 },
@@ -65,7 +65,7 @@ pub enum StagingFault {
     },
 }
 
-/// Why bytes are no value of the kind that was to stand there, by the numbers of the format.
+/// Why bytes are not a value of the expected kind, by the numbers of the format.
 #[derive(Debug, Clone, Copy, PartialEq, Eq)]
 pub enum WireFault {
     Short,

@@ -44,7 +44,7 @@ pub struct Record {
     pub patches: Vec<Patch>,
 }
 
-/// The beginning of an epoch from 1 on: of the epochs before, numbers above `lo` are annulled, and its own stand above `hi`.
+/// A truncation begins an epoch, from 1 on: it annuls the LSNs above `lo` of earlier epochs, and its own LSNs are above `hi`.
 #[derive(Debug, Clone, Copy, PartialEq, Eq)]
 pub struct Truncation {
     pub epoch: u16,

@@ -5,7 +5,7 @@ use std::io::{self, Read, Write};
 /// The most bytes of a frame that a segment reads. It answers a longer one `long frame`.
 pub const LONGEST: u32 = 1 << 26;
 
-/// Appends a frame of these parts, one behind the other, to a buffer.
+/// Appends a frame of these parts, one after the other, to a buffer.
 ///
 /// An error, and nothing appended, where they have 2^32 bytes or more.
 pub fn append(buffer: &mut Vec<u8>, parts: &[&[u8]]) -> io::Result<()> {
@@ -61,7 +61,7 @@ pub fn skip(reader: &mut impl Read, length: u32) -> io::Result<()> {
     io::copy(&mut reader.by_ref().take(length.into()), &mut io::sink()).map(drop)
 }
 
-/// The frames that the bytes are, one behind the other; nothing where they are no whole frames.
+/// The frames that the bytes are, one after the other; nothing where they are no whole frames.
 pub fn inside(mut bytes: &[u8]) -> Option<Vec<&[u8]>> {
     let mut frames = Vec::new();
     while !bytes.is_empty() {

@@ -108,7 +108,7 @@ pub fn within(summary: &[u8], most: u32) -> Vec<u8> {
     behind(&format!("within {most} "), &[summary])
 }
 
-/// A summary that was told here, and the delta that answers it.
+/// A summary of this node, and the delta that answers it.
 pub fn absorb(summary: &[u8], delta: &[u8]) -> Vec<u8> {
     behind(&format!("absorb {} ", summary.len()), &[summary, delta])
 }

@@ -1,6 +1,6 @@
 /* One storage segment of a protection group, inside a program in C or in any language that calls C.
  *
- * Link libnode_c.a, which `rt lib` in crates/node_c makes (in its folder out/), and behind it liblibc_c.a of the toolchain (its folder
+ * Link libnode_c.a, which `rt lib` in crates/node_c makes (in its folder out/), and after it liblibc_c.a of the toolchain (its folder
  * c/; where `rt` on the path is a link, the toolchain is where the link leads), which calls malloc, realloc and free. */
 #ifndef YIELDCLEAT_H
 #define YIELDCLEAT_H
@@ -12,36 +12,37 @@ extern "C" {
 /* How a call ended. */
 enum {
     YIELDCLEAT_INPUT_ENDED = 0,   /* each whole frame of the input is answered */
-    YIELDCLEAT_OUTPUT_FAILED = 4, /* a beginning of the answers was written */
-    YIELDCLEAT_NO_MEMORY = 5      /* there was none for the first segment: nothing was read */
+    YIELDCLEAT_OUTPUT_FAILED = 4, /* only some of the answers were written */
+    YIELDCLEAT_NO_MEMORY = 5      /* memory ran out at the start: nothing was read */
 };
 
-/* Serves one segment: answers the request frames that `input` gives, one by one, each by one frame on `output` before the next one is
- * looked at. A frame is a length of 4 bytes, most significant first, and so many bytes. docs/EMBEDDING.md has the requests, the answers
- * and the limits, docs/FORMATS.md the bytes of facts, summaries, deltas and pieces.
+/* Serves one segment: reads request frames from `input`, and answers each with one frame on `output` before it reads the next. A frame
+ * is a length of 4 bytes, most significant first, and that many bytes. docs/EMBEDDING.md describes requests, answers and limits,
+ * docs/FORMATS.md the bytes of facts, summaries, deltas and pieces.
  *
- * The call returns when `input` ends, and the segment is gone then: what is to outlive it is written down by whoever asked. An input
- * that ends within a frame, or that cannot be read, has ended there. Want of memory later on is answered `memory`; it ends nothing.
+ * The call returns when `input` ends, and the segment is then gone: a caller that must not lose it keeps a log of the requests. An input
+ * that ends within a frame, or that cannot be read, counts as ended. If memory runs out later, the answer is `memory`, and the segment
+ * goes on.
  *
- * Threads. The call takes its thread until it returns; run it on one of its own, with a stack of a megabyte or more. Calls on several
- * threads, each with descriptors of its own, are segments that share nothing. Only the one who asks orders requests: do not let two
- * threads write to one segment without a lock of yours.
+ * Threads. The call occupies its thread until it returns; give it a thread of its own, with a stack of a megabyte or more. Calls on
+ * several threads, each with its own descriptors, serve independent segments. Requests are answered in the order in which they are
+ * written: threads that write to one segment need a lock.
  *
- * Descriptors. Both block (no O_NONBLOCK). They may be one and the same, as an end of a socket pair. They stay open: close them after
- * the call has returned, and never before. Close or shut down the other end to end the call. Nobody else writes to `output` meanwhile.
- * Send no request before the answer to the last one is read, or read on another thread: who writes and does not read stops both sides.
- * (A pipe holds 64 KB, but one page past a user's soft limit.)
+ * Descriptors. Both must block (no O_NONBLOCK). They may be the same, as one end of a socket pair. They stay open: close them only after
+ * the call has returned. To end the call, close or shut down the other end. Nobody else may write to `output` meanwhile. Read each
+ * answer before you send the next request, or read on another thread: a caller that writes and does not read blocks both sides. (A pipe
+ * holds 64 KB, but only one page once its user is above the soft limit for pipes.)
  *
- * Signals. Ignore SIGPIPE, or the process ends where `output` has no reader any more; ignored, the call returns 4. A signal whose handler
- * was set without SA_RESTART may end the input or fail the output: set it, or block signals on the thread.
+ * Signals. Ignore SIGPIPE; otherwise the process ends once nobody reads `output`. With SIGPIPE ignored, the call returns 4. A signal
+ * whose handler was set without SA_RESTART may end the input or fail the output: set SA_RESTART, or block signals on this thread.
  *
- * Memory. malloc, realloc and free are those of one allocator, and malloc aligns as malloc does. Do not call from a signal handler, nor
- * in the forked child of a process that has threads. */
+ * Memory. malloc, realloc and free must belong to one allocator, with the alignment that C requires. Do not call from a signal handler,
+ * or in the forked child of a process that has threads. */
 unsigned char yieldcleat_serve(int input, int output);
 
-/* The same for a node of a birth of its own, where several engines may ask it: a number that no earlier life of the node had. Draw it at
- * random where the node is fresh, keep it with the request log, and pass the kept one where the node comes back from its files.
- * yieldcleat_serve is this with birth 0. docs/EMBEDDING.md, "Several engines", has the requests. */
+/* The same for a node with a birth, a number that no earlier life of the node had; several engines may then send requests. Draw it at
+ * random for a fresh node, keep it with the request log, and pass the kept one when the node restarts from its files. yieldcleat_serve
+ * has birth 0. docs/EMBEDDING.md, "Several engines", describes the requests. */
 unsigned char yieldcleat_serve_as(int input, int output, unsigned long long birth);
 
 #ifdef __cplusplus

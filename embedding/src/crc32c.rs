@@ -25,7 +25,7 @@ const fn shifted(mut bits: u32) -> u32 {
     bits
 }
 
-/// The checksum of these parts, one behind the other.
+/// The checksum of these parts, one after the other.
 pub fn crc32c(parts: &[&[u8]]) -> u32 {
     let bytes = parts.iter().copied().flatten();
     !bytes.fold(u32::MAX, |sum, byte| sum >> 8 ^ TABLE[usize::from(sum as u8 ^ byte)])

@@ -18,10 +18,10 @@ const STACK: usize = 1 << 20;
 
 /// One segment, which other threads and processes do not share.
 ///
-/// A call waits for its answer. Each one may end in `Stopped`, `Memory` and `LongFrame`; what else it may end in stands at the call.
+/// A call waits for its answer. Each one may end in `Stopped`, `Memory` and `LongFrame`; each call lists its other errors.
 /// After `Stopped` the node is of no use any more.
 ///
-/// One frame of requests is on its way at a time, and a call returns only behind the whole answer to it. So neither side ever waits to
+/// One frame of requests is on its way at a time, and a call returns only after the whole answer to it. So neither side ever waits to
 /// write while the other one does, however few bytes a pipe holds (past a user's soft limit, one page), and no caller's code runs while
 /// an answer is not read yet.
 pub struct Node {

@@ -87,7 +87,7 @@ static const uint8_t invented[PAGE] = {
     [AT_VERSIONS] = 1, 1, [AT_RESERVED] = RESERVED, 64, 32, 32,
 };
 
-/* Copies the part of a page that a read wants; the whole page has zeros where the database ends before it. */
+/* Copies the requested part of a page; the whole page has zeros where the database ends before it. */
 static int read_page(struct database *database, uint32_t number, size_t offset, size_t amount, uint8_t *to) {
     int code = SQLITE_OK;
     if (number <= database->size) {

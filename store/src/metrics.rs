@@ -9,7 +9,7 @@ use std::time::Instant;
 use yieldcleat::Activity;
 use yieldcleat_client::{Front, Membership, State};
 
-/// What the segment last told, when all of it was on the disk.
+/// What the segment last reported, when all of it was on the disk.
 #[derive(Debug, Clone, Copy)]
 pub struct Seen {
     pub membership: Membership,

@@ -8,7 +8,7 @@
  * is never visible. A volume without commits is at point 0. The point of a commit that was lost may become that of another one.
  *
  * One handle at a time writes. Opening another one for writing fences the former, wherever it is: its calls fail with YIELDCLEAT_FENCED
- * from the moment at which it learns of that, and what it had not made durable may be lost, or not. Any number of handles read. Where a
+ * from the moment at which it learns of that, and commits that were not durable may be lost, or not. Any number of handles read. Where a
  * node has lost its files, the writer opens the volume again by itself, once all of its commits are durable, so that the node counts;
  * commits wait meanwhile, and yieldcleat_volume_status has another generation afterwards.
  *
@@ -16,9 +16,9 @@
  * handle was opened with. What one thread stages belongs to the commit of whichever thread commits next, so let one thread write at a time.
  * A handle is of no use in the forked child of a process.
  *
- * Errors. Each call returns YIELDCLEAT_OK or a fault, and says below which ones it has beside YIELDCLEAT_IO, YIELDCLEAT_NO_MEMORY and
- * YIELDCLEAT_MISUSE, which all may have. A call that fails changes nothing, where it says nothing else, and leaves what its pointers
- * point to as it was. yieldcleat_volume_last_error has the details. */
+ * Errors. Each call returns YIELDCLEAT_OK or a fault. All calls may return YIELDCLEAT_IO, YIELDCLEAT_NO_MEMORY and YIELDCLEAT_MISUSE;
+ * the comment of a call lists its other faults. A call that fails changes nothing unless it says so below, and does not write
+ * through its pointers. yieldcleat_volume_last_error has the details. */
 #ifndef YIELDCLEAT_VOLUME_H
 #define YIELDCLEAT_VOLUME_H
 
@@ -49,15 +49,15 @@ enum yieldcleat_fault {
     YIELDCLEAT_NOT_FOUND = 5, /* there is no volume at this place */
     YIELDCLEAT_BELOW = 6,     /* the point is below the least readable one */
     YIELDCLEAT_ABOVE = 7,     /* the point is above the newest one */
-    YIELDCLEAT_IO = 8,        /* a node, a socket or a file failed, or answered what is no answer */
+    YIELDCLEAT_IO = 8,        /* a node, a socket or a file failed, or a node sent an invalid answer */
     YIELDCLEAT_NO_MEMORY = 9,
     YIELDCLEAT_MISUSE = 10 /* the arguments break a rule of this header; nothing was sent */
 };
 
-/* What the last call on this thread that failed has to say. */
+/* The details of the last call on this thread that failed. */
 struct yieldcleat_error {
     enum yieldcleat_fault fault;
-    uint32_t have, need; /* nodes that answered and that had to: of YIELDCLEAT_NO_QUORUM and YIELDCLEAT_TIMEOUT, else 0 */
+    uint32_t have, need; /* nodes that answered, and nodes that are needed: of NO_QUORUM and TIMEOUT, else 0 */
     uint64_t point;      /* the least readable point of YIELDCLEAT_BELOW, the newest one of YIELDCLEAT_ABOVE, else 0 */
     char message[YIELDCLEAT_MESSAGE_BYTES]; /* a sentence without a full stop, such as "no write quorum: 3 of 6 nodes answer" */
 };
@@ -99,7 +99,7 @@ enum yieldcleat_fault yieldcleat_volume_open_writer(const char *place, const str
                                                     struct yieldcleat_volume **volume);
 
 /* Opens a volume for reading, and fences nobody. With YIELDCLEAT_FOLLOW the handle sees each commit that becomes durable; with a point
- * that one is its newest for ever. Faults: NOT_FOUND, NO_QUORUM, BELOW and ABOVE (of the point). */
+ * its newest point is always that one. Faults: NOT_FOUND, NO_QUORUM, BELOW and ABOVE (of the point). */
 enum yieldcleat_fault yieldcleat_volume_open_reader(const char *place, const struct yieldcleat_options *options, uint64_t point,
                                                     struct yieldcleat_volume **volume);
 
@@ -141,7 +141,7 @@ enum yieldcleat_fault yieldcleat_volume_wait(struct yieldcleat_volume *volume, u
  * the present one changes nothing. Faults: ABOVE (the point is not durable), NO_QUORUM, FENCED. */
 enum yieldcleat_fault yieldcleat_volume_advance(struct yieldcleat_volume *volume, uint64_t point);
 
-/* How the volume is, as far as this handle knows without asking a node. */
+/* The state of the volume, as far as this handle knows without asking a node. */
 enum yieldcleat_fault yieldcleat_volume_status(struct yieldcleat_volume *volume, struct yieldcleat_status *status);
 
 /* The details of the last call on this thread that failed; YIELDCLEAT_OK and an empty message before the first one. */

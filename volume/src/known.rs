@@ -4,7 +4,7 @@ use std::collections::BTreeSet;
 
 /// What a handle knows of a volume.
 ///
-/// A place may come to have another volume, when all nodes have lost their files. The births of members tell volumes apart: nodes of a new
+/// A place may have another volume later, once all nodes have lost their files. The births of members distinguish volumes: nodes of a new
 /// volume are fresh, so no birth belongs to members of two volumes.
 #[derive(Debug, Clone, Default, PartialEq, Eq)]
 pub struct Known {

@@ -92,7 +92,7 @@ impl Link {
 }
 
 impl Link {
-    /// Tells the thread to end, and does not wait for it.
+    /// Signals the thread to end, and does not wait for it.
     pub fn stop(&self) {
         let mut shared = lock(&self.shared);
         shared.is_stopped = true;

@@ -1,5 +1,5 @@
 //! Two processes with a segment in each. The first takes the even records of a log and its truncation, the second the odd records and an
-//! advance; then they gossip over TCP on 127.0.0.1 until both tell the same summary, byte for byte. It ends by itself, with status 0
+//! advance; then they gossip over TCP on 127.0.0.1 until both send the same summary, byte for byte. It ends by itself, with status 0
 //! where that is so and a page shows what a plain replay of the log shows.
 
 use std::io::BufReader;

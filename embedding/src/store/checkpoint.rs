@@ -1,7 +1,7 @@
 //! A snapshot that is written piece by piece while its store answers.
 //!
 //! The node keeps what it had when the snapshot was frozen. From then on each change goes to two logs: to the present one, which a crash
-//! needs until the snapshot has its name, and to the one of the next generation, which begins behind the snapshot.
+//! needs until the snapshot has its name, and to the one of the next generation, which begins after the snapshot.
 
 use super::errors::StoreError;
 use super::folder::{Draft, Whole};
@@ -37,13 +37,13 @@ impl Frozen {
 
 #[cfg(test)]
 impl Checkpoint {
-    /// From now on the system refuses to write the log behind the snapshot.
+    /// From now on the system refuses to write the log after the snapshot.
     pub fn refuse(&mut self) {
         self.log.refuse();
     }
 }
 
-/// A snapshot that is not whole, and the log behind it. After an error it is of no use.
+/// A snapshot that is not whole, and the log after it. After an error it is of no use.
 pub struct Checkpoint {
     pub generation: u64,
     snapshot: Draft,
@@ -70,7 +70,7 @@ impl Checkpoint {
         self.flushing.is_none()
     }
 
-    /// Appends changes to the log behind the snapshot. They are on the disk when `end` returns.
+    /// Appends changes to the log after the snapshot. They are on the disk when `end` returns.
     ///
     /// Errors: `Io`, also where there is no room, and `TooLong`.
     pub fn write(&mut self, changes: &[u8]) -> Result<(), StoreError> {
@@ -101,7 +101,7 @@ impl Checkpoint {
         Ok(false)
     }
 
-    /// Waits until the snapshot and the log behind it are on the disk. The snapshot may have its name then.
+    /// Waits until the snapshot and the log after it are on the disk. The snapshot may have its name then.
     pub fn end(mut self) -> Result<(Whole, Log, Progress), StoreError> {
         let flushed = self.flushing.take().map(JoinHandle::join);
         match flushed {

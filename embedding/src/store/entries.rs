@@ -6,7 +6,7 @@
 //! | entry | its place from 0 (8), its length (4), CRC-32C of its bytes (4), CRC-32C of the salt and of these (4); its bytes: request frames |
 //!
 //! A log grows by one entry at a time, and each is on the disk before the next one is written. So a crash can spoil the last one alone,
-//! in any of its sectors: where a whole head stands behind a spoiled entry, the file was damaged. The salt keeps bytes that somebody
+//! in any of its sectors: where a whole head follows a spoiled entry, the file was damaged. The salt keeps bytes that somebody
 //! sent in a request from being taken for a head.
 
 use super::errors::StoreError;
@@ -116,7 +116,7 @@ impl Head {
     }
 }
 
-/// What stands at a place of a file.
+/// What a file has at an offset.
 #[derive(Debug, Clone, Copy, PartialEq, Eq)]
 pub enum Next {
     /// A whole entry, which is in the buffer.
@@ -195,9 +195,9 @@ impl Entries {
         frames::inside(bytes).ok_or_else(|| self.damaged())
     }
 
-    /// How many bytes stand behind the whole entries: what a crash has left of the last one.
+    /// How many bytes follow the whole entries: what a crash has left of the last one.
     ///
-    /// Errors: `Io`, and `Damaged` where no crash leaves them so, since something was written behind them.
+    /// Errors: `Io`, and `Damaged` where no crash leaves them so, since something was written after them.
     pub fn torn(&mut self) -> Result<u64, StoreError> {
         let mut rest = Vec::new();
         self.reader.seek(SeekFrom::Start(self.offset)).map_err(StoreError::io(&self.path))?;

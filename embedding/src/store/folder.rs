@@ -1,4 +1,4 @@
-//! The folder of a store: a lock, and of each generation a log `log.N` and a snapshot `snapshot.N`, behind which that log begins.
+//! The folder of a store: a lock, and of each generation a log `log.N` and a snapshot `snapshot.N`, after which that log begins.
 //!
 //! Generation 0 has no snapshot: its log begins with an empty segment. The store is at the newest generation that has a snapshot. A
 //! checkpoint writes the next log, then the next snapshot, each under the name of a draft until it is whole and on the disk; with the

@@ -172,7 +172,7 @@ impl Store {
     /// this package does not know is a `bad request`, and so is a `many` that has one.
     ///
     /// Errors: `Full`, and the node is asked nothing until there is room for what it has changed; `Io`, `Node`, `TooLong`, and `Stopped`
-    /// behind any of these three.
+    /// after any of these three.
     pub fn answer<R: AsRef<[u8]>>(&mut self, batch: &[R]) -> Result<Vec<Vec<u8>>, StoreError> {
         self.answer_until(batch, usize::MAX)
     }
@@ -222,7 +222,7 @@ impl Store {
         Ok(())
     }
 
-    /// Writes the same changes to the log behind the snapshot that is being written, if there is one. The checkpoint fails alone.
+    /// Writes the same changes to the log after the snapshot that is being written, if there is one. The checkpoint fails alone.
     fn write_behind_snapshot(&mut self) {
         let written = self.checkpoint.as_mut().map_or(Ok(()), |checkpoint| checkpoint.write(&self.unwritten));
         if let Err(error) = written {
@@ -318,7 +318,7 @@ impl Store {
     /// Writes up to so many pieces of the snapshot, and puts it in place of the log when the disk has all of it. The result is false when
     /// there is nothing left to do.
     ///
-    /// Its errors are those of `checkpoint`; also that of an earlier call of `answer` that could not write the log behind the snapshot.
+    /// Its errors are those of `checkpoint`; also that of an earlier call of `answer` that could not write the log after the snapshot.
     pub fn go_on_with_checkpoint(&mut self, pieces: u32) -> Result<bool, StoreError> {
         if let Some(error) = self.given_up.take() {
             return Err(error);
