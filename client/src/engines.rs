@@ -5,7 +5,7 @@ use crate::calls::Calls;
 use crate::errors::Error;
 use crate::facts::Truncation;
 use crate::frames;
-use std::io;
+use std::{fmt, io};
 
 /// A truncation that a node has accepted, and the generation that proposed it.
 #[derive(Debug, Clone, Copy, PartialEq, Eq)]
@@ -49,12 +49,12 @@ pub struct Admission {
     pub accepted: Option<Accepted>,
 }
 
-/// Why a node did not do what an engine asked. Nothing has changed.
+/// Why a node declined the request of an engine. Nothing has changed.
 #[derive(Debug, Clone, Copy, PartialEq, Eq)]
 pub enum Declined {
     /// The node is a member of this generation, and serves no other, no other birth, and no proposal older than one that it has accepted.
     Stale { generation: u64 },
-    /// The node is no member, and this is its birth.
+    /// The node is not a member, and this is its birth.
     Fresh { birth: u64 },
     /// No engine may ask this under its generation.
     Unguarded,
@@ -64,6 +64,19 @@ pub enum Declined {
     Stranger { birth: u64 },
     /// The node's front is not the one that the admission asks for.
     Behind { epoch: u16, complete: u64 },
+}
+
+impl fmt::Display for Declined {
+    fn fmt(&self, f: &mut fmt::Formatter<'_>) -> fmt::Result {
+        match self {
+            Declined::Stale { generation } => write!(f, "the node serves generation {generation}"),
+            Declined::Fresh { birth } => write!(f, "the node is not a member, and has birth {birth}"),
+            Declined::Unguarded => f.write_str("an engine cannot send this request under its generation"),
+            Declined::Member => f.write_str("the node is a member already"),
+            Declined::Stranger { birth } => write!(f, "the node has birth {birth}"),
+            Declined::Behind { epoch, complete } => write!(f, "the node's front has epoch {epoch} and complete point {complete}"),
+        }
+    }
 }
 
 // ---- Requests

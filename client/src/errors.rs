@@ -3,12 +3,12 @@
 use crate::engines::Declined;
 use std::fmt;
 
-/// What a fact, or a delta, is refused for. None of it comes over a sound log.
+/// Why a fact or a delta is refused. Over a sound log none is.
 #[derive(Debug, Clone, Copy, PartialEq, Eq)]
 pub enum Refused {
-    /// The segment has `own` readers, and what came is of reader `shown`, or of so many readers.
+    /// The segment has `own` readers; the advance names reader `shown`, or the delta has `shown` readers.
     Roster { own: u8, shown: u8 },
-    /// Another truncation of that epoch is held.
+    /// Another truncation of that epoch is stored: this one.
     OtherTruncation { epoch: u16, lo: u64, hi: u64 },
     /// It contradicts the minimum read point.
     Least { min: u64 },
@@ -16,7 +16,7 @@ pub enum Refused {
     Advance { epoch: u16, point: u64, reader: u8 },
     /// It contradicts a truncation.
     Truncation { epoch: u16, lo: u64, hi: u64 },
-    /// Another record is held under its key.
+    /// Another record with its key is stored.
     Record,
 }
 
@@ -51,15 +51,15 @@ pub enum StagingFault {
     NoStaging,
     /// The piece has another name or total.
     Stranger,
-    /// That piece has come.
+    /// That piece is staged already.
     Double {
         index: u32,
     },
-    /// That piece has not come.
+    /// That piece is not staged.
     Missing {
         index: u32,
     },
-    /// That piece does not go with the others.
+    /// That piece cannot follow the pieces before it.
     Malformed {
         index: u32,
     },
@@ -83,13 +83,13 @@ pub enum Status {
     InputEnded,
     /// Its answers could not be written.
     OutputFailed,
-    /// There was no memory for its first segment.
+    /// Memory ran out at its start.
     NoMemory,
-    /// What this package does not know.
+    /// A status that this package does not know.
     Other(u8),
 }
 
-/// Why a call was not carried out. Nothing has changed then, but where the segment has `Stopped` and is gone, or it is said otherwise.
+/// Why a call failed. Nothing has changed then, unless the segment has `Stopped` and is gone, or the error says otherwise.
 #[derive(Debug, Clone, PartialEq, Eq)]
 pub enum Error {
     Refused(Refused),
@@ -102,19 +102,19 @@ pub enum Error {
     },
     Snapshot(SnapshotFault),
     Staging(StagingFault),
-    /// A list of the answer is longer than its count field holds.
+    /// A list of the answer has more elements than its count field can express.
     TooLong,
-    /// The delta has more bytes than were asked for.
+    /// The delta has more bytes than the request allows.
     Large,
     /// The answer does not fit into a frame with those of the other requests. Asked alone, the request has its answer.
     LongAnswer,
-    /// The bytes that were given are no such value.
+    /// The given bytes are not a value of the expected kind.
     Wire(WireFault),
-    /// An argument is out of its range.
+    /// An argument is out of range.
     BadRequest,
     /// The request is longer than a segment reads.
     LongFrame,
-    /// There was no memory in the segment. The same request may succeed later.
+    /// The segment ran out of memory. The same request may succeed later.
     Memory,
     /// The segment has ended; how, where this package runs it.
     Stopped(Option<Status>),
@@ -157,24 +157,105 @@ impl WireFault {
     }
 }
 
+impl fmt::Display for Refused {
+    fn fmt(&self, f: &mut fmt::Formatter<'_>) -> fmt::Result {
+        match self {
+            Refused::Roster { own, shown } => write!(f, "{shown} does not fit the roster of {own} readers"),
+            Refused::OtherTruncation { epoch, lo, hi } => write!(f, "epoch {epoch} has another truncation, with lo {lo} and hi {hi}"),
+            Refused::Least { min } => write!(f, "it contradicts the minimum read point {min}"),
+            Refused::Advance { epoch, point, reader } => {
+                write!(f, "it contradicts the advance of reader {reader} to {point} in epoch {epoch}")
+            }
+            Refused::Truncation { epoch, lo, hi } => {
+                write!(f, "it contradicts the truncation of epoch {epoch}, with lo {lo} and hi {hi}")
+            }
+            Refused::Record => f.write_str("another record with its key is stored"),
+        }
+    }
+}
+
+impl fmt::Display for Uncovered {
+    fn fmt(&self, f: &mut fmt::Formatter<'_>) -> fmt::Result {
+        match self {
+            Uncovered::Anchor { anchor } => write!(f, "the anchor {anchor}"),
+            Uncovered::Key { epoch, number } => write!(f, "the record {number} of epoch {epoch}"),
+        }
+    }
+}
+
+impl fmt::Display for ReadFault {
+    fn fmt(&self, f: &mut fmt::Formatter<'_>) -> fmt::Result {
+        match self {
+            ReadFault::Below { min } => write!(f, "the point is below the minimum read point {min}"),
+            ReadFault::Above { complete } => write!(f, "the point is above the complete point {complete}"),
+        }
+    }
+}
+
+impl fmt::Display for SnapshotFault {
+    fn fmt(&self, f: &mut fmt::Formatter<'_>) -> fmt::Result {
+        f.write_str(match self {
+            SnapshotFault::TooMany => "the snapshot would have more than 2^32 - 1 pieces",
+            SnapshotFault::NoSnapshot => "there is no snapshot",
+            SnapshotFault::NoPiece => "the snapshot has no such piece",
+        })
+    }
+}
+
+impl fmt::Display for StagingFault {
+    fn fmt(&self, f: &mut fmt::Formatter<'_>) -> fmt::Result {
+        match self {
+            StagingFault::NoStaging => f.write_str("there is no staging"),
+            StagingFault::Stranger => f.write_str("the piece belongs to another snapshot"),
+            StagingFault::Double { index } => write!(f, "piece {index} is staged already"),
+            StagingFault::Missing { index } => write!(f, "piece {index} is missing"),
+            StagingFault::Malformed { index } => write!(f, "piece {index} cannot follow the pieces before it"),
+        }
+    }
+}
+
+impl fmt::Display for WireFault {
+    fn fmt(&self, f: &mut fmt::Formatter<'_>) -> fmt::Result {
+        f.write_str(match self {
+            WireFault::Short => "the bytes end inside a field",
+            WireFault::UnknownTag => "a tag is not allowed in its place",
+            WireFault::Shape => "a shape rule is broken",
+            WireFault::Order => "an element is not above the one before it",
+            WireFault::Rest => "bytes are left after the value",
+            WireFault::TooLong => "a list has more elements than its count field can express",
+        })
+    }
+}
+
+impl fmt::Display for Status {
+    fn fmt(&self, f: &mut fmt::Formatter<'_>) -> fmt::Result {
+        match self {
+            Status::InputEnded => f.write_str("its requests ended"),
+            Status::OutputFailed => f.write_str("its answers could not be written"),
+            Status::NoMemory => f.write_str("memory ran out at its start"),
+            Status::Other(number) => write!(f, "status {number}"),
+        }
+    }
+}
+
 impl fmt::Display for Error {
     fn fmt(&self, f: &mut fmt::Formatter<'_>) -> fmt::Result {
         match self {
-            Error::Refused(why) => write!(f, "refused: {why:?}"),
-            Error::Uncovered(what) => write!(f, "the node does not cover the summary: {what:?}"),
-            Error::Read(ReadFault::Below { min }) => write!(f, "below the minimum read point {min}"),
-            Error::Read(ReadFault::Above { complete }) => write!(f, "above the complete point {complete}"),
+            Error::Refused(why) => write!(f, "refused: {why}"),
+            Error::Uncovered(what) => write!(f, "the node does not cover {what} of the summary"),
+            Error::Read(why) => write!(f, "{why}"),
             Error::Broken { page, number } => write!(f, "the chain of page {page} is broken at {number}"),
-            Error::Snapshot(why) => write!(f, "no such snapshot: {why:?}"),
-            Error::Staging(why) => write!(f, "not restored: {why:?}"),
+            Error::Snapshot(why) => write!(f, "{why}"),
+            Error::Staging(why) => write!(f, "{why}"),
             Error::TooLong => f.write_str("the answer is too long"),
             Error::Large => f.write_str("the delta exceeds the requested size"),
             Error::LongAnswer => f.write_str("the answer does not fit into the batch"),
-            Error::Wire(fault) => write!(f, "an invalid value: {fault:?}"),
+            Error::Wire(fault) => write!(f, "an invalid value: {fault}"),
             Error::BadRequest => f.write_str("an argument is out of range"),
             Error::LongFrame => f.write_str("the request is too long"),
-            Error::Memory => f.write_str("no memory"),
-            Error::Stopped(status) => write!(f, "the segment has ended: {status:?}"),
+            Error::Memory => f.write_str("the segment ran out of memory"),
+            Error::Stopped(None) => f.write_str("the segment has ended"),
+            Error::Stopped(Some(status)) => write!(f, "the segment has ended: {status}"),
             Error::NotStarted(kind) => write!(f, "the segment was not started: {kind}"),
             Error::NotConnected(kind) => write!(f, "no connection: {kind}"),
             Error::TimedOut => f.write_str("no answer in time"),
@@ -182,10 +263,43 @@ impl fmt::Display for Error {
             Error::DiskFull => f.write_str("the node's disk is full"),
             Error::NotAllowed => f.write_str("the node does not allow this request to clients"),
             Error::Busy => f.write_str("the node is busy"),
-            Error::Declined(why) => write!(f, "declined to this engine: {why:?}"),
+            Error::Declined(why) => write!(f, "declined: {why}"),
             Error::Strange(answer) => write!(f, "an unknown answer: {}", String::from_utf8_lossy(answer)),
         }
     }
 }
 
 impl std::error::Error for Error {}
+
+#[cfg(test)]
+mod tests {
+    use super::*;
+
+    #[test]
+    fn errors_are_sentences() {
+        let sentences = [
+            (Error::Refused(Refused::Roster { own: 2, shown: 3 }), "refused: 3 does not fit the roster of 2 readers"),
+            (
+                Error::Refused(Refused::OtherTruncation { epoch: 1, lo: 5, hi: 9 }),
+                "refused: epoch 1 has another truncation, with lo 5 and hi 9",
+            ),
+            (
+                Error::Refused(Refused::Advance { epoch: 0, point: 4, reader: 1 }),
+                "refused: it contradicts the advance of reader 1 to 4 in epoch 0",
+            ),
+            (Error::Uncovered(Uncovered::Anchor { anchor: 5 }), "the node does not cover the anchor 5 of the summary"),
+            (Error::Uncovered(Uncovered::Key { epoch: 1, number: 7 }), "the node does not cover the record 7 of epoch 1 of the summary"),
+            (Error::Read(ReadFault::Above { complete: 9 }), "the point is above the complete point 9"),
+            (Error::Snapshot(SnapshotFault::NoPiece), "the snapshot has no such piece"),
+            (Error::Staging(StagingFault::Missing { index: 3 }), "piece 3 is missing"),
+            (Error::Wire(WireFault::Rest), "an invalid value: bytes are left after the value"),
+            (Error::Stopped(None), "the segment has ended"),
+            (Error::Stopped(Some(Status::NoMemory)), "the segment has ended: memory ran out at its start"),
+            (Error::Declined(Declined::Stale { generation: 4 }), "declined: the node serves generation 4"),
+            (Error::Strange(b"\xff?".to_vec()), "an unknown answer: \u{fffd}?"),
+        ];
+        for (error, sentence) in sentences {
+            assert_eq!(error.to_string(), sentence);
+        }
+    }
+}
