@@ -28,11 +28,11 @@ static int require_locks(const char *name, struct report *report) {
     return refuse(report, SQLITE_CANTOPEN, "open: nolock and immutable leave a connection without a snapshot; use point=N");
 }
 
-int read_address(const char *name, struct address *address, struct report *report) {
+int read_address(const char *name, int flags, struct address *address, struct report *report) {
     const char *point = sqlite3_uri_parameter(name, "point");
     bool is_latest = point && !strcmp(point, "latest");
     uint64_t keep = KEEP, milliseconds = 0;
-    *address = (struct address){.point = YIELDCLEAT_FOLLOW, .is_read_only = point};
+    *address = (struct address){.point = YIELDCLEAT_FOLLOW, .is_read_only = point || flags & SQLITE_OPEN_READONLY};
     int code = require_locks(name, report);
     if (!code && !is_latest) code = read_number(name, "point", YIELDCLEAT_FOLLOW - 1, &address->point, report);
     if (!code) code = read_number(name, "keep", INT32_MAX, &keep, report);

@@ -232,9 +232,9 @@ static const sqlite3_io_methods methods = {
 
 int database_open(const char *name, struct database *database, int flags, int *out_flags) {
     *database = (struct database){0};
-    int code = read_address(name, &database->address, &database->report);
+    int code = read_address(name, flags, &database->address, &database->report);
     if (code) return code;
-    bool is_read_only = database->address.is_read_only || flags & SQLITE_OPEN_READONLY;
+    bool is_read_only = database->address.is_read_only;
     struct rights rights = {.may_write = !is_read_only, .may_create = !is_read_only && flags & SQLITE_OPEN_CREATE};
     code = engine_open(name, &database->address, rights, &database->engine, &database->report);
     if (code) return code;

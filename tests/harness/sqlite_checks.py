@@ -282,6 +282,24 @@ def check_past(world):
             world.open(point=at)
 
 
+def check_read_only(world):
+    """A process whose connections only read fences nobody, whatever their pragmas ask for."""
+    ours = world.open()
+    ours.execute("create table t(a)")
+    world.ask("work_read_only")
+    ours.execute("insert into t values(1)")
+
+
+def work_read_only(world):
+    """Leaving these journals, SQLite asks for a lock for writing."""
+    for words in ({"mode": "ro"}, {"point": "latest"}):
+        reader = world.open(**words)
+        for mode in ("persist", "delete", "truncate", "memory"):
+            assert one(reader, f"pragma journal_mode = {mode}") == mode
+            assert one(reader, "select count(*) from t") == 0
+    assert world.calls("open_writer") == 0
+
+
 def check_keep(world):
     """Old points are given up in the end, but none that somebody of the process reads."""
     ours, reader = world.open(keep=16), world.open(keep=16)
