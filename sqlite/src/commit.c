@@ -111,6 +111,7 @@ int commit_send(struct database *database) {
     struct handle *handle = engine_borrow_writer(database->engine, &database->view.at);
     struct sending sending = {.volume = handle ? handle->volume : 0};
     int code = send(database, &sending);
+    if (code) database_forget_changes(database);
     if (!handle) return code;
     if (code) yieldcleat_volume_discard(handle->volume);
     if (is_lost(sending.fault)) engine_lose_writer(database->engine, handle, sending.fault);

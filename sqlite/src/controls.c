@@ -6,18 +6,11 @@ SQLITE_EXTENSION_INIT3
 
 /* ---- moments of a transaction */
 
-/* What was written since the last commit is gone. */
-static int drop_changes(struct database *database) {
-    pages_forget_changes(&database->pages);
-    database->size = database->view.header.size;
-    return SQLITE_OK;
-}
-
 /* All pages of the transaction are written. A name is that of a super-journal, which `journal.c` refuses before; where it gets here all
  * the same, SQLite may take the journal for committed once that file is gone, and would not roll back what is written. */
 static int sync_comes(struct database *database, const char *super_journal) {
     if (!super_journal || !*super_journal) return commit_send(database);
-    drop_changes(database);
+    database_forget_changes(database);
     database->forgets = true;
     return refuse(&database->report, SQLITE_IOERR_WRITE, SEVERAL_DATABASES);
 }
@@ -28,7 +21,7 @@ static int moment(struct database *database, int operation, void *argument) {
     case SQLITE_FCNTL_COMMIT_PHASETWO: commit_end(database); return SQLITE_OK;
     case SQLITE_FCNTL_BEGIN_ATOMIC_WRITE:
     case SQLITE_FCNTL_COMMIT_ATOMIC_WRITE: return SQLITE_OK; /* SQLITE_FCNTL_SYNC follows */
-    case SQLITE_FCNTL_ROLLBACK_ATOMIC_WRITE: return drop_changes(database);
+    case SQLITE_FCNTL_ROLLBACK_ATOMIC_WRITE: database_forget_changes(database); return SQLITE_OK;
     default: return SQLITE_NOTFOUND;
     }
 }

@@ -53,6 +53,11 @@ void database_return(struct database *database, const struct view *view) {
     turn_move(database->engine, &database->member, kept.at.point);
 }
 
+void database_forget_changes(struct database *database) {
+    pages_forget_changes(&database->pages);
+    database->size = database->view.header.size;
+}
+
 int database_fetch(struct database *database, uint32_t number, uint8_t *bytes) {
     struct handle *handle = 0;
     enum yieldcleat_fault fault = YIELDCLEAT_OK;

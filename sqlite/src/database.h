@@ -38,6 +38,9 @@ int database_look(struct database *database, const struct snapshot *snapshot);
 /* Goes back to a view, without any pages. */
 void database_return(struct database *database, const struct view *view);
 
+/* Drops what was written since the view. */
+void database_forget_changes(struct database *database);
+
 /* The content of a page in the view, or null with a code. */
 struct page *database_page(struct database *database, uint32_t number, int *code);
 

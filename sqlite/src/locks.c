@@ -38,8 +38,7 @@ int database_lock(sqlite3_file *file, int lock) {
 
 /* Drops what was written and not committed: SQLite has rolled it back, or has given it up. */
 static void end_write(struct database *database) {
-    pages_forget_changes(&database->pages);
-    database->size = database->view.header.size;
+    database_forget_changes(database);
     database->is_sent = false;
     turn_publish(database->engine, &database->member, true);
 }

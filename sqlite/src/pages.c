@@ -65,13 +65,16 @@ bool page_put(struct pages *pages, struct page *page, const void *bytes, bool is
     return true;
 }
 
+static void settle(struct pages *pages, struct page *page) {
+    sqlite3_free(page->base);
+    page->base = 0;
+    page->is_dirty = false;
+    pages->clean++;
+}
+
 void pages_settle(struct pages *pages) {
     for (struct page *page = pages_above(pages, 0); page; page = pages_above(pages, page->number)) {
-        if (!page->is_dirty) continue;
-        sqlite3_free(page->base);
-        page->base = 0;
-        page->is_dirty = false;
-        pages->clean++;
+        if (page->is_dirty) settle(pages, page);
     }
 }
 
@@ -87,9 +90,18 @@ void pages_cut(struct pages *pages, uint32_t last) {
     }
 }
 
+static void forget_change(struct pages *pages, struct page *page) {
+    if (!page->base) {
+        drop(pages, page);
+        return;
+    }
+    memcpy(page->now, page->base, YIELDCLEAT_PAGE_BYTES);
+    settle(pages, page);
+}
+
 void pages_forget_changes(struct pages *pages) {
     for (struct page *page = pages_above(pages, 0), *next = 0; page; page = next) {
         next = pages_above(pages, page->number);
-        if (page->is_dirty) drop(pages, page);
+        if (page->is_dirty) forget_change(pages, page);
     }
 }

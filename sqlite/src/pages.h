@@ -40,7 +40,7 @@ void pages_settle(struct pages *pages);
 /* Drops the pages with numbers above one. */
 void pages_cut(struct pages *pages, uint32_t last);
 
-/* Drops the dirty pages. */
+/* Drops the changes: a dirty page is what the volume has of it, or goes where that is not known. */
 void pages_forget_changes(struct pages *pages);
 
 #endif

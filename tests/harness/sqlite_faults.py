@@ -63,6 +63,26 @@ def check_faults(world):
                 other.close()
 
 
+def check_exclusive(world):
+    """In exclusive mode SQLite keeps its lock where a commit fails, and may write nothing back: nothing of that commit is read, or comes with the
+    next one."""
+    for mode in ("delete", "truncate", "persist", "memory", "off"):
+        made(world, mode)
+        ours = world.open(mode)
+        ours.executescript(f"pragma journal_mode = {mode}; pragma locking_mode = exclusive")
+        change(ours, 1)
+        before = content(ours)
+        world.fail("commit", NO_QUORUM)
+        with refused("SQLITE_IOERR_WRITE"):
+            change(ours, 2)
+        assert content(ours) == before, mode
+        change(ours, 3)
+        ours.close()
+        ours = world.open(mode)
+        assert [one(ours, "select b from t where a = ?", number) for number in (1, 2, 3)] == ["changed 1", "0" * 200, "changed 3"]
+        assert is_whole(ours)
+
+
 def check_in_doubt(world):
     """After a commit in doubt the connection sees what the volume has, and works on; with it others."""
     made(world)
