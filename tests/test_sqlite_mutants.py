@@ -32,7 +32,7 @@ MUTANTS = {
     "shows_what_is_not_durable": ("commit.c", "database->is_sent = true;", "turn_publish(database->engine, &database->member, false);\n    database->is_sent = true;", "waits"),
     "gives_up_read_points": ("commit.c", "mark < oldest ? mark : oldest", "mark < oldest ? mark : mark", "keep"),
     "gives_up_no_points": ("commit.c", "yieldcleat_volume_advance(handle->volume, mark < oldest ? mark : oldest);", "(void)mark;\n    (void)oldest;", "keep"),
-    "keeps_what_is_not_committed": ("locks.c", "    pages_forget_changes(&database->pages);\n", "", "faults"),
+    "keeps_what_is_not_committed": ("locks.c", "    database_forget_changes(database);\n", "", "spill"),
     "ends_super_journals": ("journal.c", "amount == sizeof end_of_name &&", "amount == 0 &&", "several_databases"),
     "takes_super_journals": ("vfs.c", "if (flags & SQLITE_OPEN_SUPER_JOURNAL) return", "if (!flags) return", "several_databases"),
     "takes_other_pages": ("database.c", "start[AT_RESERVED] != RESERVED", "start[AT_RESERVED] > RESERVED", "other_page_sizes"),
@@ -46,7 +46,10 @@ MUTANTS = {
     "takes_what_is_sent_for_durable": ("commit.c", ".at.losses = database->view.at.losses,", ".at = database->view.at,", "lost_snapshot"),
     "closes_while_others_wait": ("engine.c", "handle->next = engine->unused;\n    engine->unused = handle;", "yieldcleat_volume_close(handle->volume);\n    sqlite3_free(handle);", "slow_closing"),
     "leaves_a_writer_open": ("engine.c", "    retire(engine, &engine->writer); /* which an opening", "    /* which an opening", "left_writer"),
-    "writes_to_the_past": ("address.c", ".is_read_only = point}", ".is_read_only = false}", "past"),
+    "writes_to_the_past": ("address.c", ".is_read_only = point ||", ".is_read_only =", "past"),
+    "locks_to_read": ("address.c", "point || flags & SQLITE_OPEN_READONLY}", "point}", "read_only"),
+    "keeps_what_failed": ("commit.c", "    if (code) database_forget_changes(database);\n", "", "exclusive"),
+    "takes_doubt_for_failure": ("commit.c", "is_lost(sending->fault) ? SYNCING : WRITING", "WRITING", "faults"),
 }
 
 

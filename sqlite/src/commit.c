@@ -80,11 +80,16 @@ static struct header next_header(const struct database *database, const struct s
 
 /* ---- sending */
 
+/* Whether the volume can say no more about what this writer has sent: another one has to look. */
+static bool is_lost(enum yieldcleat_fault fault) {
+    return fault == YIELDCLEAT_FENCED || fault == YIELDCLEAT_IO || fault == YIELDCLEAT_NO_MEMORY || fault == YIELDCLEAT_TIMEOUT;
+}
+
 static int send_header(struct database *database, struct sending *sending) {
     uint8_t bytes[YIELDCLEAT_HEADER_BYTES];
     struct view view = {.at.losses = database->view.at.losses, .header = next_header(database, sending)};
     sending->fault = yieldcleat_volume_commit(sending->volume, bytes, header_write(&view.header, bytes), &view.at.point);
-    if (sending->fault) return refuse_fault(&database->report, WRITING, sending->fault);
+    if (sending->fault) return refuse_fault(&database->report, is_lost(sending->fault) ? SYNCING : WRITING, sending->fault);
     pages_settle(&database->pages);
     pages_cut(&database->pages, view.header.size);
     database->view = view;
@@ -92,11 +97,6 @@ static int send_header(struct database *database, struct sending *sending) {
     turn_move(database->engine, &database->member, view.at.point);
     database->is_sent = true;
     return SQLITE_OK;
-}
-
-/* Whether the volume can say no more about what this writer has sent: another one has to look. */
-static bool is_lost(enum yieldcleat_fault fault) {
-    return fault == YIELDCLEAT_FENCED || fault == YIELDCLEAT_IO || fault == YIELDCLEAT_NO_MEMORY || fault == YIELDCLEAT_TIMEOUT;
 }
 
 static int send(struct database *database, struct sending *sending) {

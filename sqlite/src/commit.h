@@ -6,7 +6,7 @@
 
 /* Sends what has changed, and waits for nothing: the view is that commit then. Without changes it does nothing. Where it fails the view
  * is what it was before the transaction, and the changes are dropped: in exclusive mode SQLite may keep the lock and write nothing back.
- * SQLITE_IOERR_LOCK where another engine has fenced this one. */
+ * SQLITE_IOERR_LOCK where another engine has fenced this one, SQLITE_IOERR_FSYNC where the commit is in doubt. */
 int commit_send(struct database *database);
 
 /* Waits until what was sent is durable. Where that fails the commit is in doubt, the process gives its writer up, and the view is what it

@@ -38,7 +38,7 @@ static int code_of(enum purpose purpose, enum yieldcleat_fault fault) {
     switch (fault) {
     case YIELDCLEAT_FENCED: return purpose == WRITING || purpose == SYNCING ? SQLITE_IOERR_LOCK : codes[purpose];
     case YIELDCLEAT_FULL: return SQLITE_FULL;
-    case YIELDCLEAT_NO_MEMORY: return SQLITE_IOERR_NOMEM;
+    case YIELDCLEAT_NO_MEMORY: return purpose == SYNCING ? codes[purpose] : SQLITE_IOERR_NOMEM;
     case YIELDCLEAT_MISUSE: return SQLITE_INTERNAL;
     default: return codes[purpose];
     }

@@ -87,6 +87,11 @@ def check_spill(world):
     assert (one(ours, "select count(*) from t"), world.size()) == (1, before)
     ours.execute(grow)
     assert one(reader, "select count(*) from t") == 3001 and is_whole(reader)
+    ours.execute("pragma journal_mode = off")  # so that SQLite writes nothing back
+    ours.execute("begin")
+    ours.execute(grow)
+    ours.execute("rollback")
+    assert one(ours, "select count(*) from t") == 3001 and is_whole(ours)
 
 
 def check_vacuum(world):
