@@ -1,6 +1,7 @@
 #include "engine.h"
 
 #include <string.h>
+#include <unistd.h>
 SQLITE_EXTENSION_INIT3
 
 static struct engine *engines; /* guarded by the mutex that SQLite has for applications */
@@ -171,7 +172,7 @@ void engine_close(struct engine *engine) {
 static struct engine *make_engine(const char *place, const struct address *address) {
     struct engine *engine = sqlite3_malloc64(sizeof *engine);
     if (!engine) return 0;
-    *engine = (struct engine){.point = address->point, .options.milliseconds = address->milliseconds};
+    *engine = (struct engine){.point = address->point, .process = getpid(), .options.milliseconds = address->milliseconds};
     engine->place = sqlite3_mprintf("%s", place);
     engine->mutex = sqlite3_mutex_alloc(SQLITE_MUTEX_FAST);
     engine->opening = sqlite3_mutex_alloc(SQLITE_MUTEX_FAST);
@@ -183,11 +184,15 @@ static struct engine *make_engine(const char *place, const struct address *addre
     return 0;
 }
 
+static bool is_engine_of(const struct engine *engine, const char *place, uint64_t point) {
+    return engine->process == getpid() && engine->point == point && !strcmp(engine->place, place);
+}
+
 /* The engine in the list, or a new one that is in it from now on; null without memory. */
 static struct engine *find_engine(const char *place, const struct address *address) {
     sqlite3_mutex_enter(list_mutex());
     struct engine *engine = engines;
-    while (engine && (engine->point != address->point || strcmp(engine->place, place) != 0)) engine = engine->next;
+    while (engine && !is_engine_of(engine, place, address->point)) engine = engine->next;
     if (!engine && (engine = make_engine(place, address))) {
         engine->next = engines;
         engines = engine;

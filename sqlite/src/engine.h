@@ -4,6 +4,7 @@
 #define ENGINE_H
 
 #include <sqlite3ext.h>
+#include <sys/types.h>
 
 #include "address.h"
 
@@ -36,6 +37,7 @@ struct engine {
     struct engine *next;
     char *place;
     uint64_t point; /* of the past, or YIELDCLEAT_FOLLOW */
+    pid_t process;  /* whose handles these are: a forked child has no use for them, and leaves them alone */
     unsigned connections;
     struct yieldcleat_options options;
     sqlite3_mutex *opening; /* held while a writer is opened, and never together with */

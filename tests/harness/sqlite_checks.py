@@ -6,6 +6,7 @@ import threading
 import time
 from concurrent.futures import ThreadPoolExecutor
 
+from harness.sqlite_crashes import Child
 from harness.sqlite_transactions import TABLES, transaction
 from harness.sqlite_worlds import content, is_whole, one, point, refused
 
@@ -211,6 +212,28 @@ def work_increments(world, count):
             assert error.sqlite_errorname in ("SQLITE_IOERR_LOCK", "SQLITE_BUSY_SNAPSHOT"), error.sqlite_errorname
             ours.close()
             ours = world.open(busy=10)
+
+
+def check_forks(world):
+    """A child that is forked from a process without open databases has no use for the handles that the process keeps. It opens the volume for
+    itself, and so does the process afterwards."""
+    ours = world.open()
+    ours.execute("create table t(a)")
+    ours.close()
+    for count in range(1, 4):
+        opened = world.calls("open_writer")
+        assert Child(add_row, world).said() == [(opened + 1, 2 * count - 1)]
+        ours = world.open()
+        ours.execute("insert into t values('process')")
+        ours.close()
+        assert world.calls("open_writer") == opened + 1
+    assert one(world.open(), "select count(*) from t") == 6 and is_whole(world.open())
+
+
+def add_row(pipe, world):
+    ours = world.open()
+    ours.execute("insert into t values('child')")
+    pipe.send((world.calls("open_writer"), one(ours, "select count(*) from t")))
 
 
 def check_waits(world):
