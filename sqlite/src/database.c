@@ -202,7 +202,7 @@ static int database_close(sqlite3_file *file) {
     database_unlock(file, SQLITE_LOCK_NONE);
     turn_leave(database->engine, &database->member);
     pages_cut(&database->pages, 0);
-    engine_close(database->engine);
+    engine_close(database->engine, !database->address.is_read_only);
     file->pMethods = 0;
     return SQLITE_OK;
 }

@@ -153,8 +153,7 @@ static void unlink_engine(const struct engine *engine) {
     *link = engine->next;
 }
 
-void engine_close(struct engine *engine) {
-    if (!engine) return;
+void engine_close(struct engine *engine, bool may_write) {
     sqlite3_mutex_enter(list_mutex());
     bool is_last = engine->connections == 1;
     sqlite3_mutex_leave(list_mutex());
@@ -162,6 +161,7 @@ void engine_close(struct engine *engine) {
     sqlite3_mutex_enter(list_mutex());
     sqlite3_mutex_enter(engine->mutex);
     engine->is_idle = --engine->connections == 0;
+    engine->may_write -= may_write;
     bool ends = engine->is_idle && !engine->writer;
     sqlite3_mutex_leave(engine->mutex);
     if (ends) unlink_engine(engine);
@@ -230,7 +230,7 @@ static void check_writer(struct engine *engine, const struct address *address) {
         retire(engine, &engine->reader);
     }
     engine->options.milliseconds = address->milliseconds;
-    engine->is_idle = engine->may_write = false;
+    engine->is_idle = false;
 }
 
 int engine_open(const char *place, const struct address *address, struct rights rights, struct engine **engine, struct report *report) {
@@ -240,13 +240,13 @@ int engine_open(const char *place, const struct address *address, struct rights 
     sqlite3_mutex_enter(found->mutex);
     if (found->is_idle) check_writer(found, address);
     if (!found->reader) fault = open_reader(found, rights);
-    found->may_write |= rights.may_write && !fault;
+    found->may_write += rights.may_write && !fault;
     leave(found);
     if (!fault) {
         *engine = found;
         return SQLITE_OK;
     }
     int code = refuse_fault(report, OPENING, fault);
-    engine_close(found);
+    engine_close(found, false);
     return code;
 }

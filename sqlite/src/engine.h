@@ -42,7 +42,7 @@ struct engine {
     struct yieldcleat_options options;
     sqlite3_mutex *opening; /* held while a writer is opened, and never together with */
     sqlite3_mutex *mutex;   /* which guards all below */
-    bool may_write;       /* some connection may; and */
+    unsigned may_write;   /* of the connections; and */
     bool is_idle;         /* there was none just now */
     struct handle *reader, *writer;
     struct handle *unused; /* to be closed; null while nobody holds the mutex */
@@ -60,8 +60,8 @@ struct rights {
 /* The engine of a volume, made and opened where the process has none yet; the parameters of the first connection count. */
 int engine_open(const char *place, const struct address *address, struct rights rights, struct engine **engine, struct report *report);
 
-/* Gives an engine back; the last connection closes its handles, unless one of them writes. Null is allowed. */
-void engine_close(struct engine *engine);
+/* Gives an engine back; the last connection closes its handles, unless one of them writes. */
+void engine_close(struct engine *engine, bool may_write);
 
 /* The writer where there is one, or else the reader, for a call of the volume. */
 struct handle *engine_borrow(struct engine *engine);

@@ -8,7 +8,7 @@ from concurrent.futures import ThreadPoolExecutor
 
 from harness.sqlite_crashes import Child
 from harness.sqlite_transactions import TABLES, transaction
-from harness.sqlite_worlds import content, is_whole, one, point, refused
+from harness.sqlite_worlds import NO_QUORUM, content, is_whole, one, point, refused
 
 
 def modes(world, connection):
@@ -319,12 +319,17 @@ def check_read_only(world):
 
 
 def work_read_only(world):
-    """Leaving these journals, SQLite asks for a lock for writing."""
+    """Leaving some of these journals, SQLite asks for a lock for writing. Where nothing is proved durable only a writer opens the volume."""
     for words in ({"mode": "ro"}, {"point": "latest"}):
         reader = world.open(**words)
         for mode in ("persist", "delete", "truncate", "memory"):
             assert one(reader, f"pragma journal_mode = {mode}") == mode
             assert one(reader, "select count(*) from t") == 0
+    writer = world.open()
+    writer.close()  # which has not written
+    world.fail("newest", NO_QUORUM)
+    with refused("SQLITE_IOERR_READ"):
+        one(reader, "select count(*) from t")
     assert world.calls("open_writer") == 0
 
 
