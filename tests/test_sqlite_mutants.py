@@ -48,6 +48,7 @@ MUTANTS = {
     "leaves_a_writer_open": ("engine.c", "    retire(engine, &engine->writer); /* which an opening", "    /* which an opening", "left_writer"),
     "writes_to_the_past": ("address.c", ".is_read_only = point ||", ".is_read_only =", "past"),
     "uses_handles_of_a_parent": ("engine.c", "engine->process == getpid() &&", "", "forks"),
+    "keeps_an_ended_writer": ("engine.c", "may_go_on ? yieldcleat_volume_status(writer->volume, &status) : fault;", "may_go_on ? YIELDCLEAT_OK : fault;", "ended_writer"),
     "recovers_to_read": ("engine.c", "    engine->may_write -= may_write;\n", "    (void)may_write;\n", "read_only"),
     "locks_to_read": ("address.c", "point || flags & SQLITE_OPEN_READONLY}", "point}", "read_only"),
     "keeps_what_failed": ("commit.c", "    if (code) database_forget_changes(database);\n", "", "exclusive"),

@@ -61,10 +61,18 @@ struct handle *engine_borrow_writer(struct engine *engine, const struct snapshot
     return handle;
 }
 
+/* What has ended a writer whose call had a fault: all its calls fail from now on. YIELDCLEAT_OK where it goes on. */
+static enum yieldcleat_fault end_of(const struct handle *writer, enum yieldcleat_fault fault) {
+    struct yieldcleat_status status;
+    bool may_go_on = fault && fault != YIELDCLEAT_FENCED;
+    return may_go_on ? yieldcleat_volume_status(writer->volume, &status) : fault;
+}
+
 bool engine_return(struct engine *engine, struct handle *handle, enum yieldcleat_fault fault) {
-    if (fault == YIELDCLEAT_FENCED) engine_lose_writer(engine, handle, fault);
+    enum yieldcleat_fault end = handle == engine->reader ? YIELDCLEAT_OK : end_of(handle, fault);
+    bool again = end != YIELDCLEAT_OK;
+    if (again) engine_lose_writer(engine, handle, end);
     sqlite3_mutex_enter(engine->mutex);
-    bool again = fault == YIELDCLEAT_FENCED && handle != engine->reader;
     handle->users--;
     close_unused(engine, handle);
     leave(engine);

@@ -70,10 +70,10 @@ struct handle *engine_borrow(struct engine *engine);
  * after it what the snapshot has not, and perhaps with its point. */
 struct handle *engine_borrow_writer(struct engine *engine, const struct snapshot *snapshot);
 
-/* Gives a handle back with the fault of the call. True where it was a writer that is fenced: the caller may try again, with the reader. */
+/* Gives a handle back with the fault of the call. True where it was a writer that has ended: the caller may try again, with the reader. */
 bool engine_return(struct engine *engine, struct handle *handle, enum yieldcleat_fault fault);
 
-/* Gives up the writer: it is fenced, or a commit of it is in doubt. */
+/* Gives up the writer: it has ended, or a commit of it is in doubt. */
 void engine_lose_writer(struct engine *engine, const struct handle *handle, enum yieldcleat_fault fault);
 
 /* Opens the volume for writing where the process has no writer. */

@@ -19,7 +19,7 @@ struct plan {
 
 static pthread_mutex_t mutex = PTHREAD_MUTEX_INITIALIZER; /* guards all below */
 static struct plan plans[CALLS];
-static int answering = NODES, next_doubt, slowness, skip_writes = -1;
+static int answering = NODES, next_doubt, slowness, skip_writes = -1, endings;
 static long bytes_of_death;
 
 static _Thread_local struct yieldcleat_error error;
@@ -59,6 +59,12 @@ HOOK void memory_volume_die(int skip, long bytes) {
     pthread_mutex_unlock(&mutex);
 }
 
+HOOK void memory_volume_end(void) {
+    pthread_mutex_lock(&mutex);
+    endings++;
+    pthread_mutex_unlock(&mutex);
+}
+
 HOOK int memory_volume_calls(const char *call) {
     pthread_mutex_lock(&mutex);
     int calls = plan_of(call)->calls;
@@ -78,6 +84,13 @@ HOOK void memory_volume_reset(void) {
 /* ---- what the double does about it */
 
 void die(void) { kill(getpid(), SIGKILL); }
+
+int endings_so_far(void) {
+    pthread_mutex_lock(&mutex);
+    int count = endings;
+    pthread_mutex_unlock(&mutex);
+    return count;
+}
 
 int nodes_that_answer(void) {
     pthread_mutex_lock(&mutex);

@@ -26,4 +26,7 @@ void die(void);
 
 int nodes_that_answer(void);
 
+/* How often the writers of the process were ended. */
+int endings_so_far(void);
+
 #endif

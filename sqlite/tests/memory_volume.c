@@ -21,6 +21,7 @@ struct yieldcleat_volume {
     int file;
     off_t read_to; /* in the file */
     bool is_writer, is_fenced;
+    int endings;             /* before it was opened */
     uint64_t generation;     /* of a writer */
     uint64_t fixed, durable; /* the point of a reader of the past; the newest point in the file */
     struct state *state;
@@ -119,6 +120,7 @@ static struct yieldcleat_volume *make(const char *place, int flags) {
     if (!volume) return 0;
     pthread_mutex_init(&volume->mutex, 0);
     volume->fixed = YIELDCLEAT_FOLLOW;
+    volume->endings = endings_so_far();
     volume->state = calloc(1, sizeof *volume->state);
     volume->file = open(place, flags | O_CLOEXEC, 0600);
     return volume;
@@ -206,11 +208,14 @@ void yieldcleat_volume_close(struct yieldcleat_volume *volume) {
 
 /* ---- reading */
 
+static bool has_ended(const struct yieldcleat_volume *volume) { return volume->is_writer && volume->endings != endings_so_far(); }
+
 /* Begins a call on a handle, which is locked until the call ends. */
 static enum yieldcleat_fault enter(struct yieldcleat_volume *volume, enum call call) {
     enum yieldcleat_fault fault = begin(call);
     pthread_mutex_lock(&volume->mutex);
     if (!fault && volume->is_fenced) fault = fail(YIELDCLEAT_FENCED, 0);
+    if (!fault && has_ended(volume)) fault = fail(YIELDCLEAT_IO, 0);
     return fault;
 }
 
@@ -335,6 +340,7 @@ enum yieldcleat_fault yieldcleat_volume_advance(struct yieldcleat_volume *volume
 }
 
 enum yieldcleat_fault yieldcleat_volume_status(struct yieldcleat_volume *volume, struct yieldcleat_status *status) {
+    if (has_ended(volume)) return fail(YIELDCLEAT_IO, 0);
     pthread_mutex_lock(&volume->mutex);
     *status = (struct yieldcleat_status){
         .newest = volume->fixed == YIELDCLEAT_FOLLOW ? volume->durable : volume->fixed,

@@ -23,6 +23,9 @@ void memory_volume_die(int skip, long bytes);
 /* Each wait and each closing takes so long. */
 void memory_volume_delay(int microseconds);
 
+/* The process's writers have ended: all their calls fail with YIELDCLEAT_IO from now on. */
+void memory_volume_end(void);
+
 /* How often a call was made. */
 int memory_volume_calls(const char *call);
 

@@ -236,6 +236,25 @@ def check_fenced_calls(world):
         ours.close()
 
 
+def check_ended_writer(world):
+    """A writer that has ended without being fenced keeps nobody from reading, nor from writing with another one."""
+    made(world)
+    ours, other = world.open(), world.open()
+    change(ours, 1)
+    world.end()
+    assert one(other, "select b from t where a = 1") == "changed 1"
+    change(other, 2)
+    ours.execute("begin immediate")
+    change(ours, 3)
+    world.end()
+    assert one(other, "select b from t where a = 2") == "changed 2"
+    with refused("SQLITE_IOERR_LOCK", "lock for writing was lost", ours):
+        ours.execute("commit")
+    change(ours, 4)
+    assert [one(other, "select b from t where a = ?", number) for number in (2, 3, 4)] == ["changed 2", "0" * 200, "changed 4"]
+    assert is_whole(other)
+
+
 def check_slow_closing(world):
     """A handle whose closing takes long, as links to silent nodes do, keeps only the connection waiting that closes it."""
     made(world)

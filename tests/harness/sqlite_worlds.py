@@ -88,6 +88,9 @@ class World:
     def die(self, skip, count):
         self.double.memory_volume_die(skip, count)
 
+    def end(self):
+        self.double.memory_volume_end()
+
     def calls(self, call):
         return self.double.memory_volume_calls(call.encode())
 

@@ -141,7 +141,8 @@ enum yieldcleat_fault yieldcleat_volume_wait(struct yieldcleat_volume *volume, u
  * the present one changes nothing. Faults: ABOVE (the point is not durable), NO_QUORUM, FENCED. */
 enum yieldcleat_fault yieldcleat_volume_advance(struct yieldcleat_volume *volume, uint64_t point);
 
-/* The state of the volume, as far as this handle knows without asking a node. */
+/* The state of the volume, as far as this handle knows without asking a node. On a writer that has ended, so that all its calls fail, it
+ * returns the fault that ended it: FENCED, IO, NO_MEMORY or FULL. */
 enum yieldcleat_fault yieldcleat_volume_status(struct yieldcleat_volume *volume, struct yieldcleat_status *status);
 
 /* The details of the last call on this thread that failed; YIELDCLEAT_OK and an empty message before the first one. */
