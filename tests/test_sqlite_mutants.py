@@ -49,6 +49,7 @@ MUTANTS = {
     "writes_to_the_past": ("address.c", ".is_read_only = point ||", ".is_read_only =", "past"),
     "uses_handles_of_a_parent": ("engine.c", "engine->process == getpid() &&", "", "forks"),
     "keeps_an_ended_writer": ("engine.c", "may_go_on ? yieldcleat_volume_status(writer->volume, &status) : fault;", "may_go_on ? YIELDCLEAT_OK : fault;", "ended_writer"),
+    "gives_up_the_past": ("engine.c", " || strcmp(other->place, engine->place) != 0) continue;", " || other != engine) continue;", "kept_past"),
     "recovers_to_read": ("engine.c", "    engine->may_write -= may_write;\n", "    (void)may_write;\n", "read_only"),
     "locks_to_read": ("address.c", "point || flags & SQLITE_OPEN_READONLY}", "point}", "read_only"),
     "keeps_what_failed": ("commit.c", "    if (code) database_forget_changes(database);\n", "", "exclusive"),

@@ -144,7 +144,7 @@ int commit_sync(struct database *database) {
 
 /* Gives up the points below the oldest mark, and none that a connection of this process reads. A failure costs nothing but room. */
 static void give_up_points(const struct database *database) {
-    uint64_t mark = database->view.header.marks[0], oldest = turn_oldest(database->engine);
+    uint64_t mark = database->view.header.marks[0], oldest = engine_oldest(database->engine);
     struct handle *handle = engine_borrow_writer(database->engine, &database->view.at);
     if (!handle) return;
     yieldcleat_volume_advance(handle->volume, mark < oldest ? mark : oldest);

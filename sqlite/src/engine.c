@@ -210,6 +210,38 @@ static struct engine *find_engine(const char *place, const struct address *addre
     return engine;
 }
 
+/* The oldest snapshot that a connection of this engine reads. Leaves its mutex, which the caller has entered. */
+static uint64_t leave_oldest(const struct engine *engine) {
+    uint64_t oldest = UINT64_MAX;
+    for (const struct member *member = engine->members; member; member = member->next) {
+        if (member->reads && member->point < oldest) oldest = member->point;
+    }
+    sqlite3_mutex_leave(engine->mutex);
+    return oldest;
+}
+
+static uint64_t oldest_of(const struct engine *engine) {
+    sqlite3_mutex_enter(engine->mutex);
+    return leave_oldest(engine);
+}
+
+/* The same, or 0 where the mutex is not free: an opening holds it while it waits for nodes. */
+static uint64_t try_oldest_of(const struct engine *engine) {
+    return sqlite3_mutex_try(engine->mutex) == SQLITE_OK ? leave_oldest(engine) : 0;
+}
+
+uint64_t engine_oldest(const struct engine *engine) {
+    uint64_t oldest = UINT64_MAX, point = 0;
+    sqlite3_mutex_enter(list_mutex());
+    for (struct engine *other = engines; other; other = other->next) {
+        if (other->process != engine->process || strcmp(other->place, engine->place) != 0) continue;
+        point = other == engine ? oldest_of(other) : try_oldest_of(other);
+        if (point < oldest) oldest = point;
+    }
+    sqlite3_mutex_leave(list_mutex());
+    return oldest;
+}
+
 static enum yieldcleat_fault open_for_reading(struct engine *engine) {
     struct yieldcleat_volume *volume = 0;
     enum yieldcleat_fault fault = yieldcleat_volume_open_reader(engine->place, &engine->options, engine->point, &volume);

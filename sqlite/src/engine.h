@@ -63,6 +63,10 @@ int engine_open(const char *place, const struct address *address, struct rights 
 /* Gives an engine back; the last connection closes its handles, unless one of them writes. */
 void engine_close(struct engine *engine, bool may_write);
 
+/* The oldest snapshot that a connection of the process reads of this volume, also one that was opened at a point of the past. UINT64_MAX
+ * without any; 0 where it is not known, since such a point is just being opened. */
+uint64_t engine_oldest(const struct engine *engine);
+
 /* The writer where there is one, or else the reader, for a call of the volume. */
 struct handle *engine_borrow(struct engine *engine);
 

@@ -72,16 +72,6 @@ void turn_move(struct engine *engine, struct member *member, uint64_t point) {
     sqlite3_mutex_leave(engine->mutex);
 }
 
-uint64_t turn_oldest(struct engine *engine) {
-    uint64_t oldest = UINT64_MAX;
-    sqlite3_mutex_enter(engine->mutex);
-    for (const struct member *member = engine->members; member; member = member->next) {
-        if (member->reads && member->point < oldest) oldest = member->point;
-    }
-    sqlite3_mutex_leave(engine->mutex);
-    return oldest;
-}
-
 bool turn_is_taken(struct engine *engine, const struct member *member) {
     sqlite3_mutex_enter(engine->mutex);
     bool is_taken = engine->owner && engine->owner != member;

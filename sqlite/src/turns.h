@@ -34,7 +34,4 @@ void turn_publish(struct engine *engine, const struct member *member, bool ends)
 /* Whether another connection of the process is in a write transaction. */
 bool turn_is_taken(struct engine *engine, const struct member *member);
 
-/* The oldest snapshot that a connection of the process reads; UINT64_MAX without any. */
-uint64_t turn_oldest(struct engine *engine);
-
 #endif

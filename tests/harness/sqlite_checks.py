@@ -360,6 +360,24 @@ def check_keep(world):
     assert one(world.open("all", point=first), "select count(*) from t") == 0
 
 
+def check_kept_past(world):
+    """No point is given up that a transaction of the same process reads, also where its connection was opened at that point."""
+    ours = world.open(keep=16)
+    ours.execute("create table t(a integer primary key, b)")
+    ours.execute("with recursive c(n) as (select 1 union all select n + 1 from c where n < 100) insert into t select n, hex(zeroblob(500)) from c")
+    past = world.open(point=point(ours))
+    past.execute("begin")
+    assert one(past, "select length(b) from t where a = 1") == 1000
+    for number in range(60):
+        ours.execute("update t set b = ?", (number,))
+    assert one(past, "select length(b) from t where a = 100") == 1000
+    past.execute("commit")
+    for number in range(60):
+        ours.execute("update t set b = ?", (number,))
+    with refused("SQLITE_IOERR_READ", "older", past):
+        one(past, "select length(b) from t where a = 50")
+
+
 def check_openings(world):
     """What cannot be opened is refused, and makes nothing."""
     bad = [{"point": it} for it in ("x", "", 2**64, -1)] + [{"keep": "many"}, {"timeout": "1s"}, {"nolock": 1}, {"immutable": 1}]
