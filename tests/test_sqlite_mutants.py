@@ -24,6 +24,7 @@ MUTANTS = {
     "keeps_pages_of_a_lost_commit": ("commit.c", "database_return(database, &database->before);", "database->view = database->before;", "in_doubt"),
     "undoes_a_commit_in_doubt": ("commit.c", "database_return(database, &database->before);", ";", "in_doubt"),
     "goes_on_after_doubt": ("commit.c", "if (fault) engine_lose_writer(database->engine, handle, fault);", "", "in_doubt"),
+    "takes_a_fence_for_a_commit": ("commit.c", "if (sending->fault) return", "if (sending->fault == YIELDCLEAT_FENCED) return SQLITE_OK;\n    if (sending->fault) return", "fenced_calls"),
     "does_not_wait": ("commit.c", "if (!database->is_sent) return SQLITE_OK;", "if (database) return SQLITE_OK;", "calls"),
     "ignores_a_fault_of_waiting": ("commit.c", "SYNCING, fault) : SQLITE_OK;", "SYNCING, fault) * 0 : SQLITE_OK;", "in_doubt"),
     "writes_over_a_newer_state": ("turns.c", "bool is = engine->published == member->point", "bool is = engine->published >= member->point", "turns"),
