@@ -66,8 +66,7 @@ def test_shell(double, tmp_path, name):
 def test_shell_sanitized(sanitized, tmp_path):
     """All scripts one after another; the shell frees all that it has, so what is left is a leak."""
     script = "\n".join(SCRIPTS.values())
-    settings = sanitizer() | {"ASAN_OPTIONS": "detect_leaks=1"}
-    assert shell(sanitized, script, tmp_path / "ours", settings=settings)[0].count("ok\n") >= len(SCRIPTS)
+    assert shell(sanitized, script, tmp_path / "ours", settings=sanitizer(leaks=1))[0].count("ok\n") >= len(SCRIPTS)
 
 
 @needs_shell
@@ -105,5 +104,5 @@ def test_batches(sanitized, tmp_path):
 
 def test_memory(sanitized, tmp_path, rng):
     """Allocations that fail, one a round."""
-    said = ran(tmp_path, "memory", sanitized.with_suffix(""), tmp_path, rng.randrange(80, 120), settings=sanitizer() | {"ASAN_OPTIONS": "detect_leaks=1"})
+    said = ran(tmp_path, "memory", sanitized.with_suffix(""), tmp_path, rng.randrange(80, 120), settings=sanitizer(leaks=1))
     assert said.startswith("all as expected, up to allocation ")

@@ -30,10 +30,11 @@ def build(folder, target="double", root=ROOT, words=(), **settings):
     return Path(folder) / target / "yieldcleat.so"
 
 
-def sanitizer():
-    """The settings under which a program that has no sanitizer loads a library that has one. Python's own leaks are not ours."""
+def sanitizer(leaks=0):
+    """The settings under which a program that has no sanitizer loads a library that has one. What it finds ends the program with a status that
+    SQLite's shell has not. Python's own leaks are not ours."""
     library = subprocess.run(["gcc", "-print-file-name=libasan.so"], capture_output=True, text=True, check=True).stdout.strip()
-    return {"LD_PRELOAD": library, "ASAN_OPTIONS": "detect_leaks=0", "UBSAN_OPTIONS": "print_stacktrace=1"}
+    return {"LD_PRELOAD": library, "ASAN_OPTIONS": f"exitcode=99:detect_leaks={leaks}", "UBSAN_OPTIONS": "exitcode=99:print_stacktrace=1"}
 
 
 def run(name, library, folder, seed, seconds, settings=None):
