@@ -3,6 +3,7 @@
 import contextlib
 import hashlib
 import multiprocessing
+import signal
 import sqlite3
 import time
 
@@ -75,7 +76,9 @@ def returned(world, mode, died, last):
     if died[0] == "time":
         time.sleep(died[2] / 1000)
         child.process.kill()
-    return max([last, *child.said()])
+    said = child.said()
+    assert child.process.exitcode in (0, -signal.SIGKILL), f"the process ended with {child.process.exitcode}"
+    return max([last, *said])
 
 
 def digest(connection):
