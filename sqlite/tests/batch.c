@@ -1,11 +1,13 @@
-/* The calls of a library that is built with SQLITE_ENABLE_BATCH_ATOMIC_WRITE, which Debian's is not, made on the file itself; and the
- * greatest page.
+/* The calls of a library that is built with SQLITE_ENABLE_BATCH_ATOMIC_WRITE, which Debian's is not, made on the file itself; the greatest
+ * page; and what a program may ask.
  *
  *     batch LIBRARY URI */
 #include <sqlite3.h>
 #include <stdio.h>
 #include <stdlib.h>
 #include <string.h>
+
+#include "../include/yieldcleat_sqlite.h"
 
 enum { PAGE = 4096 };
 
@@ -57,9 +59,23 @@ static void commit(void) {
     file->pMethods->xUnlock(file, SQLITE_LOCK_NONE);
 }
 
+/* The point is that of the pragma, and the message has these words. */
+static void ask(sqlite3 *connection, const char *words) {
+    sqlite3_uint64 point = 0;
+    const char *message = 0;
+    char **rows = 0;
+    expect(sqlite3_get_table(connection, "pragma yieldcleat_point", &rows, 0, 0, 0) == SQLITE_OK, "the pragma has an answer");
+    expect(sqlite3_file_control(connection, "main", YIELDCLEAT_FCNTL_POINT, &point) == SQLITE_OK, "the point is known");
+    expect(point > 0 && point == strtoull(rows[1], 0, 10), "the point is that of the pragma");
+    expect(sqlite3_file_control(connection, "main", YIELDCLEAT_FCNTL_MESSAGE, &message) == SQLITE_OK, "there is a message");
+    expect(strstr(message, words) && !*words == !*message, "the message is of the last error");
+    sqlite3_free_table(rows);
+}
+
 int main(int count, char **words) {
     if (count != 3) return 2;
     sqlite3 *connection = open_database(words[1], words[2]);
+    ask(connection, "");
     expect(file->pMethods->xDeviceCharacteristics(file) & SQLITE_IOCAP_BATCH_ATOMIC, "batches are offered");
     begin();
     put(3, 'a');
@@ -82,6 +98,7 @@ int main(int count, char **words) {
     file->pMethods->xUnlock(file, SQLITE_LOCK_NONE);
     expect(file->pMethods->xLock(file, SQLITE_LOCK_SHARED) == SQLITE_OK && has(3, 'a'), "what was not committed is gone");
     file->pMethods->xUnlock(file, SQLITE_LOCK_NONE);
+    ask(connection, "a volume has 65535 pages");
     sqlite3_close(connection);
     puts("all as expected");
     return 0;
