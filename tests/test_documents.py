@@ -13,7 +13,7 @@ CRATES = build.read_crates()
 PAGES = [ROOT / "README.md", *sorted((ROOT / "docs").glob("*.md")), *sorted(ROOT.glob("*/README.md"))]
 EACH_PAGE = pytest.mark.parametrize("page", PAGES, ids=lambda page: str(page.relative_to(ROOT)))
 FOLDERS = "crates|docs|examples|tests|tools|bench|client|embedding|store|volume|sqlite|.ci"
-FILE = re.compile(rf"`((?:(?:{FOLDERS})/)?[A-Za-z_/*]+\.(?:md|py|rt|antt|txt|texts|requests|sh|c|h))`")
+FILE = re.compile(r"`((?:\.\./)?[\w./*-]+\.(?:md|py|rt|rs|antt|txt|texts|requests|sql|sh|c|h))`")
 MAP_ROW = re.compile(r"^\| `([a-z_]+)` \| [^|]* \|([^|]*)\|$", re.M)
 
 
@@ -32,10 +32,12 @@ def test_readme_names_the_users(name):
 
 @EACH_PAGE
 def test_named_files_are_there(page):
-    """A file is named by its path from the top, or by its name in the same folder or in docs/."""
+    """A file is named by its path from the top, or by its name in the same folder or in docs/; in the page of a folder also from its `src` on."""
     named = [name for name in FILE.findall(page.read_text()) if "NAME" not in name]
-    named = [name for name in named if name.split("/")[0] in FOLDERS.split("|") or ("/" not in name and name.endswith((".md", ".py")))]
-    assert [name for name in named if not any(any(place.glob(name)) for place in (ROOT, ROOT / "docs", ROOT / "crates", page.parent))] == []
+    if page.parent in (ROOT, ROOT / "docs"):  # whose other names are of files in crates
+        named = [name for name in named if name.split("/")[0] in FOLDERS.split("|") or ("/" not in name and name.endswith((".md", ".py")))]
+    places = (ROOT, ROOT / "docs", ROOT / "crates", page.parent, page.parent / "src", page.parent / "c")
+    assert [name for name in named if not any(any(place.glob(name)) for place in places)] == []
 
 
 @EACH_PAGE
