@@ -1,5 +1,6 @@
 """SQLite over six storage servers: crashes of engines beside what happens to servers, and schedules that random rounds hit seldom."""
 
+import re
 import subprocess
 import sys
 
@@ -56,7 +57,8 @@ def test_crash_rounds(parts, tmp_path, seed, seconds):
     """200 rounds by default, if they take less than two minutes."""
     extension, store, _ = parts
     bounds = ("--rounds", int(20 * seconds), "--seconds", 12 * seconds, "--processes", PROCESSES)
-    run("many_rounds", tmp_path / "s", "--extension", extension, "--store", store, "--seed", seed, *bounds, limit=SECONDS + 12 * seconds)
+    done = run("many_rounds", tmp_path / "s", "--extension", extension, "--store", store, "--seed", seed, *bounds, limit=SECONDS + 12 * seconds)
+    assert re.search(" 0 faults; [1-9][0-9,]* returned, ", done.stdout.splitlines()[-1]), "no commit has returned in all rounds"
 
 
 def test_crash_rounds_leave_a_sound_log(parts, fleet, tmp_path, seed, seconds):

@@ -25,6 +25,7 @@ MOST_LOST = 2  # servers at a time that have lost their files and are not admitt
 PATIENCE = 20000  # milliseconds of an engine that is to succeed
 SPENDING = 4  # seconds until an engine has spent a bound: twice as long as a reader waits for another engine's opening
 ROUNDS = 150  # of one cluster
+LEAST = 20  # rounds until a commit is to have returned
 GOSSIP = 50, 200, 500  # milliseconds between two exchanges of a server: seldom ones leave more to engines, and cost less
 OFTEN, NEVER = 200_000, 1 << 40  # bytes of a log after which servers make snapshots
 
@@ -267,13 +268,13 @@ def add(one, other):
 
 
 def run(extension, store, disk, folder, seed, seconds, fleet=None, kind=Rounds):
-    """Rounds until the time is up, over a new cluster now and then. Returns the counts, and what is wrong."""
+    """Rounds until the time is up and a commit has returned, over a new cluster now and then. Returns the counts, and what is wrong."""
     load(extension)
     end, place, total, wrong = time.monotonic() + seconds, 0, {}, ""
-    while not wrong and (place == 0 or time.monotonic() < end):
+    while not wrong and (place == 0 or time.monotonic() < end or (not total["returned"] and place < LEAST)):
         counts, place, wrong = play_cluster(kind, Parts(extension, store, disk, fleet), folder, seed, place, lambda _: time.monotonic() < end)
         total = add(total, counts)
-    return total, wrong
+    return total, wrong or ("" if total["returned"] else "no commit has returned in all rounds")
 
 
 if __name__ == "__main__":
