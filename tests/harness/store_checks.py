@@ -4,6 +4,7 @@ Each check has a folder of its own, the library that plays the disk, and a gener
 """
 
 import contextlib
+import itertools
 import threading
 import time
 
@@ -61,7 +62,7 @@ def told(client, requests):
 
 
 class Writer(threading.Thread):
-    """Sends records after the acknowledged ones until its server dies, and counts what the front acknowledges."""
+    """Sends records after the acknowledged ones until its server dies, and counts those that an answer acknowledges: to a take, or to a front."""
 
     def __init__(self, client, last, choose):
         super().__init__(daemon=True)
@@ -70,11 +71,13 @@ class Writer(threading.Thread):
     def run(self):
         with contextlib.suppress(OSError):
             while True:
-                last = self.acknowledged + self.choose.randrange(1, 30)
-                answers = told(self.client, [*takes(self.acknowledged + 1, last), advance(max(1, last // 2)), b"front"])
+                first, last = self.acknowledged + 1, self.acknowledged + self.choose.randrange(1, 30)
+                more = self.choose.choice([[], [advance(max(1, last // 2)), b"front"]])
+                answers = told(self.client, [*takes(first, last), *more])
+                self.acknowledged += len([*itertools.takewhile(lambda it: it == b"changed", answers[: last - first + 1])])
                 if answers[-1] is None:
                     return
-                self.acknowledged = int(answers[-1].split()[2])
+                assert self.acknowledged == last and (not more or answers[-1].startswith(b"front 0 %d " % last)), answers
 
 
 def check_kills(program, folder, disk, choose):
@@ -82,7 +85,7 @@ def check_kills(program, folder, disk, choose):
     with contextlib.closing(Store(program, folder, "--snapshot-after", 4096, shim=disk, DISK_DELAY=2000)) as it:
         acknowledged, end = 0, time.monotonic() + 4
         for place in range(100):
-            if place >= 6 and time.monotonic() > end:
+            if place >= 6 and acknowledged and time.monotonic() > end:
                 break
             it.start()
             client = it.client()
