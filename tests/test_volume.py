@@ -1,8 +1,8 @@
 """The protocol of a volume, as a model: no schedule breaks a promise, and each wrong implementation is caught."""
 
 import pytest
-from model.volume import HARMLESS, MUTANTS, replay
-from model.volume_schedules import SCHEDULES, directed, explore, moves_of, show, shrink
+from model.volume import HARMLESS, MUTANTS
+from model.volume_schedules import SCHEDULES, directed, explore, moves_of, replay, show, shrink
 
 
 def test_every_mutant_has_a_schedule():
@@ -27,7 +27,7 @@ def test_random_schedules(rng, nodes, quorum, deviation):
     world = {"nodes": nodes, "quorum": quorum, "mutants": (deviation,)}
     schedules, moves, run = explore(rng, 2 if deviation else 8, **world)
     if run:
-        pytest.fail(f"{run.violation}\n{show(shrink(run.moves, run.violation.promise, **world), **world)}")
+        pytest.fail(f"{run.violation}\n{show(shrink(run), **world)}")
     assert schedules and moves
 
 
@@ -36,5 +36,5 @@ def test_random_search_finds_a_mutant_and_prints_it(rng):
     world = {"mutants": ("compares_fronts_without_a_union",)}
     _, _, run = explore(rng, 60, **world)
     assert run, "an easy mutant was not found"
-    moves = shrink(run.moves, run.violation.promise, **world)
+    moves = shrink(run)
     assert replay(moves_of(show(moves, **world)), **world).promise == run.violation.promise

@@ -43,7 +43,7 @@ def main():
     print(f"# seed {args.seed}: {schedules} schedules, {moves} moves")
     if run is None:
         return 0
-    print(volume_schedules.show(volume_schedules.shrink(run.moves, run.violation.promise, **world), **world))
+    print(volume_schedules.show(volume_schedules.shrink(run), **world))
     return 1
 
 

@@ -138,9 +138,8 @@ class Node:
 class Engine:
     """What one engine knows. Phases: create, fence, pull, known, propose, take, open, dead."""
 
-    def __init__(self, number, generation, margin):
-        self.number, self.generation, self.margin = number, generation, margin
-        self.phase = "fence"
+    def __init__(self, number, generation, margin, phase="fence"):
+        self.number, self.generation, self.margin, self.phase = number, generation, margin, phase
         self.births, self.pairs, self.fresh, self.pulls = {}, {}, {}, {}
         self.quorum, self.union, self.pending, self.cut = (), frozenset(), None, None
         self.lo = self.epoch = self.last = self.back = self.durable = 0
@@ -159,9 +158,7 @@ class World:
         members = range(nodes) if created is None else created
         self.nodes = [Node(i, i in members, 1 if i in members else 0) for i in range(nodes)]
         self.births, self.engines = nodes, []
-        self.sent, self.late = {}, {}
-        for i in range(nodes):
-            self.sent[i, ("admit", -1, 1, i, 0, 0, None)] = None
+        self.sent, self.late = {(i, ("admit", -1, 1, i, 0, 0, None)): None for i in range(nodes)}, {}
         self.records, self.advances, self.gossip = {}, {}, {}
         self.accepts, self.chosen, self.durables, self.claims = {}, {}, {}, set()
         self.writers, self.ends, self.reader = {}, {}, {}
@@ -187,10 +184,14 @@ class World:
                 seen = view(node.facts)
                 if seen.k >= epoch and seen.complete >= point and seen.pages(point) != pages:
                     raise Violation("durable", f"pages at {point} differ at a node of epoch {seen.k}")
-        for point, epoch in self.claims:
-            for cut in self.chosen.values():
-                if cut[1] > epoch and cut[2] < point:
-                    raise Violation("readers", f"a reader took {point} of epoch {epoch} for durable, but chosen is {cut}")
+        text = "a reader took {point} of epoch {epoch} for durable, but chosen is {cut}"
+        self.need_kept("readers", self.claims, self.chosen.values(), text)
+
+    def need_kept(self, promise, points, cuts, text):
+        """No truncation of a later epoch may be below one of these points, each with its epoch."""
+        for (point, epoch), cut in itertools.product(points, cuts):
+            if cut[1] > epoch and cut[2] < point:
+                raise Violation(promise, text.format(point=point, epoch=epoch, cut=cut))
 
     def on_accepted(self, node, generation, cut):
         nodes = self.accepts.setdefault((generation, cut), set())
@@ -201,15 +202,12 @@ class World:
             raise Violation("one truncation", f"chosen {self.chosen[cut[1]]} and {cut}")
         self.chosen[cut[1]] = cut
         self.check_whole(cut)
-        for point, epoch in self.durables:
-            if epoch < cut[1] and point > cut[2]:
-                raise Violation("durable", f"chosen {cut} below durable {point} of epoch {epoch}")
+        self.need_kept("durable", self.durables, [cut], "chosen {cut} below durable {point} of epoch {epoch}")
         for other in self.chosen.values():
             if (other[1] < cut[1] and other[2] > cut[2]) or (other[1] > cut[1] and other[2] < cut[2]):
                 raise Violation("durable", f"lo falls from {other} to {cut}")
-        for advance in self.advances:
-            if advance[1] < cut[1] and advance[2] > cut[2]:
-                raise Violation("sound", f"law 5: {advance} above lo of {cut}")
+        advances = [(point, epoch) for _, epoch, point in self.advances]
+        self.need_kept("sound", advances, [cut], "law 5: advance to {point} of epoch {epoch} above lo of {cut}")
 
     def check_whole(self, cut):
         """lo ends a mini-transaction, the last one that is alive at or below it."""
@@ -221,15 +219,11 @@ class World:
             raise Violation("whole", f"lo of {cut} is inside a mini-transaction")
 
     def on_durable(self, point, epoch):
-        for cut in self.chosen.values():
-            if cut[1] > epoch and cut[2] < point:
-                raise Violation("durable", f"durable {point} of epoch {epoch}, but chosen is {cut}")
+        self.need_kept("durable", [(point, epoch)], self.chosen.values(), "durable {point} of epoch {epoch}, but chosen is {cut}")
         self.durables.setdefault((point, epoch), self.log_view(epoch).pages(point))
 
     def on_opened(self, engine):
-        for point, epoch in self.durables:
-            if epoch < engine.epoch and engine.lo < point:
-                raise Violation("durable", f"opened epoch {engine.epoch} at {engine.lo}, below durable {point}")
+        self.need_kept("durable", self.durables, [engine.cut], "opened with {cut}, below durable {point}")
         early = self.broken("writes_before_the_truncation_is_chosen")
         if engine.epoch in self.writers and not early:
             raise Violation("sound", f"two engines opened epoch {engine.epoch}")
@@ -315,30 +309,36 @@ class World:
     def send(self, i, request):
         self.sent[i, request] = None
 
+    def send_all(self, *request):
+        for i in range(self.n):
+            self.send(i, request)
+
+    def send_under(self, engine, i, kind, *rest):
+        """Sends a request under the generation, to a node whose birth is known."""
+        self.send(i, (kind, engine.number, engine.generation, engine.births[i], *rest))
+
     def send_fenced(self, engine, kind, *rest):
-        """Sends a request under the generation to every node whose birth is known, and later to those that become known."""
+        """Sends such a request to every node whose birth is known, and later to those that become known."""
         engine.sent.append((kind, rest))
-        for i, birth in engine.births.items():
-            self.send(i, (kind, engine.number, engine.generation, birth, *rest))
+        for i in engine.births:
+            self.send_under(engine, i, kind, *rest)
+
+    def send_again(self, engine, i):
+        for kind, rest in engine.sent:
+            self.send_under(engine, i, kind, *rest)
 
     def learn_birth(self, engine, i, birth):
         engine.births[i] = birth
-        for kind, rest in engine.sent:
-            self.send(i, (kind, engine.number, engine.generation, birth, *rest))
+        self.send_again(engine, i)
 
     def start(self, generation, margin):
         """An engine opens the volume. `margin` tells how far hi is above lo: "lo", "complete", "seen" or "more"."""
-        engine = Engine(len(self.engines), generation, margin)
-        self.engines.append(engine)
-        for i in range(self.n):
-            self.send(i, ("fence", engine.number, generation))
+        self.engines.append(Engine(len(self.engines), generation, margin))
+        self.send_all("fence", len(self.engines) - 1, generation)
 
     def create(self):
-        engine = Engine(len(self.engines), 1, "lo")
-        engine.phase = "create"
-        self.engines.append(engine)
-        for i in range(self.n):
-            self.send(i, ("status", engine.number, 1))
+        self.engines.append(Engine(len(self.engines), 1, "lo", "create"))
+        self.send_all("status", len(self.engines) - 1, 1)
 
     # -- what an engine hears
 
@@ -360,9 +360,7 @@ class World:
             return
         if asked == 1 and not self.broken("creates_with_one_status_round"):
             engine.round, engine.known = 2, set()
-            for node in range(self.n):
-                self.send(node, ("status", engine.number, 2))
-            return
+            return self.send_all("status", engine.number, 2)
         engine.phase = "dead"
         for node, fresh in engine.fresh.items():
             self.send(node, ("admit", engine.number, 1, fresh, 0, 0, None))
@@ -385,7 +383,7 @@ class World:
         engine.births[i], engine.pairs[i] = birth, accepted
         engine.fresh.pop(i, None)
         if self.broken("asks_before_the_quorum_is_fenced"):
-            self.send(i, ("pull", engine.number, generation, birth))
+            self.send_under(engine, i, "pull")
         if len(engine.births) >= (self.n - self.w + 1 if self.broken("fences_too_few") else self.w):
             engine.quorum, engine.phase = tuple(sorted(engine.births)), "pull"
             self.pull_quorum(engine, i)
@@ -396,7 +394,7 @@ class World:
             self.pull(engine, i)
 
     def pull(self, engine, i):
-        self.send(i, ("pull", engine.number, engine.generation, engine.births[i]))
+        self.send_under(engine, i, "pull")
 
     def hear_pulled(self, engine, i, generation, birth, facts):
         early = engine.phase == "fence" and self.broken("asks_before_the_quorum_is_fenced") and i in engine.births
@@ -625,17 +623,3 @@ class World:
                 self.hear(rest[0], rest[1], ("front", None, node.birth, *node.front(), None))
         else:
             {"start": self.start, "create": self.create, "read": self.read}[kind](*rest)
-
-
-def replay(moves, **world):
-    """The violation that a schedule causes, or None."""
-    run = World(**world)
-    try:
-        for move in moves:
-            run.do(move)
-            if run.gone:
-                return None
-        run.check()
-    except Violation as violation:
-        return None if run.gone else violation
-    return None

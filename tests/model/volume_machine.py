@@ -74,23 +74,20 @@ class Machines(World):
     def bring(self, engine, i):
         """Asks a node what the others were asked; in an open volume what is left of that."""
         if engine.phase == "open":
-            durable = max(engine.durable, engine.lo)
-            parts = [(kind, rest) for kind, rest in engine.sent if kind == "take"]
-            parts = [part for part in parts if part[1][0][0] == "cut" or (part[1][0][0] == "record" and part[1][0][2] > durable)]
-            self.bring_open(engine, i, parts)
+            self.bring_open(engine, i)
         else:
-            for kind, rest in engine.sent:
-                self.send(i, (kind, engine.number, engine.generation, engine.births[i], *rest))
+            self.send_again(engine, i)
 
-    def bring_open(self, engine, i, parts):
+    def bring_open(self, engine, i):
         """The machine asks for the front after the truncation, and at the end."""
-        head = engine.generation, engine.births[i]
-        for kind, rest in parts:
-            super().send(i, (kind, engine.number, *head, *rest))
-            self.did.append((engine.number, i, ("take", *head, *rest)))
-            if rest[0][0] == "cut":
+        durable, head = max(engine.durable, engine.lo), (engine.generation, engine.births[i])
+        for fact in (rest[0] for kind, rest in engine.sent if kind == "take"):
+            if fact[0] == "cut" or (fact[0] == "record" and fact[2] > durable):
+                super().send(i, ("take", engine.number, *head, fact))
+                self.did.append((engine.number, i, ("take", *head, fact)))
+            if fact[0] == "cut":
                 self.did.append((engine.number, i, ("front", *head)))
-        self.send(i, ("front", engine.number, *head))
+        self.send_under(engine, i, "front")
 
     # -- calls
 
@@ -136,7 +133,7 @@ class Machines(World):
         self.pull(engine, last)
 
     def pull(self, engine, i):
-        self.send(i, ("pull", engine.number, engine.generation, engine.births[i], self.asked.get(engine.number, frozenset())))
+        self.send_under(engine, i, "pull", self.asked.get(engine.number, frozenset()))
 
     # -- what an engine hears
 

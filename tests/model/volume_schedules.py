@@ -3,7 +3,9 @@
 import itertools
 import time
 
-from .volume import Violation, World, replay
+from harness import shrunk
+
+from .volume import Violation, World
 
 
 class Schedule:
@@ -40,22 +42,30 @@ class Schedule:
         if answers := [late for late in self.world.late if late[:2] == (engine, i)]:
             self.do("hear", *answers[-1])
 
-    def known(self, engine, nodes):
-        for kind in ("fence", "pull", "push"):
+    def give_each(self, engine, nodes, *kinds):
+        """Delivers the engine's newest request to each node, of one kind after the other."""
+        for kind in kinds:
             self.give(engine, nodes, kind)
+
+    def known(self, engine, nodes):
+        self.give_each(engine, nodes, "fence", "pull", "push")
 
     def choose(self, engine, nodes):
         """Proposes and takes truncations until the volume is open."""
         for _ in range(3):
             if self.world.engines[engine].phase != "open":
-                for kind in ("propose", "take", "push"):
-                    self.give(engine, nodes, kind)
+                self.give_each(engine, nodes, "propose", "take", "push")
+
+    def write_both(self, engine):
+        """A record of page 1, and that of page 0 which ends the mini-transaction; the result is its number."""
+        self.do("write", engine, 1, 0)
+        self.do("write", engine, 1, 0)
+        return self.world.engines[engine].last
 
     def transaction(self, engine, nodes):
-        self.do("write", engine, 1, 0)
-        self.do("write", engine, 1, 0)
-        for number in self.world.engines[engine].last - 1, self.world.engines[engine].last:
-            self.give(engine, nodes, "take", having=lambda request: request[4][0] == "record" and request[4][2] == number)
+        last = self.write_both(engine)
+        for number in last - 1, last:
+            self.give(engine, nodes, "take", having=record_of(number))
 
     def united(self, generation, nodes, margin="lo"):
         """A new engine that has made its union known at these nodes."""
@@ -76,8 +86,7 @@ class Schedule:
         return engine
 
     def readmit(self, engine, i):
-        self.give(engine, [i], "gossip")
-        self.give(engine, [i], "admit")
+        self.give_each(engine, [i], "gossip", "admit")
 
     def gossip_all(self, nodes, count=None):
         for fact in list(self.world.gossip)[:count]:
@@ -93,8 +102,20 @@ class Schedule:
         return self.violation
 
 
+def replay(moves, **world):
+    """The violation that a schedule causes, or None."""
+    run = Schedule(**world)
+    for move in moves:
+        run.do(*move)
+    return run.end()
+
+
 def cut_of(epoch):
     return lambda request: request[4][:2] == ("cut", epoch)
+
+
+def record_of(number):
+    return lambda request: request[4][0] == "record" and request[4][2] == number
 
 
 def both(i):
@@ -153,8 +174,7 @@ def fronts_of_two_epochs(s):
     s.give(a, [2], "take", having=cut_of(1))
     b = s.united(3, [0, 1])
     s.give(b, [0, 1], "propose")
-    s.give(b, [2], "fence")
-    s.give(b, [2], "take")
+    s.give_each(b, [2], "fence", "take")
     s.opened(4, [1, 2])
 
 
@@ -197,10 +217,7 @@ def member_opened_plainly(s):
 def last_record_alone(s):
     """A commit's last record reaches two nodes, the record before it none."""
     a = s.opened()
-    s.do("write", a, 1, 0)
-    s.do("write", a, 1, 0)
-    last = s.world.engines[a].last
-    s.give(a, [0, 1], "take", having=lambda request: request[4][0] == "record" and request[4][2] == last)
+    s.give(a, [0, 1], "take", having=record_of(s.write_both(a)))
     s.opened(3, [1, 2])
 
 
@@ -252,13 +269,11 @@ def old_admit(s):
 def birth_learnt_late(s):
     """A stale engine admits a node that lost its files after a newer engine had fenced it."""
     a = s.start(2)
-    s.give(a, [1, 2], "fence")
-    s.give(a, [1, 2], "pull")
+    s.give_each(a, [1, 2], "fence", "pull")
     s.give(a, [1], "push")
     s.give(a, [2], "push", "late")
     b = s.start(3, "more")
-    s.give(b, [0, 2], "fence")
-    s.give(b, [0, 2], "pull")
+    s.give_each(b, [0, 2], "fence", "pull")
     s.do("wipe", 0)
     s.give(a, [0], "fence")
     s.hear_late(a, 2)
@@ -266,8 +281,7 @@ def birth_learnt_late(s):
     s.give(a, [0], "fence")
     s.give(a, [0, 1], "propose")
     s.give(b, [1], "fence")
-    s.give(b, [1, 2], "push")
-    s.give(b, [1, 2], "propose")
+    s.give_each(b, [1, 2], "push", "propose")
 
 
 def old_proposal_again(s):
@@ -275,9 +289,7 @@ def old_proposal_again(s):
     a = s.united(2, [0, 1])
     s.give(a, [0], "propose", "lost")
     b = s.united(3, [0, 1])
-    s.give(b, [0, 1], "propose")
-    s.give(b, [0, 1], "take")
-    s.give(b, [0, 1], "push")
+    s.give_each(b, [0, 1], "propose", "take", "push")
     s.give(b, [0, 1], "propose", "lost", cut_of(2))
     s.give(b, [0, 1], "propose", "lost", cut_of(1))
     s.opened(4, [0, 1], "more")
@@ -290,9 +302,7 @@ def old_acceptance(s):
     b = s.united(3, [0, 1])
     s.give(b, [2], "fence")
     s.give(b, [0, 2], "propose", "late")
-    s.give(b, [0, 1], "propose")
-    s.give(b, [0, 1], "take")
-    s.give(b, [0, 1], "push")
+    s.give_each(b, [0, 1], "propose", "take", "push")
     s.hear_late(b, 0)
     s.hear_late(b, 2)
     s.opened(4, [1, 2], "more")
@@ -309,19 +319,16 @@ def advance_ahead(s):
 def asked_one_by_one(s):
     """Each node is asked for its facts as soon as it is fenced."""
     a = s.start(3)
-    s.give(a, [0], "fence")
-    s.give(a, [0], "pull")
+    s.give_each(a, [0], "fence", "pull")
     s.do("wipe", 0)
     c = s.start(2, "more")
     s.give(c, [0], "fence")
     s.known(c, [1, 2])
     s.readmit(c, 0)
     s.give(c, [0, 2], "propose")
-    s.give(a, [1], "fence")
-    s.give(a, [1], "pull")
+    s.give_each(a, [1], "fence", "pull")
     s.give(a, [2], "fence")
-    s.give(a, [1, 2], "push")
-    s.give(a, [1, 2], "propose")
+    s.give_each(a, [1, 2], "push", "propose")
 
 
 def pulled_from_another_life(s):
@@ -337,8 +344,7 @@ def pulled_from_another_life(s):
     b = s.start(3, "more")
     s.give(b, [0, 2], "fence")
     for engine in a, b:
-        for kind in ("pull", "push", "propose"):
-            s.give(engine, s.world.engines[engine].quorum, kind)
+        s.give_each(engine, s.world.engines[engine].quorum, "pull", "push", "propose")
 
 
 def second_create(s):
@@ -372,7 +378,7 @@ def front_of_an_older_epoch(s):
     a = s.committed()
     s.give(a, [2], "fence")
     for number in 1, 2:
-        s.give(a, [2], "take", having=lambda request: request[4][2] == number)
+        s.give(a, [2], "take", having=record_of(number))
     s.give(a, [2], "take", having=cut_of(1))
     s.transaction(a, [2])
     b = s.opened(3, [0, 1])
@@ -387,8 +393,7 @@ def not_known_at_a_quorum(s):
     a = s.opened()
     s.transaction(a, [0])
     b = s.start(3)
-    s.give(b, [0, 1], "fence")
-    s.give(b, [0, 1], "pull")
+    s.give_each(b, [0, 1], "fence", "pull")
     s.choose(b, [0, 1])
     s.do("wipe", 0)
     c = s.start(4)
@@ -570,18 +575,14 @@ def explore(rng, seconds, promise=None, **world):
     return schedules, moves, None
 
 
-def shrink(moves, promise, seconds=10, **world):
-    """Leaves out moves for as long as the same promise is broken."""
-    end, size = time.monotonic() + seconds, max(1, len(moves) // 2)
-    while size and time.monotonic() < end:
-        shorter = False
-        for start in range(len(moves) - size, -1, -size):
-            fewer = moves[:start] + moves[start + size :]
-            violation = replay(fewer, **world)
-            if violation and violation.promise == promise:
-                moves, shorter = fewer, True
-        size = size if shorter else size // 2
-    return moves
+def shrink(run):
+    """The moves of a schedule that broke a promise, without such as this needs not."""
+
+    def breaks_it(moves):
+        violation = replay(moves, **run.options)
+        return violation and violation.promise == run.violation.promise
+
+    return shrunk(run.moves, breaks_it)
 
 
 def show(moves, **world):
