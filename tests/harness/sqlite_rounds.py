@@ -4,6 +4,7 @@ By hand: python3 -m harness.sqlite_rounds EXTENSION STORE DISK FOLDER SEED SECON
 snapshots, and in the end the facts that engines have sent must be a sound log. `harness.many_rounds` plays many rounds in several processes.
 """
 
+import contextlib
 import ctypes
 import random
 import shutil
@@ -16,10 +17,11 @@ from typing import NamedTuple
 if __name__ == "__main__":
     sys.path.insert(0, str(Path(__file__).resolve().parents[1]))
 
+from harness import sqlite_worlds
 from harness.sqlite_cluster import NODES, QUORUM, Cluster, Proxies
 from harness.sqlite_crashes import Child, digest
 from harness.sqlite_transactions import TABLES, transaction
-from harness.sqlite_worlds import is_whole, one
+from harness.sqlite_worlds import connect, is_whole, one
 
 MOST_LOST = 2  # servers at a time that have lost their files and are not admitted
 PATIENCE = 20000  # milliseconds of an engine that is to succeed
@@ -50,24 +52,25 @@ def load(extension):
     library.sqlite3_shutdown()
     library.sqlite3_config(16, note, None)  # SQLITE_CONFIG_LOG
     library.sqlite3_initialize()
-    first = sqlite3.connect(":memory:")
-    first.enable_load_extension(True)
-    first.load_extension(str(Path(extension).with_suffix("")))
-    first.close()
+    sqlite_worlds.load(extension)
 
 
-def connect(place, **parameters):
-    """A connection with a busy timeout: the first lock for writing after a crash may find a commit that is newer than the snapshot."""
-    words = "".join(f"&{key}={value}" for key, value in parameters.items())
-    return sqlite3.connect(f"file:{place}?vfs=yieldcleat{words}", uri=True, isolation_level=None, timeout=10, check_same_thread=False)
+# What runs in processes of their own. Each has a busy timeout: the first lock for writing after a crash may find a commit that is newer than
+# the snapshot.
 
 
-# What runs in processes of their own
+@contextlib.contextmanager
+def telling(pipe, *more):
+    """A block whose error of SQLite is sent, and more after it."""
+    try:
+        yield
+    except sqlite3.Error as error:
+        pipe.send((told(error), *more) if more else told(error))
 
 
 def work(pipe, place, seed, mode):
     """Does the transactions after the last one that the database has, and sends the number of each after its commit."""
-    try:
+    with telling(pipe):
         ours = connect(place, timeout=PATIENCE)
         pipe.send("open")
         ours.execute(f"pragma synchronous = {mode}")
@@ -78,8 +81,6 @@ def work(pipe, place, seed, mode):
         for number in range(last + 1, last + 400):
             transaction(ours, seed, number)
             pipe.send(number)
-    except sqlite3.Error as error:
-        pipe.send(told(error))
 
 
 def make(pipe, place):
@@ -91,24 +92,20 @@ def make(pipe, place):
 def look(pipe, place, writes):
     """Sends the state of the database: whether it is whole, the last transaction in it, and a digest. With a lock for writing nothing that
     an older engine has sent arrives any more."""
-    try:
+    with telling(pipe, None, None):
         ours = connect(place, timeout=PATIENCE)
         ours.execute("begin immediate" if writes else "begin")
         last = one(ours, "select number from done")
         pipe.send((is_whole(ours), last, digest(ours)))
         ours.execute("commit")
-    except sqlite3.Error as error:
-        pipe.send((told(error), None, None))
 
 
 def watch(pipe, place):
     """Sends a digest whenever it is asked, by one connection that only reads."""
     ours = connect(place, mode="ro", timeout=PATIENCE)
     while pipe.recv():
-        try:
+        with telling(pipe):
             pipe.send(digest(ours))
-        except sqlite3.Error as error:
-            pipe.send(told(error))
 
 
 # A round

@@ -22,55 +22,34 @@ def body(choose):
     return bytes([choose.randrange(256)]) * length if choose.random() < 0.3 else choose.randbytes(length)
 
 
-def insert(choose):
-    return "insert into items(name, amount, body) values(?, ?, ?)", (words(choose), choose.randrange(1000), body(choose))
+def number(*bounds):
+    return lambda choose: choose.randrange(*bounds)
 
 
-def insert_many(choose):
-    many = f"with recursive c(n) as (select 1 union all select n + 1 from c where n < {choose.randrange(1, 200)})"
-    return f"{many} insert into items(name, amount, body) select 'row ' || n, n * 7 % 100, zeroblob(n % 50) from c", ()
-
-
-def update(choose):
-    return "update items set amount = amount + ?, name = ? where id % 17 = ?", (choose.randrange(9), words(choose), choose.randrange(17))
-
-
-def update_body(choose):
-    return "update items set body = ? where id = (select max(id) from items where id % 5 = ?)", (body(choose), choose.randrange(5))
-
-
-def delete(choose):
-    return "delete from items where id % 23 = ? or amount = ?", (choose.randrange(23), choose.randrange(1000))
-
-
-def delete_most(choose):
-    return "delete from items where id > ?", (choose.randrange(50, 400),)
-
-
-def pair(choose):
-    return "insert or replace into pairs values(?, ?)", (choose.randrange(30), choose.randrange(30))
-
-
-def bad_pair(choose):
-    return "insert into pairs select a, b from pairs union all select ?, 1", (choose.randrange(30),)
-
-
-def make_table(choose):
-    return f"create table if not exists more{choose.randrange(3)}(x, y default 'nothing')", ()
-
-
-def drop_table(choose):
-    return f"drop table if exists more{choose.randrange(3)}", ()
-
-
-KINDS = [insert] * 6 + [insert_many, update, update, update_body, delete, delete_most, pair, pair, bad_pair, make_table, drop_table]
+MANY = "with recursive c(n) as (select 1 union all select n + 1 from c where n < {})"
+# Of each statement how often it comes, and what draws its values: each is bound to a `?`, or written where the text has `{}`.
+STATEMENTS = [
+    (6, "insert into items(name, amount, body) values(?, ?, ?)", words, number(1000), body),
+    (1, f"{MANY} insert into items(name, amount, body) select 'row ' || n, n * 7 % 100, zeroblob(n % 50) from c", number(1, 200)),
+    (2, "update items set amount = amount + ?, name = ? where id % 17 = ?", number(9), words, number(17)),
+    (1, "update items set body = ? where id = (select max(id) from items where id % 5 = ?)", body, number(5)),
+    (1, "delete from items where id % 23 = ? or amount = ?", number(23), number(1000)),
+    (1, "delete from items where id > ?", number(50, 400)),
+    (2, "insert or replace into pairs values(?, ?)", number(30), number(30)),
+    (1, "insert into pairs select a, b from pairs union all select ?, 1", number(30)),
+    (1, "create table if not exists more{}(x, y default 'nothing')", number(3)),
+    (1, "drop table if exists more{}", number(3)),
+]
+KINDS = [kind for often, *kind in STATEMENTS for _ in range(often)]
 
 
 def statements(choose):
     """Statements with their values; savepoints are nested rightly, and may be rolled back."""
     depth = 0
     for _ in range(choose.choice([1, 1, 2, 5, 12])):
-        yield choose.choice(KINDS)(choose)
+        sql, *draws = choose.choice(KINDS)
+        values = tuple(draw(choose) for draw in draws)
+        yield (sql.format(*values), ()) if "{}" in sql else (sql, values)
         if choose.random() < 0.2:
             depth += 1
             yield f"savepoint s{depth}", ()

@@ -13,7 +13,7 @@ import subprocess
 import sys
 from pathlib import Path
 
-from harness import ROOT, environment
+from harness import ROOT, environment, ran
 
 TESTS = ROOT / "tests"
 CHECKS = ("harness.sqlite_checks", "harness.sqlite_crashes", "harness.sqlite_faults", "harness.sqlite_rivals")
@@ -24,9 +24,8 @@ KILLED = -1
 
 def build(folder, target="double", root=ROOT, words=(), **settings):
     """The extension over the double or another target, built out of the sources below a folder; its compiler's messages fail the test."""
-    command = ["make", "-s", "-C", root / "sqlite", f"BUILD={folder}", *words, target]
-    done = subprocess.run(command, env=environment(**settings), capture_output=True, text=True, check=False)
-    assert (done.returncode, done.stderr) == (0, ""), done.stderr[-3000:]
+    _, said = ran(["make", "-s", "-C", root / "sqlite", f"BUILD={folder}", *words, target], env=environment(**settings))
+    assert said == "", said[-3000:]
     return Path(folder) / target / "yieldcleat.so"
 
 
@@ -48,16 +47,26 @@ def run(name, library, folder, seed, seconds, settings=None):
     return "" if done.returncode == 0 else f"seed {seed}: status {done.returncode}\n{done.stdout[-2000:]}{done.stderr[-4000:]}"
 
 
+def load(extension):
+    """Registers the VFS, for this process and those that are forked from it."""
+    with contextlib.closing(sqlite3.connect(":memory:")) as first:
+        first.enable_load_extension(True)
+        first.load_extension(str(Path(extension).with_suffix("")))
+
+
+def connect(place, busy=10.0, **parameters):
+    """A connection to a volume; for so many seconds it waits for a lock."""
+    words = "".join(f"&{key}={value}" for key, value in parameters.items())
+    return sqlite3.connect(f"file:{place}?vfs=yieldcleat{words}", uri=True, isolation_level=None, timeout=busy, check_same_thread=False)
+
+
 class World:
     """The databases of one check."""
 
     def __init__(self, library, folder, seed, seconds, name):
         self.library, self.folder, self.seed, self.seconds, self.name = Path(library), Path(folder), seed, float(seconds), name
         self.rng = random.Random(f"{seed} {name}")
-        first = sqlite3.connect(":memory:")
-        first.enable_load_extension(True)
-        first.load_extension(str(self.library.with_suffix("")))
-        first.close()
+        load(library)
         self.double = ctypes.CDLL(str(self.library))
         self.double.memory_volume_die.argtypes = [ctypes.c_int, ctypes.c_long]
 
@@ -65,9 +74,7 @@ class World:
         return self.folder / name
 
     def open(self, name="volume", busy=0.0, **parameters):
-        words = "".join(f"&{key}={value}" for key, value in parameters.items())
-        uri = f"file:{self.place(name)}?vfs=yieldcleat{words}"
-        return sqlite3.connect(uri, uri=True, isolation_level=None, timeout=busy, check_same_thread=False)
+        return connect(self.place(name), busy, **parameters)
 
     def plain(self, name=":memory:"):
         return sqlite3.connect(name if name == ":memory:" else self.place(name), isolation_level=None, timeout=0)

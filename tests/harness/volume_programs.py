@@ -18,7 +18,8 @@ The second round of a creation is `fence 0`, and its answer that of a status. Re
 in its own, by turns. A node that restarts is a new process of the same birth, to which its requests come again that changed it.
 """
 
-import select
+import functools
+import socket
 import subprocess
 
 from harness import SECONDS
@@ -30,6 +31,7 @@ from model.volume_machine import Machines, letters_of
 
 # The answers to requests that changed a node, which its owner keeps.
 CHANGES = {b"changed", b"absorbed", b"opened", b"fenced", b"accepted", b"admitted"}
+MOVES_OF_NODES = {"deliver", "wipe", "restart", "open_plainly", "copy", "fact", "read", "discard"}  # the node comes first in each
 
 
 def need_same(what, seen, wanted):
@@ -43,38 +45,36 @@ class Process:
     """A program that answers each frame by one."""
 
     def __init__(self, *command):
-        self.process = subprocess.Popen(command, stdin=subprocess.PIPE, stdout=subprocess.PIPE, bufsize=0)
+        self.own, other = socket.socketpair()
+        with other:
+            self.process = subprocess.Popen(command, stdin=other, stdout=other)
+        self.own.settimeout(SECONDS)
+        self.answers = self.own.makefile("rb")
 
     def ask(self, frame):
         return self.ask_all([frame])[0]
 
     def ask_all(self, frames):
-        """The answers to frames that are sent together; they fit into a pipe."""
+        """The answers to frames that are sent together; they fit into the socket."""
         self.send(frames)
         return [self.receive() for _ in frames]
 
     def send(self, frames):
-        self.process.stdin.write(wire.framed(frames))
+        self.own.sendall(wire.framed(frames))
 
     def receive(self):
-        return self.read(int.from_bytes(self.read(4), "big"))
-
-    def read(self, size):
-        read = b""
-        while len(read) < size:
-            if not select.select([self.process.stdout], [], [], SECONDS)[0]:
-                raise AssertionError(f"{self.process.args} does not answer")
-            part = self.process.stdout.read(size - len(read))
-            if not part:
-                raise AssertionError(f"{self.process.args} ended with {self.process.wait(SECONDS)}")
-            read += part
-        return read
+        try:
+            answer = wire.read_frame(self.answers)
+        except (TimeoutError, ConnectionResetError) as fault:
+            raise AssertionError(f"{self.process.args} does not answer: {fault}") from fault
+        assert answer is not None, f"{self.process.args} ended with {self.process.wait(SECONDS)}"
+        return answer
 
     def close(self):
         self.process.kill()
         self.process.wait(SECONDS)
-        self.process.stdin.close()
-        self.process.stdout.close()
+        self.answers.close()
+        self.own.close()
 
 
 class Node(Process):
@@ -131,7 +131,6 @@ class Play:
         self.made = {}  # what an engine made of its union for a node, by the node and the model's request
         self.late = {}  # the program's answers, by the model's late one
         self.told = []  # what the engines' processes did in this move: (engine, frame)
-        self.move = None
         for i, node in enumerate(self.world.nodes):
             if node.is_member:
                 need_same("the first admission", self.nodes[i].ask(words("admit", 1, node.birth, 0, 0)), words("admitted", 1, node.birth))
@@ -141,18 +140,19 @@ class Play:
             process.close()
 
     def do(self, move):
-        """Makes a move in both worlds, and compares them."""
-        self.move, self.told = move, []
-        getattr(self, f"do_{move[0]}")(*move[1:])
+        """Makes a move in both worlds, and compares them. What the processes do before the model does may leave something for afterwards."""
+        self.told, (kind, *rest) = [], move
+        then = getattr(self, f"do_{kind}", lambda *_: None)(*rest)
+        self.world.do(move)
+        if then:
+            then()
+        if kind in MOVES_OF_NODES:
+            self.compare_node(rest[0])
         self.compare_engines()
         for node in self.nodes:
             node.send([b"status"])
         for i, node in enumerate(self.nodes):
             need_same(f"the status of node {i}", node.receive(), self.status_of(self.world.nodes[i]))
-
-    def follow(self):
-        """The model makes the move."""
-        self.world.do(self.move)
 
     # -- nodes
 
@@ -245,14 +245,9 @@ class Play:
 
     def do_deliver(self, i, request, fate):
         if (i, request) not in self.world.sent:
-            self.follow()
-        elif request[0] == "push":
-            self.push(i, request, fate)
-        else:
-            answers = self.nodes[i].ask_together(self.frames_of(i, request))
-            self.follow()
-            self.pass_on(i, request, fate, answers)
-        self.compare_node(i)
+            return None
+        answers = self.push(i, request) if request[0] == "push" else self.nodes[i].ask_together(self.frames_of(i, request))
+        return functools.partial(self.pass_on, i, request, fate, answers)
 
     def frames_of(self, i, request):
         if request[0] == "gossip":
@@ -265,45 +260,42 @@ class Play:
     def pass_on(self, i, request, fate, answers):
         """Compares the last answer with the model's, and lets the engine hear all of them, or keeps them for later."""
         answer, number = self.world.answer, request[1]
+        if not answers:
+            return
         need_same(f"node {i} answers {request[0]}", answers[-1], self.answer_of(i, request, answer))
         if number >= 0 and fate == "heard":
             self.hear(number, i, answers)
         elif number >= 0 and fate == "late" and answer:
             self.late[number, i, answer] = answers
 
-    def push(self, i, request, fate):
+    def push(self, i, request):
         """Asks for the node's summary, and then sends what the engine makes of it, or made before. An engine that spreads another union
         does not hear the summary: it would answer with that one."""
         number, head, way = request[1], request[2:4], self.world.way_of_push(i, request)
         first = self.nodes[i].ask(under(*head, "ask"))
         if way == "declined":
-            answers = [first]
-        else:
-            shown = summary_of(self.meaning(i))
-            need_same(f"node {i} answers ask", first, under(*head, "summary ") + shown)
-            hears = way == "made" or self.world.engines[number].phase != "known"
-            told = self.call(number, words("answered", i) + b" " + first) if hears else []
-            if way == "made":
-                self.made[i, request] = [frame.split(b" ", 2)[2] for frame in told]
-                begin = under(*head, "absorb", len(shown)) + b" " + shown
-                need_same(f"engine {number} asks of node {i}", self.made[i, request][0][: len(begin)], begin)
-            answers = [] if way == "void" else self.nodes[i].ask_together(self.made[i, request])
-            need_same(f"node {i} answers absorb", answers[:1], [under(*head, "absorbed")][: len(answers)])
-        self.follow()
-        if answers:
-            self.pass_on(i, request, fate, answers)
+            return [first]
+        shown = summary_of(self.meaning(i))
+        need_same(f"node {i} answers ask", first, under(*head, "summary ") + shown)
+        hears = way == "made" or self.world.engines[number].phase != "known"
+        told = self.call(number, words("answered", i) + b" " + first) if hears else []
+        if way == "made":
+            self.made[i, request] = [frame.split(b" ", 2)[2] for frame in told]
+            begin = under(*head, "absorb", len(shown)) + b" " + shown
+            need_same(f"engine {number} asks of node {i}", self.made[i, request][0][: len(begin)], begin)
+        answers = [] if way == "void" else self.nodes[i].ask_together(self.made[i, request])
+        need_same(f"node {i} answers absorb", answers[:1], [under(*head, "absorbed")][: len(answers)])
+        return answers
 
     def do_hear(self, number, i, answer):
         if (number, i, answer) in self.world.late:
             self.hear(number, i, self.late[number, i, answer])
-        self.follow()
 
     # -- calls of an engine
 
     def begin(self, event):
         self.engines.append(self.programs.new_engine(self.world.n, self.world.w))
         self.call(len(self.engines) - 1, event)
-        self.follow()
 
     def do_start(self, generation, _margin):
         self.begin(words("open", generation))
@@ -316,13 +308,11 @@ class Play:
             engine = self.world.engines[number]
             key = engine.epoch, engine.last + 1
             self.call_open(number, b"write " + write_bytes(page, *key) if engine.half is None else b"commit " + header_of(*key))
-        self.follow()
 
     def do_advance(self, number, _far):
         if number < len(self.engines):
             engine = self.world.engines[number]
             self.call_open(number, words("advance", 1, max(engine.durable, engine.lo)))
-        self.follow()
 
     def call_open(self, number, event):
         if self.world.engines[number].phase == "open":
@@ -333,47 +323,43 @@ class Play:
     def do_fail(self, number, i):
         if number < len(self.engines):
             self.call(number, words("failed", i))
-        self.follow()
 
     # -- what happens to a node
 
-    def do_wipe(self, i):
-        self.follow()
+    def replace(self, i):
+        """A new process, of the birth that the model's node has."""
         self.nodes[i].close()
         self.nodes[i] = self.programs.new_node(self.world.nodes[i].birth)
 
+    def do_wipe(self, i):
+        return functools.partial(self.replace, i)
+
     def do_restart(self, i):
         kept = self.nodes[i].kept
-        self.nodes[i].close()
-        self.nodes[i] = self.programs.new_node(self.world.nodes[i].birth)
+        self.replace(i)
         need_same(f"node {i} after a restart", self.nodes[i].ask_all([asked for asked, _ in kept]), [answer for _, answer in kept])
-        self.follow()
-        self.compare_node(i)
 
     def do_open_plainly(self, i):
         wanted = b"member" if self.world.nodes[i].is_member else b"opened"
         need_same(f"node {i} answers open", self.nodes[i].ask(b"open 1"), wanted)
-        self.follow()
-        self.compare_node(i)
 
     def do_copy(self, i, j):
         shown = self.nodes[i].ask(b"ask").removeprefix(b"summary ")
         delta = self.nodes[j].ask(b"answer " + shown).removeprefix(b"delta ")
         answer = self.nodes[i].ask(words("absorb", len(shown)) + b" " + shown + delta)
         need_same(f"node {i} answers a plain absorb", answer, b"absorbed")
-        self.follow()
-        self.compare_node(i)
 
     def do_fact(self, i, fact):
         if fact not in self.world.gossip:
-            self.follow()
-            return
+            return None
         before = self.meaning(i).parts()
         answer = self.nodes[i].ask(b"take " + wire.fact_bytes(fact_of(fact, self.world.writers)))
-        self.follow()
-        is_new = self.meaning(i).parts() != before
-        need_same(f"node {i} answers a plain take", answer, b"changed" if is_new else b"unchanged")
-        self.compare_node(i)
+
+        def compare():
+            wanted = b"unchanged" if self.meaning(i).parts() == before else b"changed"
+            need_same(f"node {i} answers a plain take", answer, wanted)
+
+        return compare
 
     def do_plain_front(self, number, i):
         if number < len(self.engines):
@@ -381,18 +367,11 @@ class Play:
             answer = self.nodes[i].ask(b"front")
             need_same(f"node {i} answers a plain front", answer, words("front", meaning.epoch, meaning.complete, meaning.min))
             self.hear(number, i, [answer])
-        self.follow()
-
-    def do_read(self, i):
-        self.follow()
-        self.compare_node(i)
 
     def do_discard(self, i):
         """Folds each page and discards, by plain requests."""
         asked = [*(words("fold", page) for page in range(PAGES)), b"discard", b"tidy"]
         need_same(f"node {i} folds", self.nodes[i].ask_all(asked), [b"folded"] * PAGES + [b"discarded", b"tidied"])
-        self.follow()
-        self.compare_node(i)
 
 
 def difference(programs, moves, **options):
