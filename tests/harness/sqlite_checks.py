@@ -7,8 +7,8 @@ import time
 from concurrent.futures import ThreadPoolExecutor
 
 from harness.sqlite_crashes import Child
-from harness.sqlite_transactions import TABLES, transaction
-from harness.sqlite_worlds import NO_QUORUM, content, is_whole, one, point, refused
+from harness.sqlite_transactions import MANY, TABLES, transaction
+from harness.sqlite_worlds import NO_QUORUM, content, filled, is_whole, one, point, refused
 
 
 def modes(world, connection):
@@ -54,9 +54,7 @@ def check_random(world):
 
 def check_sizes(world):
     """A commit sends what changed, and not its pages; a run of equal bytes is not sent byte by byte."""
-    ours = world.open()
-    ours.execute("create table t(a integer primary key, b)")
-    ours.execute("with recursive c(n) as (select 1 union all select n + 1 from c where n < 2000) insert into t select n, hex(randomblob(20)) from c")
+    ours = filled(world.open(), 2000, "hex(randomblob(20))")
     before = world.size()
     ours.execute("update t set b = 'x' where a = 1000")
     assert world.size() - before < 500
@@ -77,7 +75,7 @@ def check_spill(world):
     ours.executescript("pragma cache_size = 2; create table t(a integer primary key, b); insert into t values(0, 'first')")
     before = world.size()
     ours.execute("begin")
-    grow = "with recursive c(n) as (select 1 union all select n + 1 from c where n < 3000) insert into t(b) select hex(randomblob(100)) from c"
+    grow = f"{MANY.format(3000)} insert into t(b) select hex(randomblob(100)) from c"
     ours.execute(grow)
     ours.execute("savepoint s")
     ours.execute(grow)
@@ -100,7 +98,7 @@ def check_vacuum(world):
     ours = world.open()
     ours.execute("create table t(a integer primary key, b)")
     for _ in range(3):
-        ours.execute("with recursive c(n) as (select 1 union all select n + 1 from c where n < 3000) insert into t(b) select hex(randomblob(50)) from c")
+        ours.execute(f"{MANY.format(3000)} insert into t(b) select hex(randomblob(50)) from c")
         many = one(ours, "pragma page_count")
         ours.execute("delete from t where a > 10")
         ours.execute("vacuum")
@@ -119,9 +117,7 @@ def check_vacuum(world):
 
 def check_snapshots(world):
     """A reader sees one state through its transaction, whatever is committed meanwhile, also in another process."""
-    ours, reader = world.open(), world.open()
-    ours.execute("create table t(a integer primary key, b)")
-    ours.execute("with recursive c(n) as (select 1 union all select n + 1 from c where n < 500) insert into t select n, hex(zeroblob(500)) || 0 from c")
+    ours, reader = filled(world.open(), 500, "hex(zeroblob(500)) || 0"), world.open()
     total = "select count(*), count(distinct b), max(b) = (select b from t where a = 1) from t"
     for change in range(3):
         reader.execute("pragma cache_size = 2")
@@ -147,7 +143,7 @@ def check_readers(world):
     that the system stops for a while would lose its own, after a thousand commits in a fraction of a second."""
     ours = world.open()
     ours.execute("create table accounts(id integer primary key, amount, filler)")
-    ours.execute("with recursive c(n) as (select 0 union all select n + 1 from c where n < 299) insert into accounts select n, 100, hex(zeroblob(200)) from c")
+    ours.execute(f"{MANY.format(300)} insert into accounts select n - 1, 100, hex(zeroblob(200)) from c")
     ours.close()
     writer = world.helper("work_transfers")
     readers = [world.open() for _ in range(2)]

@@ -59,7 +59,7 @@ def work(pipe, world, mode, died, last):
     """Does the transactions after one, of which the first makes the tables, and sends the number of each after its commit."""
     call, skip, count = died
     if call == "write":
-        world.die(skip, count)
+        world.double.memory_volume_die(skip, count)
     elif call != "time":
         world.fail(call, KILLED, skip)
     ours = world.open()

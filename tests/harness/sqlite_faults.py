@@ -6,7 +6,7 @@ import threading
 import time
 
 from harness.sqlite_worlds import (ABOVE, BELOW, FENCED, FULL, IO, NO_MEMORY, NO_QUORUM, NOT_FOUND, TIMEOUT,
-                                   content, is_whole, last_message, one, point, refused)
+                                   content, filled, is_whole, last_message, one, point, refused)
 
 READS = {NO_QUORUM: "SQLITE_IOERR_READ", BELOW: "SQLITE_IOERR_READ", ABOVE: "SQLITE_IOERR_READ", IO: "SQLITE_IOERR_READ", NO_MEMORY: "SQLITE_NOMEM"}
 CODES = {
@@ -22,11 +22,12 @@ CODES = {
 
 def made(world, name="volume"):
     """A database with 400 rows on many pages, in a file that no connection of this process has open."""
-    ours = world.open(name)
-    ours.execute("create table t(a integer primary key, b)")
-    many = "with recursive c(n) as (select 1 union all select n + 1 from c where n < 400)"
-    ours.execute(f"{many} insert into t select n, hex(zeroblob(100)) from c")
-    ours.close()
+    filled(world.open(name), 400, "hex(zeroblob(100))").close()
+
+
+def numbered(*choices):
+    """All choices together, and of each a number with room for changes of their own."""
+    return zip(itertools.count(10, 10), itertools.product(*choices))
 
 
 def change(connection, number):
@@ -37,30 +38,27 @@ def change(connection, number):
 def check_faults(world):
     """Each fault of each call has its error; the database is as before or, where a commit was in doubt, as after; and work goes on."""
     made(world)
-    number = 0
-    for call, codes in CODES.items():
-        for fault, code in codes.items():
-            for mode in ("delete", "memory", "off"):
-                number += 10
-                if call == "open_writer":
-                    world.ask("work_change_to", "volume", number)  # so that this process needs another writer
-                ours, other = world.open(timeout=50), world.open()
-                ours.execute(f"pragma journal_mode = {mode}")
-                if call != "open_writer":
-                    change(ours, number)
-                    change(other, number + 1)
-                before = content(other)
-                world.fail(call, fault)
-                with refused(code):
-                    change(ours, number + 2)
-                    one(ours, "select count(*), sum(length(b)) from t")
-                world.heal()
-                assert not ours.in_transaction
-                assert content(ours) == before, f"{call}, {fault}, {mode}"
-                change(ours, number + 3)
-                assert content(ours) == content(other) and content(ours) != before and is_whole(other)
-                ours.close()
-                other.close()
+    faults = [(call, fault, code) for call, codes in CODES.items() for fault, code in codes.items()]
+    for number, ((call, fault, code), mode) in numbered(faults, ("delete", "memory", "off")):
+        if call == "open_writer":
+            world.ask("work_change_to", "volume", number)  # so that this process needs another writer
+        ours, other = world.open(timeout=50), world.open()
+        ours.execute(f"pragma journal_mode = {mode}")
+        if call != "open_writer":
+            change(ours, number)
+            change(other, number + 1)
+        before = content(other)
+        world.fail(call, fault)
+        with refused(code):
+            change(ours, number + 2)
+            one(ours, "select count(*), sum(length(b)) from t")
+        world.heal()
+        assert not ours.in_transaction
+        assert content(ours) == before, f"{call}, {fault}, {mode}"
+        change(ours, number + 3)
+        assert content(ours) == content(other) and content(ours) != before and is_whole(other)
+        ours.close()
+        other.close()
 
 
 def check_exclusive(world):
@@ -86,31 +84,28 @@ def check_exclusive(world):
 def check_in_doubt(world):
     """After a commit in doubt the connection sees what the volume has, and works on; with it others."""
     made(world)
-    number = 0
-    for mode in ("delete", "persist", "memory", "off"):
-        for locking in ("normal", "exclusive"):
-            for is_durable in (False, True):
-                number += 10
-                ours, other = world.open(), world.open()
-                ours.execute(f"pragma journal_mode = {mode}")
-                change(ours, number)
-                ours.execute(f"pragma locking_mode = {locking}")
-                change(ours, number + 3)
-                before = [one(it, "select group_concat(b) from t") for it in (ours, other)]
-                assert before[0] == before[1]
-                world.doubt(is_durable)
-                with refused("SQLITE_IOERR_FSYNC", "in doubt", ours):
-                    change(ours, number + 1)
-                if locking == "exclusive":
-                    assert one(ours, "select group_concat(b) from t") == before[0]
-                    ours.close()
-                    ours = world.open()
-                after = [one(it, "select group_concat(b) from t") for it in (ours, other)]
-                assert after[0] == after[1] and (after[0] != before[0]) == is_durable
-                change(ours, number + 2)
-                assert is_whole(ours) and is_whole(other) and content(ours) == content(other)
-                ours.close()
-                other.close()
+    modes = "delete", "persist", "memory", "off"
+    for number, (mode, locking, is_durable) in numbered(modes, ("normal", "exclusive"), (False, True)):
+        ours, other = world.open(), world.open()
+        ours.execute(f"pragma journal_mode = {mode}")
+        change(ours, number)
+        ours.execute(f"pragma locking_mode = {locking}")
+        change(ours, number + 3)
+        before = [one(it, "select group_concat(b) from t") for it in (ours, other)]
+        assert before[0] == before[1]
+        world.doubt(is_durable)
+        with refused("SQLITE_IOERR_FSYNC", "in doubt", ours):
+            change(ours, number + 1)
+        if locking == "exclusive":
+            assert one(ours, "select group_concat(b) from t") == before[0]
+            ours.close()
+            ours = world.open()
+        after = [one(it, "select group_concat(b) from t") for it in (ours, other)]
+        assert after[0] == after[1] and (after[0] != before[0]) == is_durable
+        change(ours, number + 2)
+        assert is_whole(ours) and is_whole(other) and content(ours) == content(other)
+        ours.close()
+        other.close()
 
 
 def check_lost_writer(world):

@@ -6,6 +6,7 @@ import random
 import sqlite3
 import time
 
+from harness.sqlite_transactions import MANY
 from harness.sqlite_worlds import IO, NO_QUORUM, SECONDS, TIMEOUT, is_whole, one
 
 ACCOUNTS, SUM = 300, 30_000
@@ -90,7 +91,7 @@ def check_rivals(world):
     """Whatever several processes lose with their writers: a commit that is durable stays, and each SELECT sees one state."""
     ours = world.open()
     ours.executescript("create table accounts(id integer primary key, amount, filler); create table log(process, number)")
-    ours.execute(f"with recursive c(n) as (select 1 union all select n + 1 from c where n < {ACCOUNTS}) insert into accounts select n - 1, 100, hex(zeroblob(150)) from c")
+    ours.execute(f"{MANY.format(ACCOUNTS)} insert into accounts select n - 1, 100, hex(zeroblob(150)) from c")
     ours.close()
     helpers = [world.helper("work_rival", process) for process in range(3)]
     said = [helper.communicate(timeout=SECONDS)[0] for helper in helpers]

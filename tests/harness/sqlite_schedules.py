@@ -12,6 +12,7 @@ import sys
 import time
 from pathlib import Path
 
+from harness import sqlite_transactions
 from harness.sqlite_cluster import NODES, QUORUM, Cluster, Proxies
 from harness.sqlite_crashes import Child
 from harness.sqlite_rounds import connect, load, told
@@ -20,7 +21,7 @@ from harness.stores import until
 
 NO_GOSSIP = 86_400_000  # milliseconds between two rounds
 TABLE = "create table t(a integer primary key, b)"
-MANY = "with recursive c(n) as (select 1 union all select n + 1 from c where n < 100)"
+MANY = sqlite_transactions.MANY.format(100)
 
 
 # Processes
@@ -147,6 +148,15 @@ def shows(cluster, least, most=None):
 # Openings
 
 
+def die_in_opening(cluster, proxies, seconds, sql):
+    """A process that is to execute this is killed once a bound is spent, or after so many seconds."""
+    dying = Child(serve, cluster.folder / "proxied", {"timeout": int(1000 * seconds)})
+    dying.pipe.send(sql)
+    proxies.wait(seconds)
+    time.sleep(0.1)
+    dying.kill()
+
+
 def check_openings_that_die(world):
     """An engine dies within an opening after each number of its requests, at some servers earlier; the next one finds all commits, and all
     servers have one log in the end: no epoch has two truncations."""
@@ -156,11 +166,7 @@ def check_openings_that_die(world):
     for step in range(11):
         late = world.rng.sample(range(NODES), world.rng.randrange(NODES))
         proxies.bound([max(0, step - 1 - number % 2) if number in late else step for number in range(NODES)], world.rng.random() < 0.5)
-        dying = Child(serve, cluster.folder / "proxied", {"timeout": 1500})
-        dying.pipe.send("insert into t(b) values('dying')")
-        proxies.wait(1.5)
-        time.sleep(0.1)
-        dying.kill()
+        die_in_opening(cluster, proxies, 1.5, "insert into t(b) values('dying')")
         proxies.bound(None)
         rows = shows(cluster, rows, rows + 1) + 1
         assert cluster.settled(), f"step {step}: {cluster.fronts()}"
@@ -367,11 +373,7 @@ def check_two_epochs(world):
         cluster.start(4, 5)
         for step in range(3, 10):
             proxies.bound([30 if number in late else step for number in range(NODES)])
-            dying = Child(serve, cluster.folder / "proxied", {"timeout": 1000})
-            dying.pipe.send("begin immediate")
-            proxies.wait(1)
-            time.sleep(0.1)
-            dying.kill()
+            die_in_opening(cluster, proxies, 1, "begin immediate")
             proxies.bound(None, True)
         for away in ((0, 1), (2, 3)):
             cluster.kill(*away)

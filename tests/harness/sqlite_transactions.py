@@ -26,7 +26,7 @@ def number(*bounds):
     return lambda choose: choose.randrange(*bounds)
 
 
-MANY = "with recursive c(n) as (select 1 union all select n + 1 from c where n < {})"
+MANY = "with recursive c(n) as (select 1 union all select n + 1 from c where n < {})"  # so many numbers
 # Of each statement how often it comes, and what draws its values: each is bound to a `?`, or written where the text has `{}`.
 STATEMENTS = [
     (6, "insert into items(name, amount, body) values(?, ?, ?)", words, number(1000), body),

@@ -14,6 +14,7 @@ import sys
 from pathlib import Path
 
 from harness import ROOT, environment, ran
+from harness.sqlite_transactions import MANY
 
 TESTS = ROOT / "tests"
 CHECKS = ("harness.sqlite_checks", "harness.sqlite_crashes", "harness.sqlite_faults", "harness.sqlite_rivals")
@@ -93,9 +94,6 @@ class World:
     def doubt(self, is_durable):
         self.double.memory_volume_doubt(int(is_durable))
 
-    def die(self, skip, count):
-        self.double.memory_volume_die(skip, count)
-
     def end(self):
         self.double.memory_volume_end()
 
@@ -151,6 +149,13 @@ def point(connection):
 
 def is_whole(connection):
     return connection.execute("pragma integrity_check").fetchall() == [("ok",)]
+
+
+def filled(connection, count, body):
+    """The connection, which has made a table of so many rows."""
+    connection.execute("create table t(a integer primary key, b)")
+    connection.execute(f"{MANY.format(count)} insert into t select n, {body} from c")
+    return connection
 
 
 def content(connection):
