@@ -1,6 +1,7 @@
 """Fixtures that every test file shares: the built programs, the seed of random tests, and what refuses memory and devices."""
 
 import contextlib
+import functools
 import random
 import secrets
 import subprocess
@@ -100,7 +101,7 @@ def made(name, make):
 
 
 refusing = made("refusing", shims.Refusing)  # refuses allocations, starts of threads, reads and writes, and cuts reads and writes short
-disk = made("disk", stores.disk)  # delays, reports and refuses flushes, and refuses writes
+disk = made("disk", functools.partial(shims.built, "disk"))  # delays, reports and refuses flushes, and refuses writes
 double = made("double", sqlite_worlds.build)  # the VFS over the double of a volume
 
 

@@ -136,8 +136,7 @@ def test_a_missing_snapshot_is_refused(store):
     assert told(client, takes(1, 400)) == [b"changed"] * 400
     assert until(lambda: it.metrics()["yieldcleat_snapshots_total"] >= 1)
     assert told(client, takes(401, 410)) == [b"changed"] * 10
-    it.kill()
-    it.start()
+    it.restart()
     assert shows(it.client(), 410)
     it.kill()
     it.file("snapshot").unlink()
@@ -164,8 +163,7 @@ def test_a_small_disk(store):
         (it.data / "ballast").unlink()
         assert until(lambda: it.metrics()["yieldcleat_disk_full"] == 0)
         assert client.ask(take(last + 2)) == b"changed"
-        it.kill()
-        it.start()
+        it.restart()
         assert it.client().complete() == last + 2 and shows(it.client(), last + 2)
         it.kill()
     finally:

@@ -36,8 +36,7 @@ def test_a_guard_comes_back(store):
         assert it.ask(request) == answer
     status = b"status 3 %d 1 0 1 0 3 1 1 4" % birth
     assert it.ask(b"status") == status
-    it.kill()
-    it.start()
+    it.restart()
     assert it.ask(b"status") == status
     assert it.ask(b"propose 3 %d 1 0 4" % birth) == b"accepted 3 %d 1" % birth
     seen = it.metrics()

@@ -8,7 +8,8 @@ import time
 
 import pytest
 
-from harness import SECONDS, store_faults
+from harness import SECONDS
+from harness.shims import built
 from harness.store_checks import shows, take, takes, told
 from harness.stores import until
 from model.facts import PAGE_LEN, Record, Write
@@ -19,7 +20,7 @@ pytestmark = pytest.mark.xdist_group("store")  # which builds the program once
 
 @pytest.fixture(scope="module")
 def faults(tmp_path_factory):
-    return store_faults.build(tmp_path_factory.mktemp("faults"))
+    return built("store_faults", tmp_path_factory.mktemp("faults"))
 
 
 def fill(client, pages, heading=b""):
@@ -106,8 +107,7 @@ def test_two_starts_at_one_time(store, faults):
     one.wait()
     birth = one.ask(b"status").split()[2]
     assert one.ask(b"admit 1 %s 0 0" % birth) == b"admitted 1 " + birth
-    one.kill()
-    one.start()
+    one.restart()
     assert one.ask(b"status") == b"status 1 %s 1 0 0 0" % birth
 
 
@@ -141,8 +141,7 @@ def test_a_staging_makes_no_snapshots_without_end(store):
     for _ in range(2):  # before a restart, and after it
         time.sleep(1)
         assert made(other) == 0
-        other.kill()
-        other.start()
+        other.restart()
     client = other.client()
     assert told(client, [b"add " + pieces[0], b"unite"]) == [b"added", b"united"]
     assert until(lambda: made(other) >= 1)

@@ -6,7 +6,7 @@ import subprocess
 
 import pytest
 
-from harness import copy_of, environment, stores
+from harness import copy_of, environment, spoilt, stores
 from harness.shims import kit
 from harness.store_checks import check_answers, check_damage, check_full, check_kills, check_lock, check_readers
 
@@ -47,16 +47,12 @@ def target(tmp_path_factory):
 @pytest.mark.parametrize("name", [None, *MUTANTS], ids=lambda it: it or "none")
 def test_mutants(archive, target, disk, tmp_path, monkeypatch, seed, name):
     copy_of(tmp_path, "client", "embedding", "store")
-    checks = {check_kills, check_client, check_damage, check_answers, check_full, check_lock, check_readers}
-    if name:
-        file, old, new, check = MUTANTS[name]
-        text = (tmp_path / file).read_text()
-        assert text.count(old) == 1, f"{name}: {text.count(old)} places"
-        (tmp_path / file).write_text(text.replace(old, new))
-        checks = {check}
+    file, old, new, check = MUTANTS.get(name, (LOG, "", "", None))
+    checks = {check} if check else {check_kills, check_client, check_damage, check_answers, check_full, check_lock, check_readers}
     monkeypatch.setenv("YIELDCLEAT_ARCHIVE", str(archive.parent))
-    programs = stores.build(archive, target, tmp_path / "store", warnings=bool(name)) or pytest.skip("no cargo is on the path")
-    for check in checks:
-        choose, folder = random.Random(f"{seed} {name}"), tmp_path / check.__name__
-        with pytest.raises(AssertionError) if name else contextlib.nullcontext():
-            check(programs / "yieldcleat-store", folder, disk, choose)
+    with spoilt(tmp_path / file, {old: new} if name else {}):
+        programs = stores.build(archive, target, tmp_path / "store", warnings=bool(name)) or pytest.skip("no cargo is on the path")
+        for check in checks:
+            choose, folder = random.Random(f"{seed} {name}"), tmp_path / check.__name__
+            with pytest.raises(AssertionError) if name else contextlib.nullcontext():
+                check(programs / "yieldcleat-store", folder, disk, choose)

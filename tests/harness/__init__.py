@@ -32,9 +32,9 @@ def answer(program, words, text=b"", **streams):
     return Answer(done.returncode, done.stdout, done.stderr)
 
 
-def ran(words, status=0, **settings):
+def ran(words, status=0, timeout=5 * SECONDS, **settings):
     """Standard output and standard error of a command that is to end with this status."""
-    done = subprocess.run(words, capture_output=True, text=True, timeout=5 * SECONDS, check=False, **settings)
+    done = subprocess.run(words, capture_output=True, text=True, timeout=timeout, check=False, **settings)
     assert done.returncode == status, f"{words}\n{done.stdout[-2000:]}{done.stderr[-2000:]}"
     return done.stdout, done.stderr
 

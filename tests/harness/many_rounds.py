@@ -20,8 +20,9 @@ import time
 import traceback
 from pathlib import Path
 
-from harness import ROOT, stores
+from harness import ROOT
 from harness.network import Network, NotAllowed
+from harness.shims import built
 from harness.sqlite_crashes import Child
 from harness.sqlite_network import SKIPPED, NetworkRounds
 from harness.sqlite_rounds import ROUNDS, Parts, Rounds, add, load, play_cluster
@@ -207,7 +208,7 @@ def prepared(parser, given, kind):
         parser.error(f"{missing[0]} is not there; `make sqlite` builds the extension and the server")
     given.folder.mkdir(parents=True, exist_ok=True)
     given.extension, given.store, given.fleet = (it and it.resolve() for it in (given.extension, given.store, given.fleet))
-    given.parts = Parts(given.extension, given.store, stores.disk(given.folder), given.fleet)
+    given.parts = Parts(given.extension, given.store, built("disk", given.folder), given.fleet)
     load(given.extension)
     return NetworkRounds if given.network else Rounds
 

@@ -14,9 +14,6 @@ import time
 from pathlib import Path
 from typing import NamedTuple
 
-if __name__ == "__main__":
-    sys.path.insert(0, str(Path(__file__).resolve().parents[1]))
-
 from harness import sqlite_worlds
 from harness.sqlite_cluster import NODES, QUORUM, Cluster, Proxies
 from harness.sqlite_crashes import Child, digest

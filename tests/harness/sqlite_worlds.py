@@ -25,7 +25,8 @@ KILLED = -1
 
 def build(folder, target="double", root=ROOT, words=(), **settings):
     """The extension over the double or another target, built out of the sources below a folder; its compiler's messages fail the test."""
-    _, said = ran(["make", "-s", "-C", root / "sqlite", f"BUILD={folder}", *words, target], env=environment(**settings))
+    command = ["make", "-s", "-C", root / "sqlite", f"BUILD={folder}", *words, target]
+    _, said = ran(command, timeout=None, env=environment(**settings))
     assert said == "", said[-3000:]
     return Path(folder) / target / "yieldcleat.so"
 

@@ -1,6 +1,6 @@
 """The bytes of a store's files, as `embedding/src/store/entries.rs` has them."""
 
-from model.wire import framed
+from model.wire import fields, framed
 
 POLYNOMIAL = 0x82F63B78
 HEADER, HEAD = 36, 20
@@ -15,25 +15,23 @@ def crc32c(data):
     return left ^ 0xFFFFFFFF
 
 
-def number(value, size):
-    return value.to_bytes(size, "big")
+def summed(head):
+    return head + fields((crc32c(head), 4))
 
 
 def log(generation, batches, salt=7):
     """A log with one entry of requests for each batch."""
-    head = b"yc log 1" + number(generation, 8) + number(salt, 8) + number(0, 8)
-    text = head + number(crc32c(head), 4)
+    text = summed(b"yc log 1" + fields((generation, 8), (salt, 8), (0, 8)))
     for place, batch in enumerate(batches):
         body = framed(batch)
-        head = number(place, 8) + number(len(body), 4) + number(crc32c(body), 4)
-        text += head + number(crc32c(number(salt, 8) + head), 4) + body
+        head = fields((place, 8), (len(body), 4), (crc32c(body), 4))
+        text += head + fields((crc32c(fields((salt, 8)) + head), 4)) + body
     return text
 
 
 def birth(drawn):
     """The file with a node's birth, as `embedding/src/store/birth.rs` has it."""
-    head = b"yc birth" + number(drawn, 8)
-    return head + number(crc32c(head), 4)
+    return summed(b"yc birth" + fields((drawn, 8)))
 
 
 def entries(text):

@@ -1,6 +1,7 @@
 """Storage servers in processes of their own, and what a crash does to their files."""
 
 import contextlib
+import os
 import shutil
 import signal
 import socket
@@ -8,19 +9,18 @@ import subprocess
 import time
 from pathlib import Path
 
-from harness import ROOT, SECONDS, environment
-from harness.shims import built, kit
+from harness import ROOT, SECONDS, environment, ran
+from harness.shims import kit
 from model.wire import framed, read_frame
+
 
 def build(archive, target, package=ROOT / "store", profile="debug", warnings=False):
     """The folder of a package's programs, or None without cargo; without warnings of the compiler, unless they may be."""
     if not shutil.which("cargo"):
         return None
     settings = environment(YIELDCLEAT_ARCHIVE=archive.parent, RATTLE_C=kit() / "c", CARGO_TARGET_DIR=target)
-    command = ["cargo", "build", "--offline", "--locked", *["--release"] * (profile == "release")]
-    done = subprocess.run(command, cwd=package, env=settings, capture_output=True, text=True, check=False)
-    assert done.returncode == 0, done.stderr[-2000:]
-    assert warnings or "warning" not in done.stderr, done.stderr[-2000:]
+    _, said = ran(["cargo", "build", "--offline", "--locked", *["--release"] * (profile == "release")], timeout=None, cwd=package, env=settings)
+    assert warnings or "warning" not in said, said[-2000:]
     return target / profile
 
 
@@ -28,7 +28,10 @@ class Client:
     """A connection to a server."""
 
     def __init__(self, address):
-        family, place = (socket.AF_UNIX, address[5:]) if address.startswith("unix:") else (socket.AF_INET, tcp(address))
+        family, place = socket.AF_UNIX, address.removeprefix("unix:")
+        if place == address:
+            host, _, port = address.rpartition(":")
+            family, place = socket.AF_INET, (host, int(port))
         self.socket = socket.socket(family)
         self.socket.settimeout(SECONDS)
         self.socket.connect(place)
@@ -55,11 +58,6 @@ class Client:
     def close(self):
         self.answers.close()
         self.socket.close()
-
-
-def tcp(address):
-    host, _, port = address.rpartition(":")
-    return host, int(port)
 
 
 class Store:
@@ -106,15 +104,17 @@ class Store:
         return Client(self.address)
 
     def ask(self, request):
-        client = self.client()
-        try:
+        with contextlib.closing(self.client()) as client:
             return client.ask(request)
-        finally:
-            client.close()
 
     def kill(self):
         self.process.kill()
         self.process.wait()
+
+    def restart(self):
+        """Kills it, starts it again, and waits until it takes connections."""
+        self.kill()
+        return self.start()
 
     def stop(self, number=signal.SIGTERM):
         """The status of a graceful end."""
@@ -147,8 +147,7 @@ class Store:
             lengths[path.removesuffix(".draft")] = int(length)
         for path in self.data.iterdir():
             if path.name != "lock" and path.stat().st_size > (kept := lengths.get(str(path).removesuffix(".draft"), 0)):
-                with open(path, "r+b") as it:
-                    it.truncate(kept)
+                os.truncate(path, kept)
 
     def metrics(self):
         """The values of the metrics, by name and labels."""
@@ -164,8 +163,3 @@ def until(holds):
             return True
         time.sleep(0.02)
     return False
-
-
-def disk(folder):
-    """The library that delays, reports and refuses flushes, and refuses writes."""
-    return built("disk", folder)

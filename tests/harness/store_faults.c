@@ -1,12 +1,7 @@
-"""A library that is preloaded into a storage server. It refuses a connection, and delays a process that has freed a lock."""
+/* A library that is preloaded into a storage server. It refuses a connection, and delays a process that has freed a lock.
 
-import subprocess
-
-from harness.shims import compiler
-
-# REFUSE_ACCEPT is the number of a connection, from 1, that is closed when it comes, and REFUSE_ERROR the error that `accept` has then.
-# UNLOCK_DELAY is how many microseconds a call takes after it has freed a lock.
-SOURCE = """
+   REFUSE_ACCEPT is the number of a connection, from 1, that is closed when it comes, and REFUSE_ERROR the error that `accept` has then.
+   UNLOCK_DELAY is how many microseconds a call takes after it has freed a lock. */
 extern char *getenv(const char *name);
 extern int atoi(const char *text);
 extern int *__errno_location(void);
@@ -32,12 +27,3 @@ int flock(int file, int how) {
         usleep(atoi(delay));
     return done;
 }
-"""
-
-
-def build(folder):
-    source, library = folder / "faults.c", folder / "faults.so"
-    source.write_text(SOURCE)
-    flags = ["-O2", "-Wall", "-Werror", "-shared", "-fPIC", "-nostdlib", "-fuse-ld=lld"]
-    subprocess.run([compiler(), *flags, "-o", library, source], check=True)
-    return library
