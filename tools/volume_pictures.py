@@ -126,8 +126,7 @@ def opening(story):
     story.heading("4  Make U known at two nodes")
     story.give(b, [1, 2], "push")
     story.heading("5  Admit the fresh node; U reaches it first")
-    story.give(b, [0], "gossip")
-    story.give(b, [0], "admit")
+    story.readmit(b, 0)
     story.heading("6  Propose the truncation that begins the next epoch, and send it when it is chosen")
     story.give(b, [1, 2], "propose")
     story.note(b, f"the truncation of epoch {engine.cut[1]} is chosen")
@@ -187,39 +186,36 @@ def set_words(facts):
     return "; ".join(words) or "nothing"
 
 
+def admit_words(generation, birth, epoch, complete, pair):
+    return f"admit {generation} {birth + 1} epoch {epoch}, complete {complete}; {pair_words(pair)}"
+
+
+REQUESTS = {
+    "fence": lambda generation: f"fence {generation}",
+    "gossip": lambda union: f"absorb U ({set_words(union)})",
+    "admit": admit_words,
+    "propose": lambda generation, birth, cut: f"propose {generation} {birth + 1} {cut_words(cut)}",
+    "take": lambda generation, birth, fact: f"as {generation} {birth + 1} take {fact_words(fact)}",
+    "pull": lambda generation, birth, asked: f"as {generation} {birth + 1} what do you have{' beyond U' if asked else ''}?",
+    "push": lambda generation, birth, _: f"as {generation} {birth + 1} absorb U",
+}
+ANSWERS = {
+    "fresh": lambda birth: f"fresh {birth + 1}",
+    "stale": lambda generation: f"stale {generation}",
+    "fenced": lambda generation, birth, pair: f"fenced {generation} {birth + 1}; {pair_words(pair)}",
+    "pulled": lambda generation, birth, facts: f"{generation} {birth + 1} {set_words(facts)}",
+    "front": lambda generation, birth, epoch, complete, _: f"{generation} {birth + 1} front {epoch} {complete}",
+    "accepted": lambda generation, birth, epoch: f"accepted {generation} {birth + 1} epoch {epoch}",
+    "admitted": lambda generation, birth: f"admitted {generation} {birth + 1}",
+}
+
+
 def request_words(request):
-    kind, _, *rest = request
-    if kind == "fence":
-        return f"fence {rest[0]}"
-    if kind == "gossip":
-        return f"absorb U ({set_words(rest[0])})"
-    if kind == "admit":
-        generation, birth, epoch, complete, pair = rest
-        return f"admit {generation} {birth + 1} epoch {epoch}, complete {complete}; {pair_words(pair)}"
-    head = f"{rest[0]} {rest[1] + 1}"
-    if kind == "propose":
-        return f"propose {head} {cut_words(rest[2])}"
-    if kind == "take":
-        return f"as {head} take {fact_words(rest[2])}"
-    if kind == "pull":
-        return f"as {head} what do you have" + (" beyond U?" if rest[2] else "?")
-    return f"as {head} absorb U"
+    return REQUESTS[request[0]](*request[2:])
 
 
 def answer_words(answer):
-    if answer is None:
-        return ""
-    kind, *rest = answer
-    if kind == "fresh":
-        return f"fresh {rest[0] + 1}"
-    if kind == "stale":
-        return f"stale {rest[0]}"
-    head = f"{rest[0]} {rest[1] + 1}"
-    if kind == "fenced":
-        return f"fenced {head}; {pair_words(rest[2])}"
-    more = {"pulled": lambda: set_words(rest[2]), "front": lambda: f"front {rest[2]} {rest[3]}", "accepted": lambda: f"epoch {rest[2]}"}
-    name = kind if kind in ("accepted", "admitted") else ""
-    return " ".join(filter(None, [name, head, more[kind]() if kind in more else ""]))
+    return ANSWERS[answer[0]](*answer[1:]) if answer else ""
 
 
 def state(node):
@@ -240,21 +236,17 @@ def height_of(row):
     return HIGH["Note" if is_plain else type(row).__name__]
 
 
+def draw_box(canvas, x, y, half, tint, name, *lines):
+    canvas.rect(x - half, y, 2 * half, 54, rx=4, fill=tint, stroke=forms.INK)
+    canvas.centred(x, y + 17, name, 12, font_weight="bold")
+    for down, line in zip((33, 48), lines):
+        canvas.centred(x, y + down, line, 10)
+
+
 def draw_nodes(canvas, y, states):
     """A box for each node with its name and its state."""
     for i, lines in enumerate(states):
-        x = node_at(i)
-        canvas.add("rect", x=x - 72, y=y, width=144, height=54, rx=4, fill=forms.TINTS[0], stroke=forms.INK)
-        canvas.centred(x, y + 17, f"node {i + 1}", 12, font_weight="bold")
-        for down, line in zip((33, 48), lines):
-            canvas.centred(x, y + down, line, 10)
-
-
-def draw_engines(canvas, y, places, engines):
-    for number, x in places.items():
-        canvas.add("rect", x=x - 44, y=y, width=88, height=54, rx=4, fill=forms.TINTS[1], stroke=forms.INK)
-        canvas.centred(x, y + 17, "engine", 12, font_weight="bold")
-        canvas.centred(x, y + 33, f"generation {engines[number].generation}", 10)
+        draw_box(canvas, node_at(i), y, 72, forms.TINTS[0], f"node {i + 1}", *lines)
 
 
 def draw_lifelines(canvas, places, nodes, begin, end):
@@ -279,11 +271,11 @@ def draw_exchange(canvas, row, start, left, y):
 
 def draw_row(canvas, row, places, y):
     if isinstance(row, Heading):
-        canvas.add("rect", x=MARGIN, y=y + 6, width=WIDTH - 2 * MARGIN, height=22, fill=BAND)
+        canvas.rect(MARGIN, y + 6, WIDTH - 2 * MARGIN, 22, fill=BAND)
         canvas.text(MARGIN + 8, y + 21, row.words, 12, font_weight="bold")
     elif isinstance(row, Note):
         x, width = places[row.engine], forms.width_of(row.words, 11) + 12
-        canvas.add("rect", x=x - 8, y=y + 4, width=width, height=20, rx=4, fill=forms.TINTS[4], stroke=forms.INK)
+        canvas.rect(x - 8, y + 4, width, 20, rx=4, fill=forms.TINTS[4], stroke=forms.INK)
         canvas.text(x, y + 18, row.words, 11)
     else:
         draw_exchange(canvas, row, places[row.request[1]], max(places.values()) + 10, y)
@@ -317,7 +309,8 @@ def drawn(name):
     canvas.text(MARGIN, 30, title, 17, font_weight="bold")
     canvas.text(MARGIN, 50, HOW_TO_READ, 12, fill=forms.QUIET)
     draw_lifelines(canvas, places, len(story.world.nodes), TOP, end + 8)
-    draw_engines(canvas, TOP, places, story.world.engines)
+    for number, x in places.items():
+        draw_box(canvas, x, TOP, 44, forms.TINTS[1], "engine", f"generation {story.world.engines[number].generation}")
     draw_nodes(canvas, TOP, story.before)
     y = TOP + HEAD
     for row in rows:
