@@ -2,6 +2,7 @@
 Rust program. Each ends by itself with a reason, and touches no memory that is not its own."""
 
 import contextlib
+import functools
 import resource
 import socket
 import struct
@@ -13,18 +14,15 @@ import pytest
 
 from harness import ROOT
 from harness.shims import c_compiler, kit
-from model.wire import NOTHING
+from model.wire import NOTHING, frame
 
 PACKAGE = ROOT / "embedding"
 LONGEST = 1 << 26  # bytes of a frame
 PATIENCE = 3  # seconds that the C program gives its peer
 SECONDS = 60  # after which a program hangs
 SANITIZERS = ["-fsanitize=address,undefined", "-fno-sanitize-recover=all", "-fno-omit-frame-pointer"]
+length = struct.Struct(">I").pack  # what a frame of so many bytes begins with
 FLAGS = ["-std=gnu11", "-O1", "-g", "-Wall", "-Wextra", "-Wpedantic", "-Werror", "-pthread", f"-DSECONDS={PATIENCE}"]
-
-
-def frame(body, length=None):
-    return struct.pack(">I", len(body) if length is None else length) + body
 
 
 # The programs
@@ -63,7 +61,7 @@ def sends(*parts, leaves=False):
 
 def drips(peer):
     """A frame that comes so slowly that it would take minutes."""
-    peer.sendall(frame(b"", 1000))
+    peer.sendall(length(1000))
     with contextlib.suppress(OSError):
         for _ in range(20 * PATIENCE):
             peer.sendall(b"\x10")
@@ -86,14 +84,14 @@ PEERS = {
     "a header of ones, and many bytes": (sends(b"\xff\xff\xff\xff", bytes(100_000)), TOO_LONG),
     "a header of ones alone": (sends(b"\xff\xff\xff\xff"), TOO_LONG),
     "a header of ones, one byte at a time": (sends(b"\xff", b"\xff", b"\xff", b"\xff", b"\xff"), TOO_LONG),
-    "a length above the limit": (sends(frame(b"", LONGEST + 1)), TOO_LONG),
-    "a length with the highest bit": (sends(frame(b"", 1 << 31)), TOO_LONG),
-    "a length at the limit, and an end": (sends(frame(b"\x10", LONGEST), leaves=True), LEFT),
+    "a length above the limit": (sends(length(LONGEST + 1)), TOO_LONG),
+    "a length with the highest bit": (sends(length(1 << 31)), TOO_LONG),
+    "a length at the limit, and an end": (sends(length(LONGEST) + b"\x10", leaves=True), LEFT),
     "a delta's header of ones": (sends(frame(NOTHING), b"\xff\xff\xff\xff" + bytes(64)), TOO_LONG),
     "an end at once": (sends(leaves=True), LEFT),
     "a reset at once": (resets, LEFT),
     "an end within a header": (sends(b"\0\0", leaves=True), LEFT),
-    "an end within a frame": (sends(frame(NOTHING, 100), leaves=True), LEFT),
+    "an end within a frame": (sends(length(100) + NOTHING, leaves=True), LEFT),
     "an end behind a summary": (sends(frame(NOTHING), leaves=True), LEFT),
     "an empty summary": (sends(frame(b"")), OTHERWISE),
     "a summary of another kind": (sends(frame(b"\x99" * 30)), OTHERWISE),
@@ -107,17 +105,13 @@ PEERS = {
 }
 
 
-def limited():
-    """No core files."""
-    resource.setrlimit(resource.RLIMIT_CORE, (0, 0))
-
-
 class Run:
     """A run of a program, and how it ended, once that was asked for."""
 
     def __init__(self, *words):
         piped = {"stdout": subprocess.PIPE, "stderr": subprocess.PIPE, "stdin": subprocess.DEVNULL, "text": True, "errors": "replace"}
-        self.begun, self.process = time.monotonic(), subprocess.Popen(list(map(str, words)), preexec_fn=limited, **piped)
+        no_core = functools.partial(resource.setrlimit, resource.RLIMIT_CORE, (0, 0))
+        self.begun, self.process = time.monotonic(), subprocess.Popen(list(map(str, words)), preexec_fn=no_core, **piped)
 
     def end(self):
         self.told, self.said = self.process.communicate(timeout=SECONDS)

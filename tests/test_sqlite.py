@@ -23,6 +23,7 @@ pytestmark = [
     pytest.mark.skipif(not c_compiler("sqlite3ext.h"), reason="no C compiler with SQLite's headers is on the path"),
 ]
 needs_shell = pytest.mark.skipif(not shutil.which("sqlite3"), reason="no sqlite3 is on the path")
+needs_valgrind = pytest.mark.skipif(not shutil.which("valgrind"), reason="no valgrind is on the path")
 
 
 @pytest.fixture(scope="module")
@@ -70,7 +71,7 @@ def test_shell_sanitized(sanitized, tmp_path):
 
 
 @needs_shell
-@pytest.mark.skipif(not shutil.which("valgrind"), reason="no valgrind is on the path")
+@needs_valgrind
 def test_shell_under_valgrind(double, tmp_path):
     over = ["valgrind", "--quiet", "--error-exitcode=99", "--leak-check=full", "--errors-for-leak-kinds=definite"]
     assert shell(double, SCRIPTS["first"], tmp_path / "ours", over) == shell(None, SCRIPTS["first"], tmp_path / "plain")

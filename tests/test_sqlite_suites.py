@@ -4,13 +4,12 @@ import contextlib
 import json
 import re
 import shlex
-import shutil
 import subprocess
 import sys
 
 import pytest
 import test_sqlite
-from test_sqlite import SCRIPTS, needs_shell, shell
+from test_sqlite import SCRIPTS, needs_shell, needs_valgrind, shell
 from test_sqlite_nodes import SECONDS, run
 
 from harness import ROOT, environment
@@ -21,7 +20,6 @@ from harness.stores import Store, until
 
 pytestmark = [pytest.mark.xdist_group("sqlite_suites"), *test_sqlite.pytestmark[1:]]
 VALGRIND = ["valgrind", "--quiet", "--error-exitcode=99", "--leak-check=full", "--show-leak-kinds=definite", "--errors-for-leak-kinds=definite"]
-needs_valgrind = pytest.mark.skipif(not shutil.which("valgrind"), reason="no valgrind is on the path")
 
 
 @pytest.fixture

@@ -8,7 +8,7 @@ import threading
 from harness import SECONDS
 from harness.nodes import Node, as_frame, as_line
 from harness.shims import compiler, kit
-from model.wire import framed
+from model.wire import framed, read_frame
 
 STACK = 1 << 20  # of a segment's thread
 MAIN = b"unsigned char yieldcleat_serve(int, int);\nint main(void) { return yieldcleat_serve(0, 1); }\n"
@@ -63,12 +63,9 @@ class Segment(Node):
         return [self.answer() for _ in requests][-1]
 
     def answer(self):
-        return self.bytes(int.from_bytes(self.bytes(4), "big"))
-
-    def bytes(self, size):
-        got = self.answers.read(size)
-        assert len(got) == size, f"the segment ended with status {self.ended()}, and {got[:80]!r}"
-        return got
+        answer = read_frame(self.answers)
+        assert answer is not None, f"the segment ended with status {self.ended()}"
+        return answer
 
     def ended(self):
         self.thread.join(SECONDS)

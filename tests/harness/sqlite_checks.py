@@ -62,10 +62,7 @@ def check_sizes(world):
     ours.execute("insert into t values(5000, zeroblob(100000))")
     assert world.size() - before < 3000
     before = world.size()
-    ours.execute("begin")
-    ours.execute("update t set b = 'y'")
-    ours.execute("rollback")
-    ours.execute("update t set b = b where a = 7 and 0")
+    ours.executescript("begin; update t set b = 'y'; rollback; update t set b = b where a = 7 and 0")
     assert world.size() == before
 
 
@@ -74,11 +71,8 @@ def check_spill(world):
     ours, reader = world.open(), world.open()
     ours.executescript("pragma cache_size = 2; create table t(a integer primary key, b); insert into t values(0, 'first')")
     before = world.size()
-    ours.execute("begin")
     grow = f"{MANY.format(3000)} insert into t(b) select hex(randomblob(100)) from c"
-    ours.execute(grow)
-    ours.execute("savepoint s")
-    ours.execute(grow)
+    ours.executescript(f"begin; {grow}; savepoint s; {grow}")
     assert (one(reader, "select count(*) from t"), world.size()) == (1, before)
     ours.execute("rollback to s")
     assert one(ours, "select count(*) from t") == 3001
@@ -100,18 +94,14 @@ def check_vacuum(world):
     for _ in range(3):
         ours.execute(f"{MANY.format(3000)} insert into t(b) select hex(randomblob(50)) from c")
         many = one(ours, "pragma page_count")
-        ours.execute("delete from t where a > 10")
-        ours.execute("vacuum")
+        ours.executescript("delete from t where a > 10; vacuum")
         few = one(ours, "pragma page_count")
         assert many > 50 and few < 10
         assert one(world.open(), "pragma page_count") == few and is_whole(ours)
     ours.executescript("pragma auto_vacuum = incremental; vacuum; insert into t(b) select hex(randomblob(2000)) from t, t")
     before, pages = content(ours), one(ours, "pragma page_count")
     for end in ("rollback", "commit"):
-        ours.execute("begin")
-        ours.execute("delete from t where a > 10")
-        ours.execute("pragma incremental_vacuum").fetchall()
-        ours.execute(end)
+        ours.executescript(f"begin; delete from t where a > 10; pragma incremental_vacuum; {end}")
         assert (content(ours) == before) == (one(world.open(), "pragma page_count") == pages) == (end == "rollback") and is_whole(ours)
 
 
@@ -120,8 +110,7 @@ def check_snapshots(world):
     ours, reader = filled(world.open(), 500, "hex(zeroblob(500)) || 0"), world.open()
     total = "select count(*), count(distinct b), max(b) = (select b from t where a = 1) from t"
     for change in range(3):
-        reader.execute("pragma cache_size = 2")
-        reader.execute("begin")
+        reader.executescript("pragma cache_size = 2; begin")
         first = one(reader, "select b from t where a = 1")
         if change == 2:
             world.ask("work_change", change)
@@ -180,9 +169,7 @@ def check_threads(world):
     def work(_):
         ours = world.open(busy=60)
         for _ in range(40):
-            ours.execute("begin immediate")
-            ours.execute("update t set n = n + 1")
-            ours.execute("commit")
+            ours.executescript("begin immediate; update t set n = n + 1; commit")
 
     with ThreadPoolExecutor(3) as pool:
         list(pool.map(work, range(3)))  # which raises what a thread has raised
@@ -251,8 +238,7 @@ def check_waits(world):
 def check_turns(world):
     """One connection writes at a time; one that read an older state does not write over a newer one."""
     one_, two = world.open(), world.open()
-    one_.execute("create table t(a)")
-    one_.execute("begin immediate")
+    one_.executescript("create table t(a); begin immediate")
     with refused("SQLITE_BUSY"):
         two.execute("begin immediate")
     assert one(two, "select count(*) from t") == 0
@@ -266,8 +252,7 @@ def check_turns(world):
     two.execute("rollback")
     two.execute("insert into t values(2)")
     assert one_.execute("select a from t").fetchall() == [(1,), (2,)]
-    one_.execute("pragma locking_mode = exclusive")
-    one_.execute("insert into t values(3)")
+    one_.executescript("pragma locking_mode = exclusive; insert into t values(3)")
     with refused("SQLITE_BUSY"):
         two.execute("insert into t values(4)")
     assert one(two, "select count(*) from t") == 3
@@ -336,8 +321,7 @@ def check_keep(world):
     first = point(ours)
     reader.execute("begin")
     assert one(reader, "select count(*) from t") == 0
-    for number in range(60):
-        ours.execute("insert into t values(?)", (number,))
+    ours.executemany("insert into t values(?)", [(number,) for number in range(60)])
     assert one(reader, "select count(*) from t") == 0
     world.open(point=first).close()
     reader.execute("commit")
@@ -351,8 +335,7 @@ def check_keep(world):
     everything = world.open("all", keep=0)
     everything.execute("create table t(a)")
     first = point(everything)
-    for number in range(60):
-        everything.execute("insert into t values(?)", (number,))
+    everything.executemany("insert into t values(?)", [(number,) for number in range(60)])
     assert one(world.open("all", point=first), "select count(*) from t") == 0
 
 
@@ -423,18 +406,13 @@ def check_several_databases(world):
         connection = world.open(main) if main else world.plain("plain")
         connection.execute("attach ? as o", (f"file:{world.place(attached)}?vfs=yieldcleat" if attached else str(world.place("plain2")),))
         for schema in ("main", "o"):
-            connection.execute(f"create table if not exists {schema}.t(a)")
-            connection.execute(f"delete from {schema}.t")
-            connection.execute(f"insert into {schema}.t values(1)")
+            connection.executescript(f"create table if not exists {schema}.t(a); delete from {schema}.t; insert into {schema}.t values(1)")
         for mode in ("normal", "exclusive"):
-            connection.execute(f"pragma locking_mode = {mode}")
-            connection.execute("begin")
-            connection.execute("insert into main.t values(2)")
+            connection.executescript(f"pragma locking_mode = {mode}; begin; insert into main.t values(2)")
             connection.execute("insert into o.t select a from main.t")
             with refused("SQLITE_CANTOPEN" if main else "SQLITE_IOERR_WRITE"):
                 connection.execute("commit")
-            schema = "main" if main else "o"
-            assert "not atomic" in one(connection, f"pragma {schema}.yieldcleat_error")
+            assert "not atomic" in one(connection, f"pragma {'main' if main else 'o'}.yieldcleat_error")
             for schema in ("main", "o"):
                 assert connection.execute(f"select a from {schema}.t").fetchall() == [(1,)]
             connection.execute("update main.t set a = (select max(a) from o.t)")

@@ -85,14 +85,11 @@ class Cluster:
             self.stores[number].process.send_signal(signal.SIGCONT)
             self.stopped.discard(number)
 
-    def fill_disk(self, number, is_full=True):
-        self.stores[number].full.touch() if is_full else self.stores[number].full.unlink(missing_ok=True)
-
     def heal(self):
         """All run, with room on their disks."""
         self.resume()
-        for number in range(NODES):
-            self.fill_disk(number, False)
+        for store in self.stores:
+            store.full.unlink(missing_ok=True)
         self.start()
 
     def status(self, number):

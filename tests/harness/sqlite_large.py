@@ -12,7 +12,7 @@ from pathlib import Path
 
 from harness.sqlite_cluster import NODES, Cluster
 from harness.sqlite_crashes import Child
-from harness.sqlite_rounds import connect, load, told
+from harness.sqlite_rounds import connect, load, telling, told
 from harness.sqlite_worlds import is_whole, last_message, one
 
 KEPT = 20  # commits that stay readable, so that servers fold and discard
@@ -88,15 +88,13 @@ def watch(pipe, place, size):
 
 def check(pipe, place, seed, size):
     """Sends how many rows there are where all of them are as they were made, or what is wrong."""
-    try:
+    with telling(pipe):
         ours = connect(place, timeout=patience(size))
         ours.execute("begin immediate")
         wrong = [a for a, b in ours.execute("select a, b from t") if b != body(seed, a)]
         there, noted = ours.execute("select count(*), sum(length(b)) from t").fetchone(), ours.execute("select rows, bytes from total").fetchone()
         pipe.send(there[0] if is_whole(ours) and not wrong and there == noted else f"{there} is there, {noted} is noted, {wrong[:5]} differ")
         ours.execute("commit")
-    except sqlite3.Error as error:
-        pipe.send(told(error))
 
 
 def open_to_write(pipe, place, size):

@@ -139,7 +139,7 @@ class Rounds:
             elif kind == "stop":
                 self.cluster.pause(number)
             elif kind == "full":
-                self.cluster.fill_disk(number)
+                self.cluster.stores[number].full.touch()
             elif kind == "slow":
                 self.cluster.kill(number)
                 self.cluster.start(number, delay=choose.randrange(1000, 80000))
@@ -164,11 +164,9 @@ class Rounds:
         child = self.child(work, place, self.seed, mode)
         said = []
         if how == "bytes":
-            while child.pipe.poll(30) and (not said or said[-1] != "writing") and not child.pipe.closed:
-                try:
+            with contextlib.suppress(EOFError):
+                while child.pipe.poll(30) and said[-1:] != ["writing"]:
                     said.append(child.pipe.recv())
-                except EOFError:
-                    break
             self.proxies.bound([choose.choice([0, choose.randrange(6), choose.randrange(60), choose.randrange(300)]) for _ in range(NODES)])
         if how == "time":
             time.sleep(choose.randrange(900) / 1000)

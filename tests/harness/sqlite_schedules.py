@@ -43,19 +43,19 @@ def serve(pipe, place, parameters):
     return ours.close()
 
 
-class Engine:
+class Engine(Child):
     """A connection in a process of its own."""
 
     def __init__(self, place, **parameters):
-        self.child = Child(serve, place, {"timeout": 5000} | parameters)
-        self.opened = self.child.pipe.recv()
+        super().__init__(serve, place, {"timeout": 5000} | parameters)
+        self.opened = self.pipe.recv()
 
     def send(self, sql):
-        self.child.pipe.send(sql)
+        self.pipe.send(sql)
 
     def answer(self):
         try:
-            return self.child.pipe.recv()
+            return self.pipe.recv()
         except EOFError:
             return "dead"
 
@@ -81,17 +81,14 @@ class Engine:
         return self.run("select count(*) from t")
 
     def pause(self):
-        os.kill(self.child.process.pid, signal.SIGSTOP)
+        os.kill(self.process.pid, signal.SIGSTOP)
 
     def resume(self):
-        os.kill(self.child.process.pid, signal.SIGCONT)
-
-    def kill(self):
-        self.child.kill()
+        os.kill(self.process.pid, signal.SIGCONT)
 
     def close(self):
         self.send(None)
-        self.child.process.join(20)
+        self.process.join(20)
         self.kill()
 
 
@@ -112,10 +109,11 @@ class World:
             ours.close()
         return made
 
-    def proxies(self, cluster):
-        made = Proxies(cluster.folder)
-        self.made.append(made)
-        return made
+    def proxied(self, *words, **more):
+        """Servers, and proxies before them."""
+        cluster = self.cluster(*words, **more)
+        self.made.append(Proxies(cluster.folder))
+        return cluster, self.made[-1]
 
     def close(self):
         for it in reversed(self.made):
@@ -160,8 +158,7 @@ def die_in_opening(cluster, proxies, seconds, sql):
 def check_openings_that_die(world):
     """An engine dies within an opening after each number of its requests, at some servers earlier; the next one finds all commits, and all
     servers have one log in the end: no epoch has two truncations."""
-    cluster = world.cluster()
-    proxies = world.proxies(cluster)
+    cluster, proxies = world.proxied()
     rows = 3
     for step in range(11):
         late = world.rng.sample(range(NODES), world.rng.randrange(NODES))
@@ -222,8 +219,7 @@ def check_old_engine(world):
 
 def check_late_requests(world):
     """What an engine sent arrives at the servers only after another one has fenced it, or has begun its epoch: none of it counts."""
-    cluster = world.cluster(NO_GOSSIP)
-    proxies = world.proxies(cluster)
+    cluster, proxies = world.proxied(NO_GOSSIP)
     old = Engine(cluster.folder / "proxied")
     old.run("insert into t(b) values('before')")
     for arrives in ([0] * NODES, [9, 9, 9, 0, 0, 0], [1] * NODES, [9, 0, 0, 0, 0, 0]):
@@ -367,8 +363,7 @@ def check_two_epochs(world):
     """Four servers have commits that two lack. An engine's truncation reaches one of the two alone: its epoch is the newest, and its front the
     lowest. The next engine loses nothing."""
     for late in ((4,), (5,), (4, 5)):
-        cluster = world.cluster(NO_GOSSIP)
-        proxies = world.proxies(cluster)
+        cluster, proxies = world.proxied(NO_GOSSIP)
         commit_at_four(cluster)
         cluster.start(4, 5)
         for step in range(3, 10):
@@ -383,8 +378,7 @@ def check_two_epochs(world):
 
 def check_torn_transactions(world):
     """An engine dies within what it sends of a transaction over many pages: the next one finds all of it or nothing."""
-    cluster = world.cluster(rows=0)
-    proxies = world.proxies(cluster)
+    cluster, proxies = world.proxied(rows=0)
     rows = 0
     for _ in range(8):
         ours = Engine(cluster.folder / "proxied")
@@ -407,8 +401,7 @@ def check_torn_transactions(world):
 def check_not_yet_durable(world):
     """A commit that too few servers have is shown to no reader. An opening without these servers loses it, and no reader has seen it."""
     for has in range(1, QUORUM):
-        cluster = world.cluster(NO_GOSSIP)
-        proxies = world.proxies(cluster)
+        cluster, proxies = world.proxied(NO_GOSSIP)
         ours, reader = Engine(cluster.folder / "proxied", timeout=1000), Engine(cluster.folder / "volume", mode="ro")
         ours.write("four")
         assert reader.rows() == [(4,)]
