@@ -18,74 +18,53 @@ needs_cargo = pytest.mark.skipif(not shutil.which("cargo"), reason="no cargo is 
 needs_c = pytest.mark.skipif(not c_compiler(), reason="no C compiler with headers is on the path")
 
 
-class Package:
-    """A Rust package, built in a folder of its own."""
-
-    def __init__(self, name, folder, **settings):
-        self.folder, self.target = ROOT / name, folder / "target"
-        self.settings = environment(CARGO_TARGET_DIR=self.target, TMPDIR=folder, **settings)
-
-    def cargo(self, *words):
-        """What a command of cargo prints, which may not warn."""
-        output, said = ran(["cargo", *words, "--offline", "--locked"], cwd=self.folder, env=self.settings)
-        assert "warning" not in said, said[-2000:]
-        return output
-
-    def program(self, name, *words, status=0):
-        return ran([self.target / "release" / name, *words], status, cwd=self.folder, env=self.settings)
-
-    def check_own_tests(self):
-        """There are some, and all pass."""
-        counts = re.findall(r"(\d+) passed; (\d+) failed; (\d+) ignored", self.cargo("test"))
-        assert sum(int(it[0]) for it in counts) and {it[1:] for it in counts} == {("0", "0")}
+def check_own_tests(name, folder, **settings):
+    """A Rust package, built in a folder, has tests of its own, and all pass; the compiler does not warn."""
+    settings = environment(CARGO_TARGET_DIR=folder / "target", TMPDIR=folder, **settings)
+    output, said = ran("cargo test --offline --locked".split(), cwd=ROOT / name, env=settings)
+    assert "warning" not in said, said[-2000:]
+    counts = re.findall(r"(\d+) passed; (\d+) failed; (\d+) ignored", output)
+    assert sum(int(it[0]) for it in counts) and {it[1:] for it in counts} == {("0", "0")}
 
 
 @needs_cargo
 def test_client(tmp_path):
-    Package("client", tmp_path).check_own_tests()
+    check_own_tests("client", tmp_path)
 
 
 @needs_cargo
 def test_volume(volume_node, fleet_node, tmp_path):
-    Package("volume", tmp_path, YIELDCLEAT_VOLUME_NODE=volume_node, YIELDCLEAT_FLEET_NODE=fleet_node).check_own_tests()
+    check_own_tests("volume", tmp_path, YIELDCLEAT_VOLUME_NODE=volume_node, YIELDCLEAT_FLEET_NODE=fleet_node)
 
 
 @needs_cargo
 def test_store(archive, tmp_path):
-    Package("store", tmp_path, YIELDCLEAT_ARCHIVE=archive.parent, RATTLE_C=heap().parent).check_own_tests()
+    check_own_tests("store", tmp_path, YIELDCLEAT_ARCHIVE=archive.parent, RATTLE_C=heap().parent)
 
 
 # What links the archive
 
 
-@pytest.fixture(scope="module")
-def package(archive, tmp_path_factory):
-    it = Package("embedding", tmp_path_factory.mktemp("package"), YIELDCLEAT_ARCHIVE=archive.parent, RATTLE_C=heap().parent)
-    it.cargo("build", "--release")
-    return it
-
-
 @needs_cargo
-def test_rust_own_tests(package):
-    package.check_own_tests()
+def test_rust_own_tests(archive, tmp_path):
+    check_own_tests("embedding", tmp_path, YIELDCLEAT_ARCHIVE=archive.parent, RATTLE_C=heap().parent)
 
 
-@needs_cargo
-def test_rust_gossip(package):
-    assert package.program("gossip")[0].count("the page is that of a plain replay") == 2
+def test_rust_gossip(embedding):
+    assert ran([embedding / "gossip"], cwd=PACKAGE)[0].count("the page is that of a plain replay") == 2
 
 
-@needs_cargo
 @pytest.mark.parametrize("run", range(3))
-def test_rust_durable(package, rng, run):
+def test_rust_durable(embedding, tmp_path, rng, run):
     """A store that is killed again and again loses nothing that it acknowledged."""
-    assert "nothing that was acknowledged is lost" in package.program("durable", str(rng.randrange(1, 10**6)))[0]
+    output, _ = ran([embedding / "durable", str(rng.randrange(1, 10**6))], env=environment(TMPDIR=tmp_path))
+    assert "nothing that was acknowledged is lost" in output
 
 
-@needs_cargo
-def test_rust_durable_can_fail(package):
+def test_rust_durable_can_fail(embedding, tmp_path):
     """A store that answers before its file has the request is found out."""
-    assert "acknowledged records are lost" in package.program("durable", "--forgetful", "1", status=1)[1]
+    _, said = ran([embedding / "durable", "--forgetful", "1"], status=1, env=environment(TMPDIR=tmp_path))
+    assert "acknowledged records are lost" in said
 
 
 @needs_c

@@ -12,7 +12,7 @@ import test_sqlite
 from test_sqlite import SCRIPTS, needs_shell, needs_valgrind, shell
 from test_sqlite_nodes import SECONDS, run
 
-from harness import ROOT, environment
+from harness import ROOT, environment, ran
 from harness.sqlite_cluster import Cluster
 from harness.sqlite_python import NOT_FOR_VOLUMES, folder_of_tests
 from harness.store_checks import advance, take, takes, told
@@ -46,9 +46,8 @@ def test_demo(parts, tmp_path):
     assert len(conversation) == 3
     try:
         for command, said in conversation:
-            done = subprocess.run(shlex.split(command), cwd=ROOT, env=settings, capture_output=True, text=True, timeout=SECONDS, check=False)
             expected = re.sub("^    ", "", said, flags=re.MULTILINE).replace("/tmp/yieldcleat-demo", str(tmp_path))
-            assert (done.returncode, done.stdout, done.stderr) == (0, expected, "")
+            assert ran(shlex.split(command), cwd=ROOT, env=settings) == (expected, "")
     finally:
         subprocess.run(["sqlite/demo", "stop"], cwd=ROOT, env=settings, timeout=SECONDS, check=True, stdout=subprocess.DEVNULL)
 
@@ -62,10 +61,8 @@ def failed(folder, *words):
     if not tests:
         pytest.skip(f"no Python {sys.version_info[0]}.{sys.version_info[1]} with test.test_sqlite3 is on the path")
     folder.mkdir()
-    command = [sys.executable, "-m", "harness.sqlite_python", tests, folder, *words]
-    done = subprocess.run(command, cwd=ROOT / "tests", capture_output=True, text=True, timeout=SECONDS, check=False)
-    assert done.returncode == 0, done.stderr[-3000:]
-    found = json.loads(done.stdout.splitlines()[-1])
+    output, _ = ran([sys.executable, "-m", "harness.sqlite_python", tests, folder, *words], cwd=ROOT / "tests")
+    found = json.loads(output.splitlines()[-1])
     assert found["count"] > 400
     return found["failed"]
 
