@@ -52,8 +52,8 @@ def load(extension):
     sqlite_worlds.load(extension)
 
 
-# What runs in processes of their own. Each has a busy timeout: the first lock for writing after a crash may find a commit that is newer than
-# the snapshot.
+# What runs in processes of their own. Connections have a busy timeout: the first lock for writing after a crash may find a commit that is
+# newer than the snapshot.
 
 
 @contextlib.contextmanager

@@ -19,7 +19,8 @@ def build(archive, target, package=ROOT / "store", profile="debug", warnings=Fal
     if not shutil.which("cargo"):
         return None
     settings = environment(YIELDCLEAT_ARCHIVE=archive.parent, RATTLE_C=kit() / "c", CARGO_TARGET_DIR=target)
-    _, said = ran(["cargo", "build", "--offline", "--locked", *["--release"] * (profile == "release")], timeout=None, cwd=package, env=settings)
+    command = ["cargo", "build", "--offline", "--locked", *["--release"] * (profile == "release")]
+    _, said = ran(command, timeout=None, cwd=package, env=settings)
     assert warnings or "warning" not in said, said[-2000:]
     return target / profile
 

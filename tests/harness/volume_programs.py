@@ -140,7 +140,7 @@ class Play:
             process.close()
 
     def do(self, move):
-        """Makes a move in both worlds, and compares them. What the processes do before the model does may leave something for afterwards."""
+        """Makes a move in both worlds, and compares them. What the processes do first may leave something for after the model's move."""
         self.told, (kind, *rest) = [], move
         then = getattr(self, f"do_{kind}", lambda *_: None)(*rest)
         self.world.do(move)
