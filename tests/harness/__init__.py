@@ -98,14 +98,23 @@ def of_block(block):
     return head, text, "".join(answer + "\n" for _, arrow, answer in parts if arrow), ""
 
 
+def blocks(path):
+    """The blocks and rows of a file of cases."""
+    for block in re.split(r"^== ", path.read_text(), flags=re.M)[1:]:
+        is_table = block.startswith("rows\n")
+        yield from map(of_row, block.rstrip("\n").split("\n")[1:]) if is_table else [of_block(block)]
+
+
 def cases():
-    """The cases of tests/cases/*.texts. Behind `== rows` each line is a case, behind `== TASK NAME` there is one."""
+    """The cases of tests/cases/*.texts, as README.md describes them."""
     for path in sorted(CASES.glob("*.texts")):
-        for block in re.split(r"^== ", path.read_text(), flags=re.M)[1:]:
-            rows = map(of_row, block.rstrip("\n").split("\n")[1:]) if block.startswith("rows\n") else [of_block(block)]
-            for head, text, output, said in rows:
-                task, _, name = head.partition(" ")
-                text = encoded(text)
+        log = ""
+        for head, text, output, said in blocks(path):
+            task, _, name = head.partition(" ")
+            text = encoded(re.sub(r"(?m)^log\n", lambda _: log, text))
+            if task == "log":
+                log = text.decode("latin-1")
+            else:
                 yield Case(f"{path.stem}: {task} {name or last_line(text)}", task, text, encoded(output), said.encode() or None)
 
 
