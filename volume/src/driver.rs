@@ -305,15 +305,13 @@ impl<M: Machine> Driver<M> {
             self.progress.note_moved();
         }
         let mut outcome = Outcome::default();
-        // An opening sends a node all that it lacks, in one request.
-        let most = if self.is_opening() { usize::MAX } else { self.most_pending };
         for action in actions {
             match action {
                 // To the machine it is lost, as it would be at the node, and gossip brings what is in it.
                 Action::Ask { request, .. } if is_too_long(&request) => {}
                 // The node has what it is to absorb, and may be admitted at once.
                 Action::Ask { node, request } if request.starts_with(b"absorb ") && self.reopening.is_helped(node) => {}
-                Action::Ask { node, request } => self.ask(node, request, most),
+                Action::Ask { node, request } => self.ask(node, request),
                 Action::Opened { epoch, commit_point, header } => {
                     self.opened(epoch, commit_point, header);
                     outcome.is_done = true;
@@ -329,7 +327,7 @@ impl<M: Machine> Driver<M> {
     }
 
     /// Queues what the machine asks of a node, unless an opening holds it back.
-    fn ask(&mut self, node: u8, request: Vec<u8>, most: usize) {
+    fn ask(&mut self, node: u8, request: Vec<u8>) {
         let is_opening = self.is_opening();
         if is_question(&request) {
             // The machine has what it asked for, whoever has not answered that again.
@@ -341,7 +339,7 @@ impl<M: Machine> Driver<M> {
         self.has_proposed = is_proposal(&request) || (self.has_proposed && !is_question(&request));
         let request = if is_opening { peer.spread.ask(request, Instant::now()) } else { Some(request) };
         if let Some(request) = request {
-            peer.ask(request, most);
+            peer.ask(request);
         }
     }
 
@@ -361,7 +359,7 @@ impl<M: Machine> Driver<M> {
                 true if peer.spread.awaits_front() => {}
                 true if !is_behind => peer.spread.drop_held(),
                 false if !are_known && !is_late => {}
-                _ => peer.spread.release().into_iter().flatten().for_each(|request| peer.ask(request, usize::MAX)),
+                _ => peer.spread.release().into_iter().flatten().for_each(|request| peer.ask(request)),
             }
         }
     }
@@ -385,14 +383,23 @@ impl<M: Machine> Driver<M> {
                 self.begin(Event::Open { generation }, done);
             }
             Call::Commit { writes, header, done, .. } => {
+                self.cut_off_slow();
                 // A caller that has given up does not listen.
                 let _ = done.send(self.commit(&writes, &header));
             }
             Call::Advance { reader, point, done, .. } => {
+                self.cut_off_slow();
                 let outcome = self.step(Event::Advance { reader, point });
                 let _ = done.send(outcome.and_then(|it| it.refused.map_or(Ok(()), |fault| Err(fault.into()))));
             }
         }
+    }
+
+    /// Cuts off each node that does not keep up with what the calls before have sent it: its link connects again, and gossip brings the rest.
+    /// All that one call sends comes after that: a long mini-transaction is no reason, and neither is what a new connection is sent again.
+    fn cut_off_slow(&mut self) {
+        let most = self.most_pending;
+        self.peers.iter_mut().filter(|peer| peer.pending > most).for_each(|peer| peer.queue = None);
     }
 
     /// Readies an opening under a generation.
@@ -421,7 +428,7 @@ impl<M: Machine> Driver<M> {
         };
         match self.reopening.next(Instant::now(), &self.seen(place)) {
             Next::Nothing => {}
-            Next::Ask => self.peers.iter_mut().for_each(|peer| peer.ask(engines::STATUS.to_vec(), usize::MAX)),
+            Next::Ask => self.peers.iter_mut().for_each(|peer| peer.ask(engines::STATUS.to_vec())),
             Next::Open => self.open_again(),
             Next::Fenced { generation } => self.progress.fail(VolumeError::Fenced { generation }),
         }
@@ -538,7 +545,7 @@ impl<M: Machine> Driver<M> {
         }
         let pause = self.options.admission;
         let is_idle = |peer: &&mut Peer| peer.queue.is_some() && peer.pending == 0 && peer.active.elapsed() >= pause;
-        self.peers.iter_mut().filter(is_idle).for_each(|peer| peer.ask(engines::STATUS.to_vec(), usize::MAX));
+        self.peers.iter_mut().filter(is_idle).for_each(|peer| peer.ask(engines::STATUS.to_vec()));
     }
 }
 

@@ -51,13 +51,10 @@ impl Peer {
         }
     }
 
-    /// Queues a request. A node that does not keep up with what it is sent is cut off: its link connects again, and gossip brings the rest.
-    pub fn ask(&mut self, request: Vec<u8>, most: usize) {
+    /// Queues a request.
+    pub fn ask(&mut self, request: Vec<u8>) {
         self.pending += request.len();
         self.active = Instant::now();
-        if self.pending > most {
-            self.queue = None;
-        }
         if let Some(queue) = &self.queue {
             self.awaits_admission |= request.starts_with(ADMIT);
             self.awaits_pull |= is_pull(&request);
@@ -157,10 +154,10 @@ mod tests {
         let (queue, asked) = std::sync::mpsc::channel();
         let mut peer = Peer { queue: Some(queue), ..Peer::new() };
         for request in [&b"as 3 7 front"[..], b"answer x", b"as 3 7 take answer x", b"fence 3"] {
-            peer.ask(request.to_vec(), 100);
+            peer.ask(request.to_vec());
             assert!(!peer.awaits_pull);
         }
-        peer.ask(b"as 3 7 answer x".to_vec(), 100);
+        peer.ask(b"as 3 7 answer x".to_vec());
         assert!(peer.awaits_pull && asked.iter().take(5).count() == 5);
         peer.hear(b"as 3 7 front", b"as 3 7 front 1 2 0", 3);
         assert!(peer.awaits_pull);
@@ -172,12 +169,12 @@ mod tests {
     fn answers_to_an_earlier_opening() {
         let (queue, _asked) = std::sync::mpsc::channel();
         let mut peer = Peer { queue: Some(queue), ..Peer::new() };
-        peer.ask(b"fence 3".to_vec(), 100);
-        peer.ask(b"as 3 7 front".to_vec(), 100);
+        peer.ask(b"fence 3".to_vec());
+        peer.ask(b"as 3 7 front".to_vec());
         assert!(!peer.is_earlier(b"fence 3"));
         peer.hear(b"fence 3", b"fenced 3 7", 3);
         peer.begin_opening();
-        peer.ask(b"fence 4".to_vec(), 100);
+        peer.ask(b"fence 4".to_vec());
         assert!(peer.is_earlier(b"as 3 7 front") && !peer.is_earlier(b"fence 4"));
     }
 

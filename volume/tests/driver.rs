@@ -5,7 +5,7 @@ mod counting;
 mod nodes;
 
 use counting::Counting;
-use nodes::Node;
+use nodes::{Node, State};
 use std::path::PathBuf;
 use std::sync::atomic::{AtomicU32, Ordering};
 use std::time::{Duration, Instant};
@@ -135,6 +135,19 @@ fn what_no_quorum_has_is_bounded() {
     three.nodes[1].go_away();
     let refused = (1..=100).find_map(|place| volume.write(write(place), Vec::new()).err());
     assert_eq!(refused, Some(VolumeError::Busy(of_three(1))));
+}
+
+#[test]
+fn a_mini_transaction_longer_than_what_may_be_in_flight() {
+    let three = Three::new();
+    let volume = three.open(Options { in_flight: 4000, ..three.options() }).unwrap();
+    let long = |byte| (1..=20).map(|page| PageWrite { page, init: false, patches: vec![Patch::write(0, &[byte; 4000])] }).collect();
+    assert_eq!(volume.commit(long(1), Vec::new()), Ok(21));
+    // Connections that are new get all of it again.
+    let point = volume.write(long(2), Vec::new()).unwrap();
+    three.nodes.iter().for_each(|node| node.set(State::cut_off));
+    assert_eq!(volume.wait(point, Duration::from_secs(5)), Ok(()));
+    assert_eq!(volume.read(20, point, 0, 4000), Ok(vec![2; 4000]));
 }
 
 #[test]
