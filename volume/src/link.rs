@@ -137,7 +137,7 @@ impl<H: Fn(Heard) -> Option<()>> Worker<H> {
                 return;
             }
             if answered == 0 {
-                // It takes connections and no requests.
+                // It takes connections and no requests, or has too many connections.
                 self.pause(self.retry);
             }
         }
@@ -228,7 +228,11 @@ impl<H: Fn(Heard) -> Option<()>> Worker<H> {
                 self.progress.note_moved();
             }
         })?;
-        Ok(answer.to_vec())
+        match answer {
+            // The node has turned the connection away, and answers nothing.
+            b"busy" => Err(Error::Busy),
+            _ => Ok(answer.to_vec()),
+        }
     }
 }
 

@@ -3,6 +3,7 @@
 
 mod counting;
 mod nodes;
+mod waiting;
 
 use counting::Counting;
 use nodes::{Node, State};
@@ -10,6 +11,7 @@ use std::path::PathBuf;
 use std::sync::atomic::{AtomicU32, Ordering};
 use std::time::{Duration, Instant};
 use std::{env, fs, process, thread};
+use waiting::until;
 use yieldcleat_client::{Address, Limits, Patch};
 use yieldcleat_volume::{Fault, Options, PageWrite, Quorum, Volume, VolumeError};
 
@@ -160,6 +162,22 @@ fn a_slow_node_stops_nobody() {
         volume.commit(write(place), Vec::new()).unwrap();
     }
     assert!(begun.elapsed() < Duration::from_secs(5), "{:?}", begun.elapsed());
+}
+
+#[test]
+fn a_node_that_turns_connections_away_is_left_alone_for_a_while() {
+    let three = Three::new();
+    three.nodes[2].set(|state| state.is_busy = true);
+    let volume = three.open(Options { retry: Duration::from_millis(100), ..three.options() }).unwrap();
+    let begun = Instant::now();
+    while begun.elapsed() < Duration::from_secs(1) {
+        volume.commit(write(1), Vec::new()).unwrap();
+    }
+    let turned_away = three.nodes[2].state.lock().unwrap().turned_away;
+    assert!(turned_away <= 20, "{turned_away} connections");
+    assert_eq!(volume.standing().unwrap().answering, 2);
+    three.nodes[2].set(|state| state.is_busy = false);
+    until(|| volume.standing().unwrap().answering == 3);
 }
 
 #[test]

@@ -15,6 +15,9 @@ type Written = (u16, Vec<(usize, Vec<u8>)>);
 pub struct State {
     pub records: BTreeMap<u64, Written>,
     pub is_away: bool,
+    /// Whether it has too many connections, and how many it has turned away.
+    pub is_busy: bool,
+    pub turned_away: usize,
     /// Each connection ends after so many frames.
     pub frames: Option<usize>,
     pub delay: Duration,
@@ -37,6 +40,8 @@ impl Default for State {
         State {
             records: BTreeMap::new(),
             is_away: false,
+            is_busy: false,
+            turned_away: 0,
             frames: None,
             delay: Duration::ZERO,
             stale: None,
@@ -211,6 +216,10 @@ fn serve(mut stream: UnixStream, state: &Mutex<State>) {
         let mut state = state.lock().unwrap();
         if state.is_away {
             return;
+        }
+        if state.is_busy {
+            state.turned_away += 1;
+            return drop(frames::write(&mut stream, b"busy"));
         }
         state.connections.push(stream.try_clone().unwrap());
         state.frames.unwrap_or(usize::MAX)
