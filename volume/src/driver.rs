@@ -24,11 +24,11 @@ pub enum Call {
 }
 
 impl Call {
-    /// Whether it may still wait for an opening; an opening itself does not.
-    fn may_wait(&self, now: Instant) -> bool {
+    /// Until when it waits for an opening; an opening itself does not.
+    fn deadline(&self) -> Option<Instant> {
         match self {
-            Call::Commit { deadline, .. } | Call::Advance { deadline, .. } => now < *deadline,
-            Call::Create { .. } | Call::Open { .. } => false,
+            Call::Commit { deadline, .. } | Call::Advance { deadline, .. } => Some(*deadline),
+            Call::Create { .. } | Call::Open { .. } => None,
         }
     }
 
@@ -156,7 +156,7 @@ impl<M: Machine> Driver<M> {
         loop {
             match inputs.recv_timeout(self.options.remind) {
                 Ok(Input::Heard(heard)) => self.hear(heard),
-                Ok(Input::Call(call)) if self.holds() && call.may_wait(Instant::now()) => self.deferred.push_back(call),
+                Ok(Input::Call(call)) if self.holds() && call.deadline().is_some() => self.deferred.push_back(call),
                 Ok(Input::Call(call)) => self.carry_out(call),
                 Err(RecvTimeoutError::Timeout) => {}
                 Ok(Input::Close) | Err(RecvTimeoutError::Disconnected) => break,
@@ -471,7 +471,7 @@ impl<M: Machine> Driver<M> {
         let (holds, now) = (self.holds(), Instant::now());
         let quorum = self.progress.quorum(&self.options);
         for call in std::mem::take(&mut self.deferred) {
-            match (holds, call.may_wait(now)) {
+            match (holds, call.deadline().is_some_and(|deadline| now < deadline)) {
                 (false, _) => self.carry_out(call),
                 (true, true) => self.deferred.push_back(call),
                 (true, false) => call.refuse(VolumeError::NotReopened(quorum)),
@@ -597,6 +597,42 @@ mod tests {
         driver.run(&inputs);
         assert_eq!(asked.iter().collect::<Vec<_>>(), [engines::fence(3), engines::fence(4)]);
         assert_eq!(*heard.lock().unwrap(), [b"fresh 2"]);
+    }
+
+    /// Opens at once, and refuses what is asked while it opens again.
+    #[derive(Default)]
+    struct Twice {
+        is_shut: bool,
+    }
+
+    impl Machine for Twice {
+        fn step(&mut self, event: Event<'_>) -> Result<Vec<Action>, OutOfMemory> {
+            Ok(match event {
+                Event::Open { generation: 3 } => vec![Action::Opened { epoch: 1, commit_point: 0, header: Vec::new() }],
+                Event::Open { .. } => {
+                    self.is_shut = true;
+                    Vec::new()
+                }
+                Event::Commit { .. } if self.is_shut => vec![Action::Refused(Fault::NotOpen)],
+                _ => Vec::new(),
+            })
+        }
+    }
+
+    #[test]
+    fn a_call_whose_time_is_up_is_refused_while_the_volume_is_opened_again() {
+        let options = Options { remind: Duration::from_millis(5), ..Options::new(vec![Address::Unix("nowhere".into())]) };
+        let progress = Arc::new(Progress::default());
+        let mut driver = Driver::new(Twice::default(), &options, Arc::clone(&progress));
+        driver.carry_out(Call::Open { generation: 3, done: mpsc::channel().0 });
+        driver.reopening.hold(Instant::now());
+        driver.open_again();
+        let ((says, inputs), (done, result)) = (mpsc::channel(), mpsc::channel());
+        let late = Call::Commit { writes: Vec::new(), header: Vec::new(), deadline: Instant::now(), done };
+        [Input::Call(late), Input::Close].into_iter().for_each(|input| says.send(input).unwrap());
+        driver.run(&inputs);
+        assert!(matches!(result.recv(), Ok(Err(VolumeError::NotReopened(_)))));
+        assert_eq!(progress.standing(), Err(VolumeError::Closed));
     }
 
     /// Asks a node to absorb what a frame just holds, and what no frame holds, as a member and as a fresh node.

@@ -143,6 +143,12 @@ impl Reopening {
         }
     }
 
+    /// Has commits wait.
+    #[cfg(test)]
+    pub fn hold(&mut self, now: Instant) {
+        self.held = Some(now);
+    }
+
     /// What is to be done now.
     pub fn next(&mut self, now: Instant, seen: &Seen) -> Next {
         match &self.stage {
