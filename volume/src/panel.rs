@@ -1,59 +1,66 @@
-//! Questions to all nodes at once: a thread for each node, so that one which is slow or away delays nobody.
+//! A question to all nodes at once: a thread for each node, so that one which is slow or away delays nobody.
 
 use crate::nodes::Nodes;
+use std::mem;
 use std::sync::mpsc::{self, Receiver, Sender};
-use std::sync::{Arc, Condvar, Mutex, MutexGuard, PoisonError};
+use std::sync::{Arc, Condvar, Mutex, MutexGuard, PoisonError, Weak};
 use std::thread;
 use std::time::Instant;
 use yieldcleat_client::Connection;
 
-type Job = Box<dyn FnOnce(&Nodes) + Send>;
+/// What a panel asks a node. It has the connection to the node, and may be of several requests.
+pub type Question<T> = fn(&mut Connection) -> Option<T>;
 
-/// What a thread does next. A newer question takes the place of one that has not begun.
-#[derive(Default)]
-struct Slot {
-    job: Option<Job>,
+/// Who waits for the next answer of a node.
+struct Waiting<T> {
+    /// Gone where the one who has asked has given up.
+    asker: Weak<()>,
+    answers: Sender<(usize, Option<T>)>,
+}
+
+/// What a thread does next: one question that answers all who wait, since it begins after each of them has asked.
+struct Slot<T> {
+    waiting: Vec<Waiting<T>>,
     is_stopped: bool,
 }
 
-#[derive(Default)]
-struct Desk {
-    slot: Mutex<Slot>,
+struct Desk<T> {
+    slot: Mutex<Slot<T>>,
     changed: Condvar,
 }
 
-impl Desk {
-    fn lock(&self) -> MutexGuard<'_, Slot> {
+impl<T> Desk<T> {
+    fn new() -> Desk<T> {
+        Desk { slot: Mutex::new(Slot { waiting: Vec::new(), is_stopped: false }), changed: Condvar::new() }
+    }
+
+    fn lock(&self) -> MutexGuard<'_, Slot<T>> {
         self.slot.lock().unwrap_or_else(PoisonError::into_inner)
     }
 
-    fn put(&self, change: impl FnOnce(&mut Slot)) {
+    fn change(&self, change: impl FnOnce(&mut Slot<T>)) {
         change(&mut self.lock());
         self.changed.notify_one();
     }
 
-    fn next(&self) -> Option<Job> {
-        let mut slot = self.lock();
-        loop {
-            if slot.is_stopped {
-                return None;
-            }
-            if let Some(job) = slot.job.take() {
-                return Some(job);
-            }
-            slot = self.changed.wait(slot).unwrap_or_else(PoisonError::into_inner);
-        }
+    /// Those who wait, once there are any; nothing where the thread is to end.
+    fn next(&self) -> Option<Vec<Waiting<T>>> {
+        let is_idle = |slot: &mut Slot<T>| !slot.is_stopped && slot.waiting.is_empty();
+        let mut slot = self.changed.wait_while(self.lock(), is_idle).unwrap_or_else(PoisonError::into_inner);
+        (!slot.is_stopped).then(|| mem::take(&mut slot.waiting))
     }
 }
 
 /// The threads, which end by themselves once it is dropped: each at the latest when the node that it waits for counts as silent.
-pub struct Panel {
-    desks: Vec<Arc<Desk>>,
+pub struct Panel<T> {
+    desks: Vec<Arc<Desk<T>>>,
 }
 
-/// What nodes answer to one question, in the order in which they do.
+/// What nodes answer, in the order in which they do.
 pub struct Answers<T> {
     answers: Receiver<(usize, Option<T>)>,
+    /// Says that somebody listens.
+    _asker: Arc<()>,
 }
 
 impl<T> Answers<T> {
@@ -63,16 +70,18 @@ impl<T> Answers<T> {
     }
 }
 
-impl Panel {
+impl<T: Clone + Send + 'static> Panel<T> {
     /// Its error is that of a thread which could not be started.
-    pub fn start(nodes: &Arc<Nodes>) -> std::io::Result<Panel> {
+    pub fn start(nodes: &Arc<Nodes>, question: Question<T>) -> std::io::Result<Panel<T>> {
         let mut panel = Panel { desks: Vec::new() };
         for node in 0..nodes.count() {
-            let (desk, nodes) = (Arc::new(Desk::default()), nodes.clone());
+            let (desk, nodes) = (Arc::new(Desk::new()), nodes.clone());
             panel.desks.push(desk.clone());
             let work = move || {
-                while let Some(job) = desk.next() {
-                    job(&nodes);
+                while let Some(waiting) = desk.next() {
+                    let answer = nodes.ask(node, question);
+                    // Who has asked may have given up.
+                    waiting.into_iter().for_each(|it| drop(it.answers.send((node, answer.clone()))));
                 }
             };
             thread::Builder::new().name(format!("ask {node}")).spawn(work)?;
@@ -80,23 +89,22 @@ impl Panel {
         Ok(panel)
     }
 
-    /// Asks all nodes. A question has the connection to a node, and may be of several requests.
-    pub fn ask<T: Send + 'static>(&self, question: impl Fn(&mut Connection) -> Option<T> + Copy + Send + 'static) -> Answers<T> {
-        let (sender, answers) = mpsc::channel();
-        for (node, desk) in self.desks.iter().enumerate() {
-            let sender: Sender<(usize, Option<T>)> = sender.clone();
-            let job = move |nodes: &Nodes| {
-                // Who has asked may have given up.
-                let _ = sender.send((node, nodes.ask(node, question)));
-            };
-            desk.put(|slot| slot.job = Some(Box::new(job)));
+    /// Asks all nodes.
+    pub fn ask(&self) -> Answers<T> {
+        let ((sender, answers), asker) = (mpsc::channel(), Arc::new(()));
+        for desk in &self.desks {
+            let waiting = Waiting { asker: Arc::downgrade(&asker), answers: sender.clone() };
+            desk.change(|slot| {
+                slot.waiting.retain(|it| it.asker.strong_count() > 0);
+                slot.waiting.push(waiting);
+            });
         }
-        Answers { answers }
+        Answers { answers, _asker: asker }
     }
 }
 
-impl Drop for Panel {
+impl<T> Drop for Panel<T> {
     fn drop(&mut self) {
-        self.desks.iter().for_each(|desk| desk.put(|slot| slot.is_stopped = true));
+        self.desks.iter().for_each(|desk| desk.change(|slot| slot.is_stopped = true));
     }
 }

@@ -12,13 +12,14 @@ use std::sync::atomic::{AtomicU64, Ordering};
 use std::sync::{Arc, Mutex, MutexGuard, PoisonError};
 use std::thread;
 use std::time::{Duration, Instant};
+use yieldcleat_client::Membership;
 
 /// A volume that this process reads. Its calls may come from many threads.
 pub struct Reader {
     options: Options,
     nodes: Arc<Nodes>,
     readers: Readers,
-    panel: Panel,
+    panel: Panel<(Membership, Option<Shown>)>,
     known: Mutex<Known>,
     /// The greatest generation of a member that was seen.
     generation: AtomicU64,
@@ -69,7 +70,7 @@ impl Reader {
     pub fn open(options: Options) -> Result<Reader, VolumeError> {
         options.check().map_err(VolumeError::Options)?;
         let nodes = Arc::new(Nodes::new(&options));
-        let panel = Panel::start(&nodes).map_err(|error| VolumeError::Thread(error.kind()))?;
+        let panel = Panel::start(&nodes, show).map_err(|error| VolumeError::Thread(error.kind()))?;
         let (known, generation) = (Mutex::default(), AtomicU64::new(0));
         Ok(Reader { readers: Readers::new(&nodes), options, nodes, panel, known, generation })
     }
@@ -106,7 +107,7 @@ impl Reader {
 
     /// Asks all nodes once, until they prove a point.
     fn ask_round(&self, search: &mut Search, deadline: Instant) -> (Round, Option<(u16, u64)>) {
-        let (answers, mut round) = (self.panel.ask(show), Round::default());
+        let (answers, mut round) = (self.panel.ask(), Round::default());
         let mut end = deadline;
         while let Some((_, answer)) = answers.next(end) {
             let Some((status, shown)) = answer else {

@@ -14,13 +14,14 @@ pub struct Statuses {
     nodes: usize,
 }
 
-fn status(connection: &mut Connection) -> Option<Membership> {
+/// What a node says of itself.
+pub fn status(connection: &mut Connection) -> Option<Membership> {
     engines::membership(connection.ask(engines::STATUS).ok()?).ok()
 }
 
 /// Asks all nodes for their status. How long it waits for the next one depends on those that have answered.
-pub fn ask_standing(panel: &Panel, nodes: usize, until: impl Fn(&Statuses) -> Instant) -> Statuses {
-    let (answers, mut statuses) = (panel.ask(status), Statuses::none(nodes));
+pub fn ask_standing(panel: &Panel<Membership>, nodes: usize, until: impl Fn(&Statuses) -> Instant) -> Statuses {
+    let (answers, mut statuses) = (panel.ask(), Statuses::none(nodes));
     while let Some((node, answer)) = answers.next(until(&statuses)) {
         answer.into_iter().for_each(|it| statuses.add(node, it));
     }

@@ -11,12 +11,12 @@ use crate::page_zero::{PageZero, MOST_HEADER};
 use crate::panel::Panel;
 use crate::progress::{Progress, Standing};
 use crate::reading::{At, Range, Readers};
-use crate::standing::{ask_standing, Statuses};
+use crate::standing::{ask_standing, status, Statuses};
 use std::sync::mpsc::{self, Sender};
 use std::sync::Arc;
 use std::thread::{self, JoinHandle};
 use std::time::{Duration, Instant};
-use yieldcleat_client::{Patch, PAGE_LEN};
+use yieldcleat_client::{Membership, Patch, PAGE_LEN};
 
 /// The last bytes of each page, which are the volume's own.
 const RESERVED: usize = 8;
@@ -73,7 +73,7 @@ pub struct Volume {
     inputs: Sender<Input>,
     progress: Arc<Progress>,
     readers: Readers,
-    panel: Panel,
+    panel: Panel<Membership>,
     /// Ended before the driver.
     links: Vec<Link>,
     driver: Option<JoinHandle<()>>,
@@ -116,7 +116,7 @@ impl Volume {
         let thread = |error: std::io::Error| VolumeError::Thread(error.kind());
         let driver = thread::Builder::new().name("volume".into()).spawn(move || driver.run(&received)).map_err(thread)?;
         let nodes = Arc::new(Nodes::new(&options));
-        let (readers, panel) = (Readers::new(&nodes), Panel::start(&nodes).map_err(thread)?);
+        let (readers, panel) = (Readers::new(&nodes), Panel::start(&nodes, status).map_err(thread)?);
         let mut volume = Volume { inputs, progress, readers, panel, links: Vec::new(), driver: Some(driver), options };
         for node in 0..volume.options.nodes.len() {
             let inputs = volume.inputs.clone();

@@ -13,7 +13,7 @@ use std::time::{Duration, Instant};
 use std::{env, fs, process, thread};
 use waiting::until;
 use yieldcleat_client::{Address, Limits, Patch};
-use yieldcleat_volume::{Fault, Options, PageWrite, Quorum, Volume, VolumeError};
+use yieldcleat_volume::{Fault, Options, PageWrite, Quorum, Reader, Volume, VolumeError};
 
 // A volume of three such nodes
 
@@ -98,6 +98,19 @@ fn many_threads_commit() {
         }
     });
     assert_eq!(volume.standing().unwrap().durable, 320);
+}
+
+#[test]
+fn many_threads_ask_for_the_newest_commit() {
+    let three = Three::new();
+    let reader = Reader::open(Options { patience: Duration::from_secs(2), ..three.options() }).unwrap();
+    let delays = [30, 40, 50].map(Duration::from_millis);
+    three.nodes.iter().zip(delays).for_each(|(node, delay)| node.set(|state| state.delay = delay));
+    thread::scope(|scope| {
+        for _ in 0..16 {
+            scope.spawn(|| (0..10).for_each(|_| assert_eq!(reader.newest(), Ok(0))));
+        }
+    });
 }
 
 #[test]
