@@ -5,8 +5,8 @@ use crate::calls::Calls;
 use crate::errors::Error;
 use crate::frames::{self, Next};
 use crate::stream::Stream;
-use std::io::{self, BufReader, ErrorKind, Read, Write};
-use std::time::Duration;
+use std::io::{self, BufReader, ErrorKind, Read};
+use std::time::{Duration, Instant};
 
 /// How long a connection waits, and what it takes.
 #[derive(Debug, Clone, Copy, PartialEq, Eq)]
@@ -25,12 +25,50 @@ impl Default for Limits {
     }
 }
 
+/// How long a connection waits for bytes, or for room to send some: so long, and not beyond the end, where there is one.
+#[derive(Debug, Clone, Copy)]
+struct Patience {
+    answer: Duration,
+    end: Option<Instant>,
+}
+
+impl Patience {
+    /// How long it waits from a moment on.
+    ///
+    /// Its error is `TimedOut`, where the end has come.
+    fn left(self, now: Instant) -> io::Result<Duration> {
+        let left = self.end.map_or(self.answer, |end| self.answer.min(end.saturating_duration_since(now)));
+        if left.is_zero() {
+            Err(ErrorKind::TimedOut.into())
+        } else {
+            Ok(left)
+        }
+    }
+
+    /// Reads or writes some bytes. Where a signal interrupts that, the system waits from the start again, and this does not.
+    fn wait(self, stream: &Stream, mut step: impl FnMut() -> io::Result<usize>) -> io::Result<usize> {
+        let begun = Instant::now();
+        let left = self.left(begun)?;
+        if self.end.is_some() {
+            stream.set_timeouts(Some(left), Some(left))?;
+        }
+        loop {
+            match step() {
+                Err(error) if error.kind() == ErrorKind::Interrupted && begun.elapsed() < left => {}
+                Err(error) if error.kind() == ErrorKind::Interrupted => return Err(ErrorKind::TimedOut.into()),
+                done => return done,
+            }
+        }
+    }
+}
+
 /// One connection to a node. After `TimedOut`, `Lost` and `LongAnswer` of a frame it is closed, and each call ends in `Lost`: open
 /// another one. Whether a request that was sent is carried out is not known then.
 #[derive(Debug)]
 pub struct Connection {
     reader: BufReader<Stream>,
     writer: Stream,
+    patience: Patience,
     longest: u32,
     request: Vec<u8>,
     answer: Vec<u8>,
@@ -54,12 +92,22 @@ impl Connection {
         stream.set_timeouts(Some(limits.answer), Some(limits.answer)).map_err(not_connected)?;
         let writer = stream.try_clone().map_err(not_connected)?;
         let (request, answer) = (Vec::new(), Vec::new());
-        Ok(Connection { reader: BufReader::new(stream), writer, longest: limits.longest, request, answer, is_open: true })
+        let patience = Patience { answer: limits.answer, end: None };
+        Ok(Connection { reader: BufReader::new(stream), writer, patience, longest: limits.longest, request, answer, is_open: true })
     }
 
     /// Whether the connection can carry another call.
     pub fn is_open(&self) -> bool {
         self.is_open
+    }
+
+    /// Has each later call end by a moment at the latest, also where an answer comes slowly; without one, as the limits say.
+    pub fn end_at(&mut self, end: Option<Instant>) -> io::Result<()> {
+        if end.is_none() && self.patience.end.is_some() {
+            self.writer.set_timeouts(Some(self.patience.answer), Some(self.patience.answer))?;
+        }
+        self.patience.end = end;
+        Ok(())
     }
 
     /// Sends a frame, and does not wait for its answer. The caller reads one answer with `receive` for each frame that was sent, and
@@ -72,8 +120,18 @@ impl Connection {
         }
         self.request.clear();
         frames::append(&mut self.request, parts).map_err(|_| Error::LongFrame)?;
-        let sent = self.writer.write_all(&self.request);
-        sent.map_err(|error| self.close(error.kind()))
+        self.write_request().map_err(|error| self.close(error.kind()))
+    }
+
+    fn write_request(&mut self) -> io::Result<()> {
+        let (mut rest, writer) = (self.request.as_slice(), &self.writer);
+        while !rest.is_empty() {
+            match self.patience.wait(writer, || writer.write_some(rest))? {
+                0 => return Err(ErrorKind::WriteZero.into()),
+                count => rest = &rest[count..],
+            }
+        }
+        Ok(())
     }
 
     /// The next answer.
@@ -90,7 +148,7 @@ impl Connection {
         if !self.is_open {
             return Err(Error::Lost(ErrorKind::NotConnected));
         }
-        let mut reader = Counted { reader: &mut self.reader, came };
+        let mut reader = Counted { reader: &mut self.reader, stream: &self.writer, patience: self.patience, came };
         match frames::read_within(&mut reader, &mut self.answer, self.longest) {
             Ok(Next::Frame) => Ok(&self.answer),
             Ok(Next::End) => Err(self.close(ErrorKind::UnexpectedEof)),
@@ -114,15 +172,19 @@ impl Connection {
     }
 }
 
-/// A reader that reports each number of bytes it has read.
+/// A reader that waits as long as it may, and reports each number of bytes it has read.
 struct Counted<'a, F> {
     reader: &'a mut BufReader<Stream>,
+    stream: &'a Stream,
+    patience: Patience,
     came: F,
 }
 
 impl<F: FnMut(usize)> Read for Counted<'_, F> {
     fn read(&mut self, bytes: &mut [u8]) -> io::Result<usize> {
-        let count = self.reader.read(bytes)?;
+        let has_some = !self.reader.buffer().is_empty();
+        let mut read = || self.reader.read(bytes);
+        let count = if has_some { read()? } else { self.patience.wait(self.stream, read)? };
         (self.came)(count);
         Ok(count)
     }
@@ -139,6 +201,7 @@ impl Calls for Connection {
 mod tests {
     use super::*;
     use crate::answers::Front;
+    use std::io::Write;
     use std::os::unix::net::UnixStream;
     use std::thread;
 
@@ -192,6 +255,39 @@ mod tests {
         assert_eq!(connection.front(), Err(Error::TimedOut));
         assert!(!connection.is_open());
         assert_eq!(connection.front(), Err(Error::Lost(ErrorKind::NotConnected)));
+    }
+
+    #[test]
+    fn a_slow_answer_ends_in_time() {
+        let (mut connection, mut other) = pair(limits(5000, 100));
+        let served = thread::spawn(move || {
+            // An answer of which a byte comes now and then.
+            let parts = [&b"\0\0\0\x64"[..]].into_iter().chain([&b"x"[..]; 100]);
+            parts.take_while(|part| other.write_all(part).is_ok()).for_each(|_| thread::sleep(Duration::from_millis(20)));
+        });
+        let begun = Instant::now();
+        connection.end_at(Some(begun + Duration::from_millis(200))).unwrap();
+        assert_eq!(connection.front(), Err(Error::TimedOut));
+        assert!(begun.elapsed() < Duration::from_secs(1), "{:?}", begun.elapsed());
+        served.join().unwrap();
+    }
+
+    #[test]
+    fn a_call_without_an_end_waits_as_long_as_before() {
+        let (mut connection, mut other) = pair(limits(5000, 100));
+        let served = thread::spawn(move || {
+            let mut frame = Vec::new();
+            while frames::read(&mut other, &mut frame).unwrap() {
+                frames::write(&mut other, b"front 1 2 3").unwrap();
+                thread::sleep(Duration::from_millis(300));
+            }
+        });
+        connection.end_at(Some(Instant::now() + Duration::from_millis(200))).unwrap();
+        assert!(connection.front().is_ok());
+        connection.end_at(None).unwrap();
+        assert!(connection.front().is_ok());
+        drop(connection);
+        served.join().unwrap();
     }
 
     #[test]

@@ -39,6 +39,14 @@ impl Stream {
         }
     }
 
+    /// Writes as many of the bytes as there is room for.
+    pub(crate) fn write_some(&self, bytes: &[u8]) -> io::Result<usize> {
+        match self {
+            Stream::Unix(stream) => (&*stream).write(bytes),
+            Stream::Tcp(stream) => (&*stream).write(bytes),
+        }
+    }
+
     /// Ends the connection for both sides, also for threads that read or write it.
     pub fn shutdown(&self) -> io::Result<()> {
         match self {
@@ -74,10 +82,7 @@ impl Read for Stream {
 
 impl Write for Stream {
     fn write(&mut self, bytes: &[u8]) -> io::Result<usize> {
-        match self {
-            Stream::Unix(stream) => stream.write(bytes),
-            Stream::Tcp(stream) => stream.write(bytes),
-        }
+        self.write_some(bytes)
     }
 
     fn flush(&mut self) -> io::Result<()> {
