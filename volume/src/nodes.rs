@@ -3,7 +3,11 @@
 use crate::options::Options;
 use std::sync::atomic::{AtomicBool, Ordering};
 use std::sync::{Mutex, MutexGuard, PoisonError, TryLockError};
+use std::time::{Duration, Instant};
 use yieldcleat_client::{Address, Calls, Connection, Limits};
+
+/// The most bytes of an answer to a short question: it is a page at most.
+const LONGEST: u32 = 1 << 16;
 
 /// A node, and the connection to it where there is one.
 struct Place {
@@ -24,7 +28,7 @@ impl Nodes {
         let place =
             |address: &Address| Place { address: address.clone(), connection: Mutex::new(None), is_answering: AtomicBool::new(false) };
         // A node that is silent for that long is passed over for another one.
-        let limits = Limits { answer: options.limits.answer / 5, ..options.limits };
+        let limits = Limits { answer: options.limits.answer / 5, longest: LONGEST, ..options.limits };
         Nodes { places: options.nodes.iter().map(place).collect(), limits }
     }
 
@@ -40,29 +44,37 @@ impl Nodes {
     /// Asks a node as soon as nobody else does, over a new connection where there is none; nothing where it does not answer.
     pub fn ask<T>(&self, node: usize, question: impl FnOnce(&mut Connection) -> Option<T>) -> Option<T> {
         let place = self.places[node].connection.lock().unwrap_or_else(PoisonError::into_inner);
-        self.ask_in(node, place, question)
+        self.ask_in(node, place, self.limits.connect + 2 * self.limits.answer, question)
     }
 
-    /// Asks a node one request, unless somebody else asks it just now; nothing then, or where it does not answer.
-    pub fn try_ask(&self, node: usize, request: &[u8]) -> Option<Vec<u8>> {
+    /// Asks a node one request, unless somebody else asks it just now; nothing then, or where it does not answer before the deadline.
+    pub fn try_ask(&self, node: usize, request: &[u8], deadline: Instant) -> Option<Vec<u8>> {
+        let patience = deadline.checked_duration_since(Instant::now()).filter(|left| !left.is_zero())?;
         let place = match self.places[node].connection.try_lock() {
             Ok(place) => place,
             Err(TryLockError::Poisoned(poisoned)) => poisoned.into_inner(),
             Err(TryLockError::WouldBlock) => return None,
         };
-        self.ask_in(node, place, |connection| Some(connection.ask(request).ok()?.to_vec()))
+        self.ask_in(node, place, patience, |connection| Some(connection.ask(request).ok()?.to_vec()))
     }
 
     fn ask_in<T>(
         &self,
         node: usize,
         mut place: MutexGuard<'_, Option<Connection>>,
+        patience: Duration,
         question: impl FnOnce(&mut Connection) -> Option<T>,
     ) -> Option<T> {
+        let end = Instant::now() + patience;
         if !place.as_ref().is_some_and(Connection::is_open) {
-            *place = Connection::open(&self.places[node].address, self.limits).ok();
+            let limits = Limits { connect: self.limits.connect.min(patience), ..self.limits };
+            *place = Connection::open(&self.places[node].address, limits).ok();
         }
-        let answer = place.as_mut().and_then(question);
+        let answer = place.as_mut().and_then(|connection| {
+            // A node that answers slowly is passed over like one that is silent.
+            connection.end_at(Some(end.min(Instant::now() + 2 * self.limits.answer))).ok()?;
+            question(connection)
+        });
         self.places[node].is_answering.store(answer.is_some(), Ordering::Relaxed);
         answer
     }

@@ -83,7 +83,7 @@ impl Reader {
         let deadline = begun + self.options.patience;
         let (mut search, mut pause) = (Search::default(), PAUSES[0]);
         loop {
-            let round_end = Instant::now() + self.options.limits.answer.min(self.options.patience);
+            let round_end = deadline.min(Instant::now() + self.options.limits.answer);
             let (round, found) = self.ask_round(&mut search, round_end);
             if let Some(found) = found {
                 let mut known = self.lock();
@@ -162,7 +162,8 @@ impl Reader {
     ///
     /// Errors: those of `read`, and `Damaged` where no volume wrote it.
     pub fn page_zero(&self, point: u64) -> Result<PageZero, VolumeError> {
-        self.readers.page_zero(self.at(point)?, Instant::now() + self.options.patience)
+        let at = self.at(point)?;
+        self.readers.page_zero(|| Ok(at), Instant::now() + self.options.patience)
     }
 
     /// `length` bytes of a page from `offset` on, at a durable commit point up to the newest one that `newest` or `learn` has returned.
@@ -171,7 +172,7 @@ impl Reader {
     pub fn read(&self, page: u16, point: u64, offset: u16, length: u16) -> Result<Vec<u8>, VolumeError> {
         let range = Range { at: self.at(point)?, page, offset, length };
         range.check()?;
-        self.readers.read(range, Instant::now() + self.options.patience)
+        self.readers.read(|| Ok(range), Instant::now() + self.options.patience)
     }
 
     /// A node of an earlier epoch than that of the point may have dead records in its place, so the epoch must be known.

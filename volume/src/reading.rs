@@ -51,6 +51,9 @@ enum Read {
     Nothing,
 }
 
+/// The least time for the answer of one node.
+const LEAST: Duration = Duration::from_millis(50);
+
 /// The pauses between two rounds over all nodes: records may be on their way to them.
 const PAUSES: [Duration; 2] = [Duration::from_millis(1), Duration::from_millis(20)];
 
@@ -59,56 +62,71 @@ impl Readers {
         Readers { nodes: nodes.clone(), preferred: AtomicUsize::new(0) }
     }
 
-    /// Reads from the first node that has it, and tries all of them until the deadline.
+    /// Reads from the first node that has it, and tries all of them until the deadline. What is read is asked for before each round over the
+    /// nodes: they may have the point in a later epoch meanwhile.
     ///
-    /// Errors: `Below` and `NotRead`.
-    pub fn read(&self, range: Range, deadline: Instant) -> Result<Vec<u8>, VolumeError> {
+    /// Errors: `Below`, `NotRead`, and those of what is asked for.
+    pub fn read(&self, range: impl Fn() -> Result<Range, VolumeError>, deadline: Instant) -> Result<Vec<u8>, VolumeError> {
         let mut pause = PAUSES[0];
         loop {
-            let first = self.preferred.load(Ordering::Relaxed);
-            for step in 0..self.nodes.count() {
-                let node = (first + step) % self.nodes.count();
-                match self.read_at(node, range) {
-                    Read::Bytes(bytes) => {
-                        self.preferred.store(node, Ordering::Relaxed);
-                        return Ok(bytes);
-                    }
-                    Read::Below(min) => return Err(VolumeError::Below { min }),
-                    Read::Nothing => {}
-                }
+            let range = range()?;
+            if let Some(read) = self.read_once(range, deadline) {
+                return read;
             }
-            if Instant::now() >= deadline {
+            let left = deadline.saturating_duration_since(Instant::now());
+            if left.is_zero() {
                 return Err(VolumeError::NotRead { page: range.page, point: range.at.point });
             }
-            thread::sleep(pause);
+            thread::sleep(pause.min(left));
             pause = (pause * 2).min(PAUSES[1]);
         }
     }
 
     /// Page 0 at a point.
     ///
-    /// Errors: `Below`, `NotRead`, and `Damaged` where no volume wrote it.
-    pub fn page_zero(&self, at: At, deadline: Instant) -> Result<PageZero, VolumeError> {
-        let whole = Range { at, page: 0, offset: 0, length: PAGE_LEN as u16 };
+    /// Errors: those of `read`, and `Damaged` where no volume wrote it.
+    pub fn page_zero(&self, at: impl Fn() -> Result<At, VolumeError>, deadline: Instant) -> Result<PageZero, VolumeError> {
+        let whole = || Ok(Range { at: at()?, page: 0, offset: 0, length: PAGE_LEN as u16 });
         PageZero::read(&self.read(whole, deadline)?).ok_or(VolumeError::Refused(Fault::Damaged))
     }
 
+    /// Asks each node once, until one has it or the time is up; nothing where none has. No node may take more than half of the time that is left,
+    /// so that another one can answer in place of one that is silent.
+    fn read_once(&self, range: Range, deadline: Instant) -> Option<Result<Vec<u8>, VolumeError>> {
+        let (first, count) = (self.preferred.load(Ordering::Relaxed), self.nodes.count());
+        for node in (first..first + count).map(|place| place % count) {
+            let now = Instant::now();
+            let end = deadline.min(now + (deadline.saturating_duration_since(now) / 2).max(LEAST));
+            match self.read_at(node, range, end) {
+                Read::Bytes(bytes) => {
+                    self.preferred.store(node, Ordering::Relaxed);
+                    return Some(Ok(bytes));
+                }
+                Read::Below(min) => return Some(Err(VolumeError::Below { min })),
+                Read::Nothing if Instant::now() >= deadline => return None,
+                Read::Nothing => {}
+            }
+        }
+        None
+    }
+
     /// The front comes first in the same frame: a node of another epoch may have records at the point that are annulled.
-    fn read_at(&self, node: usize, range: Range) -> Read {
+    fn read_at(&self, node: usize, range: Range, end: Instant) -> Read {
         let Range { at: At { epoch, point, is_durable }, page, offset, length } = range;
         let read = format!("read {page} {point} {offset} {length}");
         let Ok(request) = requests::many([&b"front"[..], read.as_bytes()]) else {
             return Read::Nothing;
         };
-        let Some(answer) = self.nodes.try_ask(node, &request) else {
+        let Some(answer) = self.nodes.try_ask(node, &request, end) else {
             return Read::Nothing;
         };
         let is_fit = |shown: u16| shown == epoch || (is_durable && shown > epoch);
         match frames::inside(&answer).as_deref() {
             Some([front, shown]) if answers::front(front).is_ok_and(|front| is_fit(front.epoch)) => match answers::bytes(shown, "page ") {
-                Ok(bytes) => Read::Bytes(bytes),
+                // Another length is no answer to this request.
+                Ok(bytes) if bytes.len() == usize::from(length) => Read::Bytes(bytes),
                 Err(Error::Read(ReadFault::Below { min })) => Read::Below(min),
-                Err(_) => Read::Nothing,
+                _ => Read::Nothing,
             },
             _ => Read::Nothing,
         }

@@ -292,29 +292,19 @@ impl Volume {
     ///
     /// Errors: `Argument`, `Below`, `NotRead`, and what has ended the volume.
     pub fn read(&self, page: u16, point: u64, offset: u16, length: u16) -> Result<Vec<u8>, VolumeError> {
-        let at = self.at(point)?;
-        Range { at, page, offset, length }.check()?;
-        self.read_in_epoch(at, |at, end| self.readers.read(Range { at, page, offset, length }, end))
+        let range = || Ok(Range { at: self.at(point)?, page, offset, length });
+        range()?.check()?;
+        self.readers.read(range, Instant::now() + self.options.patience).map_err(|error| self.ended_by(error))
     }
 
     /// Page 0 at such a point: who committed it, and the header.
     ///
     /// Errors: those of `read`.
     pub fn page_zero(&self, point: u64) -> Result<PageZero, VolumeError> {
-        self.read_in_epoch(self.at(point)?, |at, end| self.readers.page_zero(at, end))
+        self.readers.page_zero(|| self.at(point), Instant::now() + self.options.patience).map_err(|error| self.ended_by(error))
     }
 
-    /// Reads at a point until the time is up: the volume may be opened again meanwhile, and then nodes have it in a later epoch.
-    fn read_in_epoch<T>(&self, first: At, read: impl Fn(At, Instant) -> Result<T, VolumeError>) -> Result<T, VolumeError> {
-        let (mut at, deadline) = (first, Instant::now() + self.options.patience);
-        loop {
-            match read(at, deadline.min(Instant::now() + self.options.retry)) {
-                Err(VolumeError::NotRead { .. }) if Instant::now() < deadline => at = self.at(first.point)?,
-                other => return other.map_err(|error| self.ended_by(error)),
-            }
-        }
-    }
-
+    /// Where a point is now: nodes have a durable one in a later epoch once the volume is opened again.
     fn at(&self, point: u64) -> Result<At, VolumeError> {
         let standing = self.progress.standing()?;
         Ok(At { epoch: standing.epoch, point, is_durable: point <= standing.durable })
