@@ -6,6 +6,8 @@ use yieldcleat_client::{Address, Limits};
 
 /// The most nodes of a volume.
 const MOST_NODES: usize = 15;
+/// The longest time that anything waits: a clock cannot count to the end of any longer one.
+pub(crate) const LONGEST_TIME: Duration = Duration::from_secs(365 * 24 * 3600);
 /// A node may have all pages, and an opening asks for all that it has.
 const LONGEST_ANSWER: u32 = 1 << 29;
 
@@ -72,6 +74,14 @@ impl Options {
             admission: Duration::from_secs(2),
             in_flight: 8 << 20,
         }
+    }
+
+    /// The same with times that a clock can count.
+    pub(crate) fn bounded(mut self) -> Options {
+        let Limits { connect, answer, .. } = &mut self.limits;
+        let times = [&mut self.patience, connect, answer, &mut self.retry, &mut self.remind, &mut self.grace, &mut self.admission];
+        times.into_iter().for_each(|time| *time = LONGEST_TIME.min(*time));
+        self
     }
 
     /// The limits of a writer's links.

@@ -69,6 +69,7 @@ impl Reader {
     /// Errors: `Options`, `Thread`.
     pub fn open(options: Options) -> Result<Reader, VolumeError> {
         options.check().map_err(VolumeError::Options)?;
+        let options = options.bounded();
         let nodes = Arc::new(Nodes::new(&options));
         let panel = Panel::start(&nodes, show).map_err(|error| VolumeError::Thread(error.kind()))?;
         let (known, generation) = (Mutex::default(), AtomicU64::new(0));

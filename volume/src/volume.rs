@@ -6,7 +6,7 @@ use crate::known::Known;
 use crate::link::Link;
 use crate::machine::{Fault, Machine};
 use crate::nodes::Nodes;
-use crate::options::Options;
+use crate::options::{Options, LONGEST_TIME};
 use crate::page_zero::{PageZero, MOST_HEADER};
 use crate::panel::Panel;
 use crate::progress::{Progress, Standing};
@@ -109,6 +109,7 @@ impl Volume {
     /// Starts the threads of a volume.
     fn start<M: Machine + 'static>(machine: M, options: Options) -> Result<(Volume, Instant), VolumeError> {
         options.check().map_err(VolumeError::Options)?;
+        let options = options.bounded();
         let deadline = Instant::now() + options.patience;
         let (inputs, received) = mpsc::channel();
         let progress = Arc::new(Progress::default());
@@ -276,7 +277,7 @@ impl Volume {
     /// Errors: `InDoubt` after the time allowed, and then it may be waited for again; `Fenced` and what else has ended the volume.
     pub fn wait(&self, commit_point: u64, patience: Duration) -> Result<(), VolumeError> {
         let in_doubt = || VolumeError::InDoubt { commit_point, quorum: self.progress.quorum(&self.options) };
-        self.progress.wait_durable(commit_point, Instant::now() + patience).unwrap_or_else(|| Err(in_doubt()))
+        self.progress.wait_durable(commit_point, Instant::now() + patience.min(LONGEST_TIME)).unwrap_or_else(|| Err(in_doubt()))
     }
 
     /// Writes a mini-transaction and waits until it is durable.

@@ -153,6 +153,20 @@ fn what_no_quorum_has_is_bounded() {
 }
 
 #[test]
+fn times_without_end() {
+    let three = Three::new();
+    let end = Duration::MAX;
+    let limits = Limits { connect: end, answer: end, ..Limits::default() };
+    let options = Options { patience: end, limits, grace: Duration::ZERO, admission: end, ..three.options() };
+    let volume = three.open(options.clone()).unwrap();
+    let point = volume.commit(write(1), Vec::new()).unwrap();
+    assert_eq!(volume.wait(point, end), Ok(()));
+    assert!(shows(&volume, 1, point));
+    assert_eq!(volume.advance(1, point), Ok(()));
+    assert!(Reader::open(options).unwrap().newest().is_ok());
+}
+
+#[test]
 fn a_mini_transaction_longer_than_what_may_be_in_flight() {
     let three = Three::new();
     let volume = three.open(Options { in_flight: 4000, ..three.options() }).unwrap();
