@@ -379,6 +379,8 @@ impl<M: Machine> Driver<M> {
         match call {
             Call::Create { done } => self.begin(Event::Create, done),
             Call::Open { generation, done } => {
+                // The caller has given up the attempts before, whatever has come of them.
+                self.progress.begin();
                 self.claim(generation);
                 self.begin(Event::Open { generation }, done);
             }
@@ -633,6 +635,35 @@ mod tests {
         driver.run(&inputs);
         assert!(matches!(result.recv(), Ok(Err(VolumeError::NotReopened(_)))));
         assert_eq!(progress.standing(), Err(VolumeError::Closed));
+    }
+
+    /// Opens with the second opening, and by the first answer of a node.
+    struct Late;
+
+    impl Machine for Late {
+        fn step(&mut self, event: Event<'_>) -> Result<Vec<Action>, OutOfMemory> {
+            let opened = |commit_point| vec![Action::Opened { epoch: 1, commit_point, header: Vec::new() }];
+            Ok(match event {
+                Event::Open { generation: 4 } => opened(7),
+                Event::Answered { answer: b"ready", .. } => opened(5),
+                Event::Answered { .. } => vec![Action::Refused(Fault::Fenced { generation: 9 })],
+                _ => Vec::new(),
+            })
+        }
+    }
+
+    #[test]
+    fn an_opening_forgets_one_that_was_given_up_and_succeeded_late() {
+        for answers in [&[&b"ready"[..]][..], &[b"ready", b"stale 9"]] {
+            let options = Options::new(vec![Address::Unix("nowhere".into())]);
+            let progress = Arc::new(Progress::default());
+            let mut driver = Driver::new(Late, &options, Arc::clone(&progress));
+            driver.carry_out(Call::Open { generation: 3, done: mpsc::channel().0 });
+            answers.iter().for_each(|answer| driver.notice(Event::Answered { node: 0, request: b"", answer }));
+            let (done, opened) = mpsc::channel();
+            driver.carry_out(Call::Open { generation: 4, done });
+            assert_eq!((opened.recv(), progress.standing().map(|it| it.opened_at)), (Ok(Ok(())), Ok(7)));
+        }
     }
 
     /// Asks a node to absorb what a frame just holds, and what no frame holds, as a member and as a fresh node.

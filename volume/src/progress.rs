@@ -105,6 +105,14 @@ impl Progress {
 
     // What the driver reports
 
+    /// The volume is to be opened for a caller who has no handle yet: no earlier attempt counts.
+    pub fn begin(&self) {
+        self.change(|state| {
+            (state.standing, state.failed) = (None, None);
+            state.in_flight.clear();
+        });
+    }
+
     pub fn open(&self, generation: u64, epoch: u16, commit_point: u64, header: Vec<u8>) {
         self.change(|state| {
             let (durable, committed) = (commit_point, commit_point);
