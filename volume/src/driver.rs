@@ -51,6 +51,9 @@ pub enum Input {
 /// How long an opening goes on when a node is gone that had answered it. It may be one that the opening waits for: then another one begins.
 const WITHOUT: Duration = Duration::from_millis(500);
 
+/// The bytes that the end of a mini-transaction sends beside its header, about.
+const COMMIT: usize = 80;
+
 /// For what an opening pauses: the machine is not told the answers that would end the pause.
 #[derive(Clone, Copy, PartialEq, Eq)]
 enum Pause {
@@ -496,7 +499,7 @@ impl<M: Machine> Driver<M> {
     /// the next commit would make its beginning durable.
     fn commit(&mut self, writes: &[PageWrite], header: &[u8]) -> Result<u64, VolumeError> {
         self.progress.standing()?;
-        let mut bytes = header.len();
+        let mut bytes = COMMIT + header.len();
         for (place, write) in writes.iter().enumerate() {
             bytes += write.bytes();
             let event = Event::Write { page: write.page, init: write.init, patches: &write.patches };

@@ -153,6 +153,16 @@ fn what_no_quorum_has_is_bounded() {
 }
 
 #[test]
+fn mini_transactions_without_bytes_are_bounded() {
+    let three = Three::new();
+    let volume = three.open(Options { in_flight: 4000, patience: Duration::from_millis(300), ..three.options() }).unwrap();
+    // Nodes that answer and store nothing: their disks are full.
+    three.nodes.iter().for_each(|node| node.set(|state| state.is_full = true));
+    let refused = (1..=1000).find_map(|_| volume.write(Vec::new(), Vec::new()).err());
+    assert_eq!(refused, Some(VolumeError::Busy(of_three(3))));
+}
+
+#[test]
 fn times_without_end() {
     let three = Three::new();
     let end = Duration::MAX;

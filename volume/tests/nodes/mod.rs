@@ -18,6 +18,8 @@ pub struct State {
     /// Whether it has too many connections, and how many it has turned away.
     pub is_busy: bool,
     pub turned_away: usize,
+    /// Whether its disk is full.
+    pub is_full: bool,
     /// Each connection ends after so many frames.
     pub frames: Option<usize>,
     pub delay: Duration,
@@ -42,6 +44,7 @@ impl Default for State {
             is_away: false,
             is_busy: false,
             turned_away: 0,
+            is_full: false,
             frames: None,
             delay: Duration::ZERO,
             stale: None,
@@ -136,6 +139,9 @@ impl State {
     }
 
     fn answer(&mut self, request: &[u8]) -> Vec<u8> {
+        if self.is_full {
+            return b"disk full".to_vec();
+        }
         if let Some(inside) = request.strip_prefix(b"many ") {
             let mut answers = Vec::new();
             for request in frames::inside(inside).unwrap() {
