@@ -40,7 +40,10 @@ impl PageWrite {
         40 + self.patches.iter().map(|patch| 5 + written(patch)).sum::<usize>()
     }
 
-    fn check(&self) -> Result<(), VolumeError> {
+    /// Whether it is within these bounds.
+    ///
+    /// Error: `Argument`.
+    pub fn check(&self) -> Result<(), VolumeError> {
         let is_inside = |patch: &Patch| {
             let (offset, length) = match patch {
                 Patch::Write { offset, bytes } => (*offset, bytes.len()),

@@ -30,6 +30,7 @@ mod proved {
 use handles::Handle;
 use nodes::Node;
 use std::path::{Path, PathBuf};
+use std::sync::atomic::{AtomicU32, Ordering};
 use std::time::Duration;
 use std::{env, fs, process, thread};
 use yieldcleat_client::Patch;
@@ -40,9 +41,11 @@ struct Three {
     nodes: Vec<Node>,
 }
 
+static PLACE: AtomicU32 = AtomicU32::new(0);
+
 impl Three {
     fn new() -> Three {
-        let folder = env::temp_dir().join(format!("yieldcleat-handles-{}", process::id()));
+        let folder = env::temp_dir().join(format!("yieldcleat-handles-{}-{}", process::id(), PLACE.fetch_add(1, Ordering::Relaxed)));
         let _ = fs::remove_dir_all(&folder);
         fs::create_dir(&folder).unwrap();
         let nodes: Vec<_> = (0..3).map(|place| Node::start(&folder, place)).collect();
@@ -78,4 +81,38 @@ fn one_thread_stages_and_commits_while_another_one_waits() {
         assert!(!waiting.is_finished(), "the other thread still waits");
         waiting.join().unwrap().unwrap();
     });
+}
+
+#[test]
+fn no_point_shows_a_part_of_a_commit() {
+    let three = Three::new();
+    let handle = Handle::open_writer(&three.place(), 0, false).unwrap();
+    let commit = |bytes: &[u8]| {
+        [1, 2, 3].into_iter().for_each(|page| handle.stage(page, false, vec![Patch::write(0, bytes)]).unwrap());
+        let point = handle.commit(bytes.to_vec()).unwrap();
+        handle.wait(point, 0).unwrap();
+        point
+    };
+    let (first, second) = (commit(b"first"), commit(b"later"));
+    let reader = Handle::open_reader(&three.place(), 0, None).unwrap();
+    for handle in [&handle, &reader] {
+        for point in first..=second {
+            let header = handle.page_zero(point).unwrap().header;
+            assert_eq!(header, if point < second { b"first" } else { b"later" });
+            assert!((1..=3).all(|page| handle.read(point, page, 0, 5).unwrap() == header), "{point}");
+        }
+        assert_eq!(handle.read(first - 1, 1, 0, 5).unwrap(), [0; 5]);
+    }
+    let between = Handle::open_reader(&three.place(), 0, Some(second - 1)).unwrap();
+    assert!((1..=3).all(|page| between.read(second - 1, page, 0, 5).unwrap() == b"first"));
+}
+
+#[test]
+fn what_no_record_holds_is_not_staged() {
+    let three = Three::new();
+    let handle = Handle::open_writer(&three.place(), 0, false).unwrap();
+    let whole = || Patch::write(0, &[1; 4088]);
+    assert!(handle.stage(1, false, vec![whole(), whole(), Patch::write(0, &[1; 9])]).is_err());
+    handle.stage(1, false, vec![whole(), whole(), Patch::write(0, &[1; 8])]).unwrap();
+    assert!(handle.commit(Vec::new()).is_ok());
 }

@@ -3,6 +3,7 @@
 use crate::faults::Failure;
 use crate::known::Shared;
 use crate::proved::Proved;
+use std::collections::BTreeSet;
 use std::path::Path;
 use std::sync::atomic::{AtomicU64, Ordering};
 use std::sync::{Arc, Mutex, MutexGuard, PoisonError};
@@ -14,6 +15,8 @@ use yieldcleat_volume::{Fault, Options, PageWrite, PageZero, Reader, Volume, Vol
 pub const PAGE_BYTES: u32 = 4088;
 /// The reader on whose behalf a volume advances.
 const READER: u8 = 1;
+/// How many commit points a handle keeps in mind.
+const MOST_COMMITS: usize = 64;
 
 /// One handle.
 pub struct Handle {
@@ -22,6 +25,8 @@ pub struct Handle {
     shared: Arc<Shared>,
     /// The least readable point, as far as this handle knows.
     least: AtomicU64,
+    /// Points that nodes have shown to be commit points.
+    commits: Mutex<BTreeSet<u64>>,
 }
 
 enum Side {
@@ -59,7 +64,7 @@ fn options_at(place: &Path, milliseconds: u32) -> Result<Options, Failure> {
 
 impl Handle {
     fn of(side: Side, place: &Path, options: Options) -> Handle {
-        Handle { side, options, shared: Shared::of(place), least: AtomicU64::new(0) }
+        Handle { side, options, shared: Shared::of(place), least: AtomicU64::new(0), commits: Mutex::default() }
     }
 
     pub fn open_writer(place: &Path, milliseconds: u32, may_create: bool) -> Result<Handle, Failure> {
@@ -106,8 +111,18 @@ impl Handle {
                 Ok(newest?)
             }
             Side::Reader { point: Some(point), .. } => Ok(*point),
-            Side::Reader { reader, .. } => Ok(reader.newest()?),
+            Side::Reader { reader, .. } => self.ask_newest(reader),
         }
+    }
+
+    /// The newest commit point by the nodes. Where it is below a known one they have another volume.
+    fn ask_newest(&self, reader: &Reader) -> Result<u64, Failure> {
+        let newest = reader.newest()?;
+        let mut commits = lock(&self.commits);
+        if commits.last().is_some_and(|last| *last > newest) {
+            commits.clear();
+        }
+        Ok(newest)
     }
 
     /// The greatest point at which this handle reads, as far as it knows.
@@ -124,7 +139,7 @@ impl Handle {
         if let (Side::Reader { reader, point: None }, true) = (&self.side, point > greatest) {
             greatest = reader.learn(&self.shared.known());
             if point > greatest {
-                greatest = reader.newest()?;
+                greatest = self.ask_newest(reader)?;
             }
         }
         if point > greatest {
@@ -147,7 +162,28 @@ impl Handle {
             Side::Writer { volume, .. } => volume.page_zero(point),
             Side::Reader { reader, .. } => reader.page_zero(point),
         };
-        self.noting(page.map_err(Failure::from))
+        let page = self.noting(page.map_err(Failure::from))?;
+        self.note_commit(page.commit_point);
+        Ok(page)
+    }
+
+    fn note_commit(&self, commit_point: u64) {
+        let mut commits = lock(&self.commits);
+        if commits.len() >= MOST_COMMITS {
+            commits.clear();
+        }
+        commits.insert(commit_point);
+    }
+
+    /// The last commit point at or below a point. A point between two of them may have a part of the later commit.
+    fn commit_at(&self, point: u64) -> Result<u64, Failure> {
+        self.check_point(point)?;
+        let is_known = lock(&self.commits).contains(&point);
+        if is_known {
+            Ok(point)
+        } else {
+            Ok(self.page_zero(point)?.commit_point)
+        }
     }
 
     pub fn read(&self, point: u64, page: u32, offset: u32, length: u32) -> Result<Vec<u8>, Failure> {
@@ -155,7 +191,7 @@ impl Handle {
         if length == 0 || offset.checked_add(length).is_none_or(|end| end > PAGE_BYTES) {
             return Err(Failure::misuse("the range ends past its page"));
         }
-        self.check_point(point)?;
+        let point = self.commit_at(point)?;
         let (offset, length) = (offset as u16, length as u16);
         let bytes = match &self.side {
             Side::Writer { volume, .. } => volume.read(page, point, offset, length),
@@ -181,7 +217,9 @@ impl Handle {
         let page = user_page(page)?;
         let (volume, staged) = self.staging()?;
         volume.standing()?;
-        lock(staged).push(PageWrite { page, init, patches });
+        let write = PageWrite { page, init, patches };
+        write.check()?;
+        lock(staged).push(write);
         Ok(())
     }
 
@@ -194,7 +232,9 @@ impl Handle {
     pub fn commit(&self, header: Vec<u8>) -> Result<u64, Failure> {
         let (volume, staged) = self.staging()?;
         let writes = std::mem::take(&mut *lock(staged));
-        Ok(volume.write(writes, header)?)
+        let commit_point = volume.write(writes, header)?;
+        self.note_commit(commit_point);
+        Ok(commit_point)
     }
 
     pub fn wait(&self, point: u64, milliseconds: u32) -> Result<(), Failure> {
@@ -209,6 +249,11 @@ impl Handle {
 
     pub fn advance(&self, point: u64) -> Result<(), Failure> {
         let volume = self.writer()?;
+        let point = match self.commit_at(point) {
+            // It is below the present one.
+            Err(failure) if failure.least().is_some() => return Ok(()),
+            commit_point => commit_point?,
+        };
         if point > 0 {
             volume.advance(READER, point)?;
             self.least.fetch_max(point, Ordering::Relaxed);
@@ -230,8 +275,8 @@ impl Handle {
     }
 }
 
-fn lock(staged: &Mutex<Vec<PageWrite>>) -> MutexGuard<'_, Vec<PageWrite>> {
-    staged.lock().unwrap_or_else(PoisonError::into_inner)
+fn lock<T>(mutex: &Mutex<T>) -> MutexGuard<'_, T> {
+    mutex.lock().unwrap_or_else(PoisonError::into_inner)
 }
 
 fn user_page(page: u32) -> Result<u16, Failure> {

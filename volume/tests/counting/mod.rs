@@ -74,8 +74,10 @@ impl Machine for Counting {
                 self.all(b"front")
             }
             Event::Write { page, init, patches } => self.record(page, init, patches),
-            Event::Commit { .. } => {
-                let mut actions = self.record(0, false, &[]);
+            Event::Commit { header } => {
+                let start = [&[0; 10][..], &(header.len() as u16).to_be_bytes(), header].concat();
+                let number = (self.last + 1).to_be_bytes();
+                let mut actions = self.record(0, false, &[Patch::write(0, &start), Patch::write(4088, &number)]);
                 self.commits.insert(self.last);
                 actions.extend(self.all(b"front"));
                 actions.push(Action::Committed { commit_point: self.last });
