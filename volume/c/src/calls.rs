@@ -245,16 +245,26 @@ pub unsafe extern "C" fn yieldcleat_volume_discard(volume: *mut Handle) {
 pub unsafe extern "C" fn yieldcleat_volume_commit(volume: *mut Handle, header: *const c_void, length: usize, point: *mut u64) -> Fault {
     run(|| {
         // SAFETY: the header's.
-        let (volume, point) = unsafe { (handle(volume)?, place(point)?) };
-        if length > MOST_HEADER {
-            volume.discard();
-            return Err(Failure::misuse("a header of more than 1,024 bytes"));
-        }
+        let volume = unsafe { handle(volume)? };
         // SAFETY: the header's.
-        let header = unsafe { bytes(header.cast(), length)? };
-        *point = volume.commit(header.to_vec())?;
+        let arguments = unsafe { place(point).and_then(|point| Ok((point, commit_header(header, length)?))) };
+        // Nothing is staged afterwards, whatever is wrong.
+        let (point, header) = arguments.inspect_err(|_| volume.discard())?;
+        *point = volume.commit(header)?;
         Ok(())
     })
+}
+
+/// The header of a commit.
+///
+/// # Safety
+/// There are so many bytes, or none.
+unsafe fn commit_header(header: *const c_void, length: usize) -> Result<Vec<u8>, Failure> {
+    if length > MOST_HEADER {
+        return Err(Failure::misuse("a header of more than 1,024 bytes"));
+    }
+    // SAFETY: the caller's.
+    Ok(unsafe { bytes(header.cast(), length)? }.to_vec())
 }
 
 /// # Safety

@@ -107,7 +107,8 @@ impl From<VolumeError> for Failure {
                 Failure { have: have.into(), need: need.into(), ..of(Fault::NoQuorum) }
             }
             VolumeError::InDoubt { quorum, .. } => counted(Fault::Timeout, quorum),
-            VolumeError::NotRead { .. } => of(Fault::NoQuorum),
+            // One node has to answer a read.
+            VolumeError::NotRead { .. } => Failure { need: 1, ..of(Fault::NoQuorum) },
             VolumeError::Below { min } => Failure { point: min, ..of(Fault::Below) },
             VolumeError::Above { newest } => Failure { point: newest, ..of(Fault::Above) },
             VolumeError::Refused(Refusal::Ahead { durable }) => Failure { point: durable, ..of(Fault::Above) },
