@@ -11,7 +11,7 @@ use std::time::{Duration, Instant};
 /// How long a connection waits, and what it takes.
 #[derive(Debug, Clone, Copy, PartialEq, Eq)]
 pub struct Limits {
-    /// Until a TCP connection is made.
+    /// Until a connection is made.
     pub connect: Duration,
     /// For the next bytes of an answer, and for room to send.
     pub answer: Duration,

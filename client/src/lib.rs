@@ -29,6 +29,8 @@ pub mod requests;
 #[allow(unsafe_code)]
 pub mod signals;
 mod stream;
+#[allow(unsafe_code)]
+mod unix;
 
 pub use address::{Address, BadAddress};
 pub use answers::{Front, Gap, Held, Key, State, Taken};

@@ -1,5 +1,5 @@
-//! Signals, for packages that run an archive of proved code on a thread. The standard library has no call for them, so this one file calls
-//! the system's library; nothing else here is `unsafe`.
+//! Signals, for packages that run an archive of proved code on a thread. The standard library has no call for them, so this file calls
+//! the system's library; beside it only `unix` does.
 
 use std::ptr;
 

@@ -1,6 +1,7 @@
 //! A connected Unix or TCP socket.
 
 use crate::address::Address;
+use crate::unix::connect_within;
 use std::io::{self, Read, Write};
 use std::net::{Shutdown, TcpStream, ToSocketAddrs};
 use std::os::unix::net::UnixStream;
@@ -14,11 +15,10 @@ pub enum Stream {
 }
 
 impl Stream {
-    /// Connects to an address. A TCP connection that is not made within the time is given up, for each address of the host's name. A Unix
-    /// socket answers at once, but where its server takes no connections and too many wait, it answers once the server does.
+    /// Connects to an address. A connection that is not made within the time is given up, over TCP for each address of the host's name.
     pub fn connect(address: &Address, patience: Duration) -> io::Result<Stream> {
         match address {
-            Address::Unix(path) => UnixStream::connect(path).map(Stream::Unix),
+            Address::Unix(path) => connect_within(path, patience).map(Stream::Unix),
             Address::Tcp(text) => connect_tcp(text, patience).map(Stream::Tcp),
         }
     }
