@@ -48,7 +48,8 @@ pub enum Input {
     Close,
 }
 
-/// How long an opening goes on when a node is gone that had answered it. It may be one that the opening waits for: then another one begins.
+/// How long an opening goes on when a node is gone that had answered it, and does not come back as the same member. It may be one that the
+/// opening waits for: then another one begins.
 const WITHOUT: Duration = Duration::from_millis(500);
 
 /// The bytes that the end of a mini-transaction sends beside its header, about.
@@ -178,15 +179,22 @@ impl<M: Machine> Driver<M> {
     fn hear(&mut self, heard: Heard) {
         match heard {
             Heard::Up { node, queue } => {
-                self.peers[usize::from(node)] = Peer { queue: Some(queue), was_tried: true, ..Peer::new() };
+                let peer = &mut self.peers[usize::from(node)];
+                *peer = Peer { queue: Some(queue), was_tried: true, is_lost: peer.is_lost, ..Peer::new() };
+                if peer.is_lost {
+                    // It may be the member that has answered before.
+                    peer.ask(engines::STATUS.to_vec());
+                }
                 self.report_reached();
                 self.notice(Event::Failed { node });
             }
             Heard::Down { node } => {
-                let had_answered = self.peers[usize::from(node)].is_answering;
-                self.peers[usize::from(node)] = Peer { was_tried: true, ..Peer::new() };
+                let is_opening = self.is_opening();
+                let peer = &mut self.peers[usize::from(node)];
+                let is_lost = is_opening && (peer.is_answering || peer.is_lost);
+                *peer = Peer { was_tried: true, is_lost, ..Peer::new() };
                 self.report_reached();
-                if had_answered && self.is_opening() {
+                if is_lost {
                     self.given_up.get_or_insert(Instant::now() + WITHOUT);
                 }
             }
@@ -201,6 +209,9 @@ impl<M: Machine> Driver<M> {
         let is_of_another = peer.is_of_another(&request, &answer, self.generation);
         if has_changed {
             self.report_reached();
+        }
+        if !self.peers.iter().any(|peer| peer.is_lost) {
+            self.given_up = None;
         }
         if is_of_another && self.reopening.is_shut() {
             return self.progress.fail(VolumeError::Fenced { generation: self.generation });

@@ -16,6 +16,8 @@ pub struct Peer {
     pub was_tried: bool,
     /// Whether it has answered since it was connected.
     pub is_answering: bool,
+    /// Whether it has answered an opening over a connection that has ended, and has not said since that it is the member it was.
+    pub is_lost: bool,
     /// How many bytes of requests are not answered.
     pub pending: usize,
     /// How many of these an earlier opening has asked.
@@ -40,6 +42,7 @@ impl Peer {
             queue: None,
             was_tried: false,
             is_answering: false,
+            is_lost: false,
             pending: 0,
             earlier: 0,
             active: Instant::now(),
@@ -65,7 +68,7 @@ impl Peer {
 
     /// Begins another opening, which does not wait for what was asked before.
     pub fn begin_opening(&mut self) {
-        self.earlier = self.pending;
+        (self.earlier, self.is_lost) = (self.pending, false);
         (self.awaits_admission, self.awaits_pull, self.spread) = (false, false, Spread::default());
     }
 
@@ -82,6 +85,7 @@ impl Peer {
         self.active = Instant::now();
         let before = (self.is_answering, self.outside);
         self.is_answering = true;
+        self.is_lost = self.is_lost && !is_of_member(answer, generation);
         self.awaits_admission &= !request.starts_with(ADMIT);
         self.awaits_pull &= !is_pull(request);
         self.spread.hear(answer, generation);
@@ -109,6 +113,12 @@ impl Peer {
 fn is_pull(request: &[u8]) -> bool {
     let mut words = request.splitn(4, |byte| *byte == b' ');
     words.next() == Some(b"as") && words.nth(2).is_some_and(|word| word.starts_with(b"answer "))
+}
+
+/// Whether a node says that it serves a generation.
+fn is_of_member(answer: &[u8], generation: u64) -> bool {
+    let is_own = |word| answer.starts_with(format!("{word} {generation} ").as_bytes());
+    is_own("as") || is_own("accepted") || engines::membership(answer).is_ok_and(|it| it.is_member && it.generation == generation)
 }
 
 /// The birth of a node that says that it is no member.
@@ -147,6 +157,21 @@ mod tests {
         assert_eq!(peer.outside, None);
         assert!(!peer.hear(b"status", b"status 4 9 1 0 0 0", 4) && peer.hear(b"status", b"status 0 10 0 0 0 0", 4));
         assert_eq!(peer.outside, Some(Outside::Fresh(10)));
+    }
+
+    #[test]
+    fn a_member_that_is_back() {
+        let lost = || Peer { is_lost: true, ..Peer::new() };
+        for answer in [&b"as 3 7 front 1 2 0"[..], b"accepted 3 7 1", b"status 3 7 1 0 0 0"] {
+            let mut peer = lost();
+            peer.hear(b"x", answer, 3);
+            assert!(!peer.is_lost);
+        }
+        for answer in [&b"as 2 7 front 1 2 0"[..], b"status 2 7 1 0 0 0", b"status 3 7 0 0 0 0", b"fresh 8", b"stale 3", b"disk full"] {
+            let mut peer = lost();
+            peer.hear(b"x", answer, 3);
+            assert!(peer.is_lost);
+        }
     }
 
     #[test]

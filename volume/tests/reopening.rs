@@ -425,3 +425,21 @@ fn fresh_nodes_are_found_empty_although_one_answers_late() {
     let opened = Volume::open(Counting::new(3, 2), world.options());
     assert_eq!(opened.err(), Some(VolumeError::Empty));
 }
+
+#[test]
+fn a_connection_that_breaks_again_and_again_stops_no_opening() {
+    let world = World::new(3, 2);
+    world.nodes[..2].iter().for_each(|node| node.set(|state| state.delay = Duration::from_millis(700)));
+    let is_over = AtomicBool::new(false);
+    thread::scope(|scope| {
+        scope.spawn(|| {
+            while !is_over.load(Ordering::Relaxed) {
+                thread::sleep(Duration::from_millis(200));
+                world.nodes[2].set(State::cut_off);
+            }
+        });
+        let opened = Volume::open(Counting::new(3, 2), Options { patience: Duration::from_secs(20), ..world.options() });
+        is_over.store(true, Ordering::Relaxed);
+        assert_eq!(opened.unwrap().standing().map(|it| it.opened_at), Ok(0));
+    });
+}
