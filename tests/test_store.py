@@ -12,7 +12,8 @@ from concurrent.futures import ThreadPoolExecutor
 import pytest
 
 from harness import rounds
-from harness.store_checks import Writer, check_answers, check_damage, check_full, check_kills, check_lock, shows, take, takes, told
+from harness.store_checks import Writer, check_answers, check_damage, check_full, check_full_at_flush, check_kills, check_lock, check_refused
+from harness.store_checks import shows, take, takes, told
 from harness.stores import Client, until
 from model.wire import framed
 
@@ -124,7 +125,7 @@ def test_a_torn_end_is_cut_off(store, rng):
         it.kill()
 
 
-@pytest.mark.parametrize("check", [check_damage, check_answers, check_full, check_lock])
+@pytest.mark.parametrize("check", [check_damage, check_answers, check_full, check_full_at_flush, check_refused, check_lock])
 def test_what_mutants_break(store_program, disk, tmp_path, rng, check):
     """The checks in which the mutants of `test_store_mutants.py` are found."""
     check(store_program, tmp_path / "one", disk, rng)

@@ -8,7 +8,7 @@ import pytest
 
 from harness import copy_of, environment, spoilt, stores
 from harness.shims import kit
-from harness.store_checks import check_answers, check_damage, check_full, check_kills, check_lock, check_readers
+from harness.store_checks import check_answers, check_damage, check_full, check_full_at_flush, check_kills, check_lock, check_readers, check_refused
 
 pytestmark = pytest.mark.xdist_group("store_mutants")  # which share what is built
 
@@ -27,7 +27,9 @@ LOG, STORE, CALLS, ANSWERS = "embedding/src/store/log.rs", "embedding/src/store/
 ENTRIES, FOLDER = "embedding/src/store/entries.rs", "embedding/src/store/folder.rs"
 ENGINE, SNAPSHOTS = "store/src/engine.rs", "store/src/snapshots.rs"
 MUTANTS = {
-    "acknowledges_before_the_flush": (LOG, "self.flush()?;", "", check_kills),
+    "acknowledges_before_the_flush": (LOG, "self.file.sync_data().map_err(|error| self.take_back(error))?;", "", check_kills),
+    "believes_what_the_system_keeps": (LOG, "drop_kept(&file);", "", check_refused),
+    "ends_where_a_flush_finds_no_room": (LOG, "self.file.sync_data().map_err(|error| self.take_back(error))?;", "self.flush()?;", check_full_at_flush),
     "counts_unchanged": (CALLS, "Ok(self.front()?.has(last))", "self.front().map(|front| front.epoch >= last.epoch)", check_client),
     "compares_fronts_of_two_epochs": (ANSWERS, "self.epoch == key.epoch && self.complete >=", "self.complete + 1 >=", check_client),
     "skips_the_checksum": (ENTRIES, "|| crc32c(&[bytes]) != head.sum", "", check_damage),
@@ -48,7 +50,8 @@ def target(tmp_path_factory):
 def test_mutants(archive, target, disk, tmp_path, monkeypatch, seed, name):
     copy_of(tmp_path, "client", "embedding", "store")
     file, old, new, check = MUTANTS.get(name, (LOG, "", "", None))
-    checks = {check} if check else {check_kills, check_client, check_damage, check_answers, check_full, check_lock, check_readers}
+    each = {check_kills, check_client, check_damage, check_answers, check_full, check_full_at_flush, check_refused, check_lock, check_readers}
+    checks = {check} if check else each
     monkeypatch.setenv("YIELDCLEAT_ARCHIVE", str(archive.parent))
     with spoilt(tmp_path / file, {old: new} if name else {}):
         programs = stores.build(archive, target, tmp_path / "store", warnings=bool(name)) or pytest.skip("no cargo is on the path")

@@ -2,6 +2,8 @@
  *
  * DISK_DELAY      microseconds that each flush takes before it begins
  * DISK_FAIL_FLUSH the number, from 1, of the flush that fails
+ * DISK_FAIL_ERROR the error of that flush, if it is not that of a broken disk
+ * DISK_HAS        the bytes that it has of a file although a flush of more has failed: who drops what the system keeps of it finds these alone
  * DISK_FLUSHED    a file to which a line is appended after each flush of a file: its length then, and its path
  * DISK_FULL       while there is a file of this name, a write to a regular file writes half of the bytes, or says that there is no room
  */
@@ -19,8 +21,9 @@ extern offset lseek(int file, offset to, int from);
 extern long readlink(const char *path, char *text, size most);
 extern int open(const char *path, int flags, ...);
 extern int close(int file);
+extern int ftruncate(int file, offset length);
 
-enum { BROKEN = 5, NO_ROOM = 28, APPEND = 02001 | 0100, AT_END = 2, FROM_HERE = 1 };
+enum { BROKEN = 5, NO_ROOM = 28, APPEND = 02001 | 0100, AT_END = 2, FROM_HERE = 1, NOT_NEEDED = 4 };
 
 static long real_write(int file, const void *bytes, size count) {
     return ((long (*)(int, const void *, size))dlsym((void *)-1l, "write"))(file, bytes, count);
@@ -38,10 +41,11 @@ static int path_of(int file, char *path, size most) {
 
 static int flush(int file, const char *name) {
     static unsigned long flushes;
-    const char *delay = getenv("DISK_DELAY"), *failing = getenv("DISK_FAIL_FLUSH"), *flushed = getenv("DISK_FLUSHED");
+    const char *delay = getenv("DISK_DELAY"), *flushed = getenv("DISK_FLUSHED");
+    const char *failing = getenv("DISK_FAIL_FLUSH"), *error = getenv("DISK_FAIL_ERROR");
     char path[512], line[600];
     if (++flushes == (failing ? strtoul(failing, 0, 10) : 0)) {
-        *__errno_location() = BROKEN;
+        *__errno_location() = error ? (int)strtoul(error, 0, 10) : BROKEN;
         return -1;
     }
     if (delay)
@@ -58,6 +62,14 @@ static int flush(int file, const char *name) {
 
 int fsync(int file) { return flush(file, "fsync"); }
 int fdatasync(int file) { return flush(file, "fdatasync"); }
+
+int posix_fadvise(int file, offset from, offset count, int advice) {
+    const char *has = getenv("DISK_HAS");
+    offset length = has ? (offset)strtoul(has, 0, 10) : 0;
+    if (has && advice == NOT_NEEDED && !from && !count && lseek(file, 0, AT_END) > length)
+        return ftruncate(file, length);
+    return ((int (*)(int, offset, offset, int))dlsym((void *)-1l, "posix_fadvise"))(file, from, count, advice);
+}
 
 long write(int file, const void *bytes, size count) {
     const char *full = getenv("DISK_FULL");

@@ -4,6 +4,7 @@ Each check has a folder of its own, the library that plays the disk, and a gener
 """
 
 import contextlib
+import errno
 import itertools
 import threading
 import time
@@ -167,6 +168,38 @@ def check_full(program, folder, disk, choose):
         it.start()
         assert it.client().complete() == 30 and shows(it.client(), 30)
         assert "until there is room" in it.log() and "the disk has room again" in it.log()
+
+
+def check_refused(program, folder, disk, _choose):
+    """Where a flush has failed, the system may show bytes that the disk does not have. No start takes them for an entry."""
+    with contextlib.closing(Store(program, folder, shim=disk)) as it:
+        it.data.mkdir(parents=True)
+        (it.data / "birth").write_bytes(birth(7))
+        flushed, shown = [[b"open 1"], takes(1, 3)], [[b"open 1"], takes(1, 3), takes(4, 6)]
+        (it.data / "log.0").write_bytes(log(0, shown))
+        it.settings |= {"DISK_FAIL_FLUSH": 1, "DISK_HAS": len(log(0, flushed))}
+        assert it.refused()[0] == 4 and (it.data / "log.0").read_bytes() == log(0, shown)
+        it.settings["DISK_FAIL_FLUSH"] = 0
+        it.start()
+        assert it.ask(b"front") == b"front 0 3 0"
+        assert it.ask(take(4)) == b"changed"
+
+
+def check_full_at_flush(program, folder, disk, _choose):
+    """A disk that says only at a flush that it is full."""
+    with contextlib.closing(Store(program, folder, shim=disk)) as it:
+        it.start()
+        assert it.stop() == 0
+        it.settings |= {"DISK_FAIL_FLUSH": 3, "DISK_FAIL_ERROR": errno.ENOSPC}
+        it.start()
+        client = it.client()
+        assert client.ask(take(1)) == b"disk full"
+        assert until(lambda: it.metrics()["yieldcleat_disk_full"] == 0)
+        assert told(client, takes(1, 2)) == [b"unchanged", b"changed"]
+        it.kill()
+        it.lose_unflushed()
+        it.start()
+        assert it.ask(b"front") == b"front 0 2 0"
 
 
 def check_lock(program, folder, _disk, _choose):

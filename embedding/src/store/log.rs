@@ -1,5 +1,6 @@
 //! The log of requests that have come since a snapshot.
 
+use super::cache::drop_kept;
 use super::entries::{Entries, Header, Kind, Next};
 use super::errors::StoreError;
 use std::fs::{File, OpenOptions};
@@ -27,6 +28,10 @@ impl Log {
     where
         F: FnMut(&[&[u8]]) -> Result<(), StoreError>,
     {
+        let file = OpenOptions::new().append(true).open(path).map_err(StoreError::io(path))?;
+        // The last entry may not be on the disk: its writer was killed before it could wait for that, or its flush was refused.
+        file.sync_all().map_err(StoreError::io(path))?;
+        drop_kept(&file);
         let (mut entries, mut bytes) = (Entries::open(path, Kind::Log, generation)?, Vec::new());
         let torn = loop {
             match entries.next(&mut bytes)? {
@@ -35,12 +40,9 @@ impl Log {
                 Next::Spoiled => break entries.torn()?,
             }
         };
-        let file = OpenOptions::new().append(true).open(path).map_err(StoreError::io(path))?;
         if torn > 0 {
-            file.set_len(entries.offset()).map_err(StoreError::io(path))?;
+            file.set_len(entries.offset()).and_then(|()| file.sync_all()).map_err(StoreError::io(path))?;
         }
-        // The last entry may not be on the disk: its writer was killed before it could wait for that, and the system had the bytes.
-        file.sync_all().map_err(StoreError::io(path))?;
         let (path, header, place, length) = (path.to_path_buf(), entries.header(), entries.place(), entries.offset());
         Ok((Log { path, file, header, place, length, entry: Vec::new() }, torn))
     }
@@ -56,7 +58,7 @@ impl Log {
     pub fn append(&mut self, requests: &[u8]) -> Result<Duration, StoreError> {
         self.write(requests)?;
         let begin = Instant::now();
-        self.flush()?;
+        self.file.sync_data().map_err(|error| self.take_back(error))?;
         self.count();
         Ok(begin.elapsed())
     }
@@ -88,8 +90,8 @@ impl Log {
         self.length += self.entry.len() as u64;
     }
 
-    /// Cuts off what a write has left that was refused. A flush that was refused is never tried again: the system may have dropped what
-    /// it could not write, and then says that all is well.
+    /// Cuts off an entry whose write or flush was refused. It is all written again where there is room later. No flush is tried again by
+    /// itself: the system may have dropped what it could not write, and then says that all is well.
     fn take_back(&mut self, error: io::Error) -> StoreError {
         match self.file.set_len(self.length) {
             Ok(()) if StoreError::is_full(&error) => StoreError::Full { path: self.path.clone(), error },

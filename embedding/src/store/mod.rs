@@ -5,6 +5,7 @@
 //! request has one answer, and a node that comes back is right only if it gives just these answers.
 
 mod birth;
+mod cache;
 mod checkpoint;
 mod entries;
 mod errors;
