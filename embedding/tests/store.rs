@@ -248,6 +248,7 @@ fn a_crash_within_a_checkpoint() {
         step.iter().for_each(|(name, bytes)| fs::write(folder.0.join(name), bytes).unwrap());
         let mut store = folder.open(Node::open(1).unwrap()).unwrap();
         assert_eq!(front(&mut store), "front 0 5 0");
+        assert!(folder.names().iter().all(|name| !name.ends_with(".draft")), "{:?}", folder.names());
         store.answer(&takes(6..=6)).unwrap();
         store.checkpoint().unwrap();
         drop(store);

@@ -15,6 +15,8 @@ const DRAFT: &str = ".draft";
 
 pub struct Folder {
     path: PathBuf,
+    /// The folder itself. It stays open: where no more files can be opened, names still get to the disk.
+    names: File,
     /// Held for as long as the store is open.
     lock: File,
 }
@@ -38,10 +40,10 @@ impl Folder {
             Err(error) if error.kind() == ErrorKind::AlreadyExists => {}
             Err(error) => return Err(StoreError::io(path)(error)),
         }
-        let name = path.join("lock");
+        let (name, names) = (path.join("lock"), File::open(path).map_err(StoreError::io(path))?);
         let lock = OpenOptions::new().create(true).truncate(false).write(true).open(&name).map_err(StoreError::io(&name))?;
         match lock.try_lock() {
-            Ok(()) => Ok(Folder { path: path.to_path_buf(), lock }),
+            Ok(()) => Ok(Folder { path: path.to_path_buf(), names, lock }),
             Err(TryLockError::WouldBlock) => Err(StoreError::Locked { folder: path.to_path_buf() }),
             Err(TryLockError::Error(error)) => Err(StoreError::io(&name)(error)),
         }
@@ -102,8 +104,8 @@ impl Folder {
         Ok(())
     }
 
-    /// Removes what a checkpoint to a generation has written that failed before the generation began. What cannot be removed goes with
-    /// the next one.
+    /// Removes what a checkpoint to a generation has written that failed, or that a crash has ended, before the generation began. What
+    /// cannot be removed goes with the next one.
     pub fn remove_drafts(&self, generation: u64) {
         let (log, snapshot) = (self.path(Kind::Log, generation), self.path(Kind::Snapshot, generation));
         for path in [draft_of(&snapshot), draft_of(&log), log] {
@@ -123,7 +125,7 @@ impl Folder {
 
     /// The names of the files are on the disk when this returns.
     pub fn sync(&self) -> Result<(), StoreError> {
-        sync(&self.path)
+        self.names.sync_all().map_err(StoreError::io(&self.path))
     }
 }
 

@@ -146,6 +146,7 @@ impl Store {
         })?;
         folder.sync()?;
         folder.remove_others(generation)?;
+        folder.remove_drafts(generation + 1);
         let recovery = Recovery { requests: snapshot + progress.logged, torn };
         let activity =
             Activity { log: log.length(), snapshot: folder.length(Kind::Snapshot, generation), generation, ..Activity::default() };
@@ -321,6 +322,9 @@ impl Store {
     ///
     /// Its errors are those of `checkpoint`; also that of an earlier call of `answer` that could not write the log after the snapshot.
     pub fn go_on_with_checkpoint(&mut self, pieces: u32) -> Result<bool, StoreError> {
+        if self.is_stopped() {
+            return Err(StoreError::Stopped);
+        }
         if let Some(error) = self.given_up.take() {
             return Err(error);
         }
@@ -351,9 +355,9 @@ impl Store {
             return Ok(());
         };
         let next = checkpoint.generation;
-        let (snapshot, log, progress) = checkpoint.end().inspect_err(|_| self.folder.remove_drafts(next))?;
         // The next log has its name on the disk before the snapshot has.
-        self.folder.sync()?;
+        let ended = checkpoint.end().and_then(|ended| self.folder.sync().map(|()| ended));
+        let (snapshot, log, progress) = ended.inspect_err(|_| self.folder.remove_drafts(next))?;
         self.log = None;
         snapshot.rename()?;
         self.folder.sync()?;
@@ -483,6 +487,19 @@ mod tests {
         assert!(matches!(store.go_on_with_checkpoint(1), Ok(false)));
         store.checkpoint().unwrap();
         assert_eq!(store.answer(&[b"front"]).unwrap(), [b"front 0 0 1"]);
+    }
+
+    /// The files of the next generation lack what the node had when the store stopped.
+    #[test]
+    fn a_checkpoint_does_not_revive_a_store() {
+        let place = Place::new("revived");
+        let advance = |point| requests::take(&yieldcleat_client::Advance { epoch: 0, reader: 1, point }.encode().unwrap());
+        let mut store = Store::open(place.path(), Node::open(1).unwrap(), 1).unwrap().0;
+        store.begin_checkpoint().unwrap();
+        store.log.as_mut().unwrap().refuse();
+        assert!(matches!(store.answer(&[advance(1)]), Err(StoreError::Io { .. })));
+        assert!(matches!(store.go_on_with_checkpoint(u32::MAX), Err(StoreError::Stopped)));
+        assert!(matches!(store.answer(&[b"front"]), Err(StoreError::Stopped)));
     }
 
     #[test]
