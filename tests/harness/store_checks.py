@@ -152,6 +152,7 @@ def check_full(program, folder, disk, choose):
         it.start()
         client = it.client()
         assert told(client, takes(1, 10)) == [b"changed"] * 10
+        assert until(lambda: it.metrics()["yieldcleat_front_complete"] == 10)
         it.full.touch()
         assert set(told(client, [*takes(11, 20), b"front"])) == {b"disk full"}
         assert client.ask(b"front") == b"disk full"
