@@ -74,6 +74,19 @@ def test_an_idle_client_is_left(store):
     assert it.ask(b"front") == b"front 0 0 0"
 
 
+def test_an_idle_client_is_left_before_its_patience_ends(store):
+    it = store("one", "--patience", 30_000, "--idle", 300).start()
+    client = it.client()
+    client.socket.settimeout(10)
+    assert client.ask(b"front") == b"front 0 0 0" and client.answer() is None
+    # Within a frame it may stall for longer.
+    slow = it.client()
+    slow.socket.sendall(b"\0\0\0\x05fr")
+    time.sleep(0.6)
+    slow.socket.sendall(b"ont")
+    assert slow.answer() == b"front 0 0 0"
+
+
 def test_a_client_that_reads_nothing_stops_nobody(store):
     it = store("one", "--patience", 500).start()
     greedy, other = it.client(), it.client()

@@ -79,13 +79,23 @@ fn serve_as(connection: u64, stream: Stream, service: &Service) -> io::Result<()
 
 /// Waits for the first byte of a frame. The result says whether there is one: the client may have left, or been silent for too long.
 fn wait(reader: &mut BufReader<Stream>, service: &Service) -> io::Result<bool> {
-    let begin = Instant::now();
+    let (begin, patience) = (Instant::now(), service.patience);
     loop {
-        if service.is_stopping.load(SeqCst) || begin.elapsed() >= service.idle {
+        let left = service.idle.saturating_sub(begin.elapsed());
+        if service.is_stopping.load(SeqCst) || left.is_zero() {
             return Ok(false);
         }
-        match reader.fill_buf() {
-            Ok(bytes) => return Ok(!bytes.is_empty()),
+        let is_last = left < patience;
+        if is_last {
+            reader.get_ref().set_timeouts(Some(left), Some(patience))?;
+        }
+        match reader.fill_buf().map(|bytes| !bytes.is_empty()) {
+            Ok(is_there) => {
+                if is_last {
+                    reader.get_ref().set_timeouts(Some(patience), Some(patience))?;
+                }
+                return Ok(is_there);
+            }
             Err(error) if matches!(error.kind(), ErrorKind::WouldBlock | ErrorKind::TimedOut | ErrorKind::Interrupted) => {}
             Err(error) => return Err(error),
         }
