@@ -101,7 +101,15 @@ def test_a_client_that_reads_nothing_stops_nobody(store):
 
 @pytest.mark.parametrize(
     "words",
-    [(), ("--data",), ("--data", "x"), ("--data", "x", "--listen", "nowhere"), ("--data", "x", "--listen", "unix:y", "--queue", "0"), ("--no",)],
+    [
+        (),
+        ("--data",),
+        ("--data", "x"),
+        ("--data", b"\xff", "--listen", "unix:y"),
+        ("--data", "x", "--listen", "nowhere"),
+        ("--data", "x", "--listen", "unix:y", "--queue", "0"),
+        ("--no",),
+    ],
 )
 def test_bad_command_lines(store_program, tmp_path, words):
     done = subprocess.run([store_program, *words], capture_output=True, cwd=tmp_path, check=False)

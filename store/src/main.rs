@@ -34,7 +34,7 @@ fn say(what: Arguments) {
 }
 
 fn main() -> ExitCode {
-    match Command::read(std::env::args().skip(1)) {
+    match Command::of_system(std::env::args_os().skip(1)) {
         Ok(Command::Help) => print(HELP),
         Ok(Command::Version) => print(concat!("yieldcleat-store ", env!("CARGO_PKG_VERSION"), "\n")),
         Ok(Command::Serve(options)) => match server::run(&options) {

@@ -1,5 +1,6 @@
 //! The command line.
 
+use std::ffi::OsString;
 use std::fmt;
 use std::path::PathBuf;
 use std::str::FromStr;
@@ -65,6 +66,7 @@ pub enum Command {
 /// Why a command line is bad.
 #[derive(Debug, Clone, PartialEq, Eq)]
 pub enum BadOption {
+    NoText(OsString),
     Unknown(String),
     NoValue(String),
     Twice(String),
@@ -75,6 +77,7 @@ pub enum BadOption {
 impl fmt::Display for BadOption {
     fn fmt(&self, f: &mut fmt::Formatter<'_>) -> fmt::Result {
         match self {
+            BadOption::NoText(word) => write!(f, "`{}` is not UTF-8", word.to_string_lossy()),
             BadOption::Unknown(word) => write!(f, "unknown option `{word}`"),
             BadOption::NoValue(option) => write!(f, "{option} needs a value"),
             BadOption::Twice(option) => write!(f, "{option} is given twice"),
@@ -158,6 +161,12 @@ impl Given {
 }
 
 impl Command {
+    /// Reads the words after the program's name, as the system has them.
+    pub fn of_system(words: impl Iterator<Item = OsString>) -> Result<Command, BadOption> {
+        let words: Result<Vec<String>, OsString> = words.map(OsString::into_string).collect();
+        Command::read(words.map_err(BadOption::NoText)?.into_iter())
+    }
+
     /// Reads the words after the program's name.
     pub fn read(words: impl Iterator<Item = String>) -> Result<Command, BadOption> {
         let words: Vec<String> = words.collect();
@@ -196,6 +205,7 @@ impl Command {
 #[cfg(test)]
 mod tests {
     use super::*;
+    use std::os::unix::ffi::OsStringExt;
 
     fn read(line: &str) -> Result<Command, BadOption> {
         Command::read(line.split_whitespace().map(String::from))
@@ -223,6 +233,8 @@ mod tests {
             assert!(matches!(read(&line), Err(BadOption::Value { .. })), "{line}");
         }
         assert!(matches!(read("--data d --listen nowhere"), Err(BadOption::Value { .. })));
+        let word = OsString::from_vec(b"d\xff".to_vec());
+        assert_eq!(Command::of_system(["--data".into(), word.clone()].into_iter()), Err(BadOption::NoText(word)));
     }
 
     #[test]
