@@ -11,7 +11,7 @@ import pytest
 from harness import SECONDS
 from harness.shims import built
 from harness.store_checks import shows, take, takes, told
-from harness.stores import until
+from harness.stores import Client, until
 from model.facts import PAGE_LEN, Record, Write
 from model.wire import fact_bytes
 
@@ -53,6 +53,16 @@ def test_slow_clients_stop_nobody(store):
     assert client.ask(b"front") == b"front 0 0 0"
     assert client.ask(b"x" * 150_000) == b"bad request"
     assert until(lambda: len(gone) == 3) and it.metrics()["yieldcleat_request_bytes_held"] == 0
+
+
+def test_a_slow_scraper_stops_nobody(store):
+    it = store("one", "--metrics", "127.0.0.1:0").start()
+    address = next(line.split()[-3] for line in it.log().splitlines() if line.endswith("for metrics"))
+    slow, other, gone = Client(address), Client(address), []
+    threading.Thread(target=drip, args=(slow, gone), daemon=True).start()
+    other.socket.settimeout(15)
+    other.socket.sendall(b"GET /metrics HTTP/1.1\r\n\r\n")
+    assert other.answers.readline() == b"HTTP/1.1 200 OK\r\n"
 
 
 def peak(it):

@@ -3,7 +3,7 @@
 use crate::listener::Listener;
 use crate::metrics::Metrics;
 use std::io::{self, BufRead, BufReader, Read, Write};
-use std::time::Duration;
+use std::time::{Duration, Instant};
 use yieldcleat_client::Stream;
 
 /// The most bytes of a request's head, and how long it may take.
@@ -19,10 +19,27 @@ pub fn serve(listener: &Listener, metrics: &Metrics) -> io::Result<()> {
     }
 }
 
+/// A socket from which all has to come until a time.
+struct Until {
+    stream: Stream,
+    end: Instant,
+}
+
+impl Read for Until {
+    fn read(&mut self, bytes: &mut [u8]) -> io::Result<usize> {
+        let left = self.end.saturating_duration_since(Instant::now());
+        if left.is_zero() {
+            return Err(io::ErrorKind::TimedOut.into());
+        }
+        self.stream.set_timeouts(Some(left), Some(PATIENCE))?;
+        self.stream.read(bytes)
+    }
+}
+
 fn answer(stream: Stream, metrics: &Metrics) -> io::Result<()> {
-    stream.set_timeouts(Some(PATIENCE), Some(PATIENCE))?;
     let mut writer = stream.try_clone()?;
-    let mut reader = BufReader::new(stream.take(MOST));
+    let head = Until { stream, end: Instant::now() + PATIENCE };
+    let mut reader = BufReader::new(head.take(MOST));
     let mut line = String::new();
     reader.read_line(&mut line)?;
     let reply = reply(&line, metrics);
