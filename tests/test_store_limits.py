@@ -2,13 +2,16 @@
 
 import contextlib
 import errno
+import fcntl
+import os
 import resource
+import subprocess
 import threading
 import time
 
 import pytest
 
-from harness import SECONDS
+from harness import SECONDS, environment
 from harness.shims import built
 from harness.store_checks import shows, take, takes, told
 from harness.stores import Client, until
@@ -90,6 +93,30 @@ def test_long_answers_are_not_held_all_at_once(store, is_guarded):
 
 
 # The system
+
+
+def test_a_log_that_nobody_reads_stops_nobody(store_program, disk, tmp_path):
+    """Each time that the disk is full and has room again the server writes two lines, and the pipe has room for a few."""
+    reader, writer = os.pipe()
+    fcntl.fcntl(writer, fcntl.F_SETPIPE_SZ, 4096)
+    full, place = tmp_path / "full", tmp_path / "socket"
+    command = [store_program, "--data", tmp_path / "data", "--listen", f"unix:{place}"]
+    with subprocess.Popen(command, stderr=writer, env=environment(LD_PRELOAD=disk, DISK_FULL=full)) as process:
+        try:
+            assert until(place.exists)
+            client = Client(f"unix:{place}")
+            client.socket.settimeout(10)
+            for number in range(1, 61):
+                full.touch()
+                assert client.ask(take(number)) == b"disk full"
+                full.unlink()
+                assert until(lambda number=number: client.ask(take(number)) == b"unchanged")
+            process.terminate()
+            assert process.wait(10) == 0
+        finally:
+            process.kill()
+            os.close(reader)
+            os.close(writer)
 
 
 def test_an_error_of_accept_passes(store, faults):

@@ -14,6 +14,7 @@ mod histogram;
 mod housekeeping;
 mod http;
 mod listener;
+mod log;
 mod metrics;
 mod options;
 mod server;
@@ -22,18 +23,19 @@ mod session;
 mod signals;
 mod snapshots;
 
+use log::say;
 use options::{Command, HELP};
-use std::fmt::Arguments;
 use std::io::{self, Write};
 use std::process::ExitCode;
 
-/// Writes a line of the server's log.
-fn say(what: Arguments) {
-    // A log that nobody reads stops nothing.
-    let _ = writeln!(io::stderr(), "yieldcleat-store: {what}");
+fn main() -> ExitCode {
+    let status = status();
+    log::end();
+    status
 }
 
-fn main() -> ExitCode {
+/// What the program ends with.
+fn status() -> ExitCode {
     match Command::of_system(std::env::args_os().skip(1)) {
         Ok(Command::Help) => print(HELP),
         Ok(Command::Version) => print(concat!("yieldcleat-store ", env!("CARGO_PKG_VERSION"), "\n")),

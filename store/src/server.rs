@@ -9,7 +9,7 @@ use crate::options::Options;
 use crate::session::{self, Service};
 use crate::signals::Stop;
 use crate::snapshots::Snapshots;
-use crate::{http, say};
+use crate::{http, log, say};
 use std::io;
 use std::sync::atomic::{AtomicBool, AtomicU64, AtomicUsize, Ordering::Relaxed, Ordering::SeqCst};
 use std::sync::mpsc::{self, Sender};
@@ -70,6 +70,7 @@ impl From<yieldcleat_client::Error> for Failure {
 /// Serves until a signal stops it.
 pub fn run(options: &Options) -> Result<(), Failure> {
     let stop = Stop::block().map_err(Failure::System)?;
+    log::start().map_err(Failure::System)?;
     let store = open(options)?;
     let metrics = Arc::new(Metrics::new(options.memory_bytes, options.peers.iter().map(Address::to_string)));
     let snapshots = Arc::new(Snapshots::default());
@@ -206,6 +207,7 @@ fn wait_for_signal(stop: &Stop, service: &Service) {
         Ok(name) => say(format_args!("{name}: answering pending requests, then ending")),
         Err(error) => {
             say(format_args!("cannot handle signals: {error}"));
+            log::end();
             process::abort();
         }
     }
