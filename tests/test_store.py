@@ -193,6 +193,15 @@ def test_a_small_disk(store):
         subprocess.run(["umount", it.data], check=True)
 
 
+def test_the_name_of_a_new_folder_is_flushed(store, disk):
+    """By a later start too, where the flush of the first one has failed."""
+    it = store("one", shim=disk, DISK_FAIL_FLUSH=1)
+    assert it.refused()[0] == 4 and it.data.exists()
+    it.settings["DISK_FAIL_FLUSH"] = 0
+    it.start()
+    assert any(line.endswith(f" {it.folder}") for line in it.flushed.read_text().splitlines())
+
+
 def test_one_flush_for_all_that_wait(store, disk):
     it = store("one", shim=disk, DISK_DELAY=20_000).start()
     clients = [it.client() for _ in range(16)]

@@ -36,9 +36,10 @@ impl Folder {
     /// Errors: `Io` and `Locked`.
     pub fn open(path: &Path) -> Result<Folder, StoreError> {
         match fs::create_dir(path) {
-            Ok(()) => sync(path.parent().filter(|parent| !parent.as_os_str().is_empty()).unwrap_or(Path::new(".")))?,
-            Err(error) if error.kind() == ErrorKind::AlreadyExists => {}
-            Err(error) => return Err(StoreError::io(path)(error)),
+            Err(error) if error.kind() != ErrorKind::AlreadyExists => return Err(StoreError::io(path)(error)),
+            _ if path.join("lock").exists() => {}
+            // The lock comes when the folder's own name is on the disk, so a folder without one may have been left before.
+            _ => sync_name(path)?,
         }
         let (name, names) = (path.join("lock"), File::open(path).map_err(StoreError::io(path))?);
         let lock = OpenOptions::new().create(true).truncate(false).write(true).open(&name).map_err(StoreError::io(&name))?;
@@ -139,6 +140,14 @@ fn draft_of(path: &Path) -> PathBuf {
 /// The names of a folder's files are on the disk when this returns.
 pub fn sync(folder: &Path) -> Result<(), StoreError> {
     File::open(folder).and_then(|it| it.sync_all()).map_err(StoreError::io(folder))
+}
+
+/// The name of a folder is on the disk when this returns, unless this process may not read where the name is.
+fn sync_name(folder: &Path) -> Result<(), StoreError> {
+    match sync(folder.parent().filter(|parent| !parent.as_os_str().is_empty()).unwrap_or(Path::new("."))) {
+        Err(StoreError::Io { error, .. }) if error.kind() == ErrorKind::PermissionDenied => Ok(()),
+        done => done,
+    }
 }
 
 /// What a file is by its name.
