@@ -16,7 +16,7 @@ from harness.shims import built
 from harness.store_checks import shows, take, takes, told
 from harness.stores import Client, until
 from model.facts import PAGE_LEN, Record, Write
-from model.wire import fact_bytes
+from model.wire import fact_bytes, framed
 
 pytestmark = pytest.mark.xdist_group("store")  # which builds the program once
 
@@ -56,6 +56,24 @@ def test_slow_clients_stop_nobody(store):
     assert client.ask(b"front") == b"front 0 0 0"
     assert client.ask(b"x" * 150_000) == b"bad request"
     assert until(lambda: len(gone) == 3) and it.metrics()["yieldcleat_request_bytes_held"] == 0
+
+
+def sip(client, done):
+    """Reads a little of an answer now and then."""
+    with contextlib.suppress(OSError):
+        while not done.is_set() and client.socket.recv(2000):
+            time.sleep(0.02)
+
+
+def test_who_reads_slowly_holds_no_memory_of_requests(store):
+    it, done = store("one", "--frame-bytes", 200_000, "--memory-bytes", 200_000).start(), threading.Event()
+    slow, client = it.client(), it.client()
+    slow.send(b"many " + framed([b"read 1 0 0 4096"] * 7000))
+    threading.Thread(target=sip, args=(slow, done), daemon=True).start()
+    time.sleep(0.5)
+    client.socket.settimeout(10)
+    assert client.ask(b"x" * 150_000) == b"bad request"
+    done.set()
 
 
 def test_a_slow_scraper_stops_nobody(store):

@@ -192,6 +192,10 @@ fn answer(connection: u64, frames: Vec<Frame>, service: &Service, writer: &mut i
             return Ok(false);
         };
         asked = portion.rest;
+        if asked.is_empty() {
+            // The requests are gone, and whoever reads the answers slowly keeps no memory of requests from others.
+            shares.clear();
+        }
         let bytes = settle(&mut verdicts, portion.answers)?;
         service.metrics.sent.fetch_add(bytes.len() as u64, Relaxed);
         writer.write_all(&bytes)?;
