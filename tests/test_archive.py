@@ -113,7 +113,7 @@ WHOLE = frame(b"front")
 
 @pytest.mark.parametrize("text", [b"", WHOLE[:3], WHOLE[:4], WHOLE[:-1], b"\xff\xff\xff\xff" + b"take " * 2000], ids=lambda it: repr(it[:9]))
 def test_archive_torn_frame(segment, text):
-    """An input that ends within a frame is not answered behind the last whole one, and ends well."""
+    """An input that ends within a frame gets no answer after that to its last whole frame, and ends well."""
     segment.own.sendall(WHOLE + text)
     assert segment.answer() == b"front 0 0 0"
 
@@ -184,7 +184,7 @@ def fed(serve, last, choose, begin):
 
 
 def test_eight_at_once(serve, rng, count=8, last=2000):
-    """Segments on as many threads, all within the call at the same time, share nothing and tell the same."""
+    """Segments on as many threads, all within the call at the same time, share nothing and report the same."""
     begin, keys = threading.Barrier(count), [rng.random() for _ in range(count)]
     with ThreadPoolExecutor(count) as pool:
         seen = list(pool.map(lambda key: fed(serve, last, random.Random(key), begin), keys))

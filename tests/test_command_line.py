@@ -44,7 +44,7 @@ DRILLS += [(f"--nodes={nodes} --workers={workers} --size {size}", nodes, size) f
 
 @pytest.mark.parametrize("words", BAD_LINES, ids=lambda words: " ".join(words) or "none")
 def test_bad_command_line(fleet, words):
-    """The first line says that the command line is bad; what follows tells how the program is used."""
+    """The first line says that the command line is bad; what follows says how the program is used."""
     status, output, said = answer(fleet, words, SOUND)
     first, _, more = said.partition(b"\n")
     assert (status, output, first) == (2, b"", b"fleet: bad command line")

@@ -11,7 +11,7 @@ EMPTY = NOTHING.hex()
 
 
 def record(number, page=7, data=b"aa", epoch=0, back=None):
-    """The digits of a record behind the one of the number before, the first of its page."""
+    """The digits of a record that follows the one with the LSN before, the first of its page."""
     return fact_bytes(Record(epoch, number, number - 1 if back is None else back, page, 0, False, (Write(0, data),))).hex()
 
 
@@ -108,7 +108,7 @@ def test_a_finish_replaces(nodes, peer):
 
 
 def test_refused_unions(nodes, peer):
-    """Over unsound facts a union is refused as the first of the told facts would be, and the staging stays."""
+    """Over unsound facts a union is refused as the first of its facts would be, and the staging stays."""
     pieces = peer.snapshot(9)
     other_roster, other_record = nodes(), nodes()
     assert other_roster.ask("open", 2) == "opened"

@@ -47,7 +47,7 @@ def cut_at_the_limit(answers):
 
 
 def test_long_answers_are_bounded(fleet_node, tmp_path):
-    """A short answer always has room: behind answers that exceed the limit a take is carried out and acknowledged. What was answered
+    """A short answer always has room: after answers that exceed the limit a take is carried out and acknowledged. What was answered
     `long` is answered in a frame of its own."""
     pages = range(1, PAGES + 1)
     setup = many([*[record(page, page) for page in pages], advance(PAGES), *[b"fold %d" % page for page in pages], b"discard"])
@@ -64,7 +64,7 @@ def test_long_answers_are_bounded(fleet_node, tmp_path):
 
 @pytest.mark.parametrize("more", [-1, 0], ids=["one fewer", "just too few bytes"])
 def test_the_last_byte_of_the_limit(fleet_node, tmp_path, more):
-    """As many pages as fit, and behind them a beginning of one that takes the bytes that are left, or one byte more."""
+    """As many pages as fit, and after them a beginning of one that takes the bytes that are left, or one byte more."""
     page = b"page a" + bytes(4095)
     count, left = divmod(LIMIT, 4 + len(page))
     size = left - 8 + more

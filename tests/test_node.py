@@ -112,7 +112,7 @@ def test_conversation(fleet_node, form, path):
     [(b"", b""), (b"front", b""), (b"front\nfront", b"front 0 0 0\n"), (b"\n", b"bad line\n"), (b"front\r\n", b"bad line\n")],
 )
 def test_end_of_lines(fleet_node, text, wanted):
-    """What stands behind the last line end is not answered; an empty line is."""
+    """What follows the last line end is not answered; an empty line is."""
     assert answer(fleet_node, [], text) == Answer(0, wanted)
 
 
@@ -185,7 +185,7 @@ def test_bytes_that_are_no_value(fleet_node, request_):
 
 
 def test_many_in_a_frame(fleet_node):
-    """Each of them is answered as if it stood alone, in order."""
+    """Each of them is answered as it would be alone, in order."""
     asked = [b"take " + FACT, b"read 7 3 0 4096", b"", b"many ", b"many " + frame(b"front"), b"bogus", b"front", b"many"]
     wanted = [b"changed", b"page aa" + bytes(4094), *[b"bad request"] * 4, b"front 0 3 0", b"bad request"]
     told = answers_to(fleet_node, many([]) + many(asked) + many([b"front"]))

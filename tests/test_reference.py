@@ -37,7 +37,7 @@ def front_queries(roster, log):
 
 
 def standing_queries(log):
-    """Where each record stands in the view of each epoch."""
+    """The standing of each record in the view of each epoch."""
     cuts = of_kind(Cut, log)
     for record in of_kind(Record, log):
         for view in range(4):

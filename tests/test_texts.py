@@ -45,7 +45,7 @@ LONG = {
 
 @pytest.mark.parametrize("case", NAMED)
 def test_text(fleet, case):
-    """Nothing stands on standard error beside an answer, whatever the answer is."""
+    """Nothing is on standard error beside an answer, whatever the answer is."""
     assert answer(fleet, [case.task], case.text) == Answer(case.status, case.output)
 
 
@@ -90,7 +90,7 @@ WRONG = {
     "a CR": b"min 0 1\r",
     "an empty line": b"",
     "go and a space": b"go ",
-    "a fact behind go": b"go\nmin 0 1",
+    "a fact after go": b"go\nmin 0 1",
     "a g": b"rec 0 1 0 g 0 -",
 }
 ENDS = {"check": b"", "run": b"go\nnodes 1\ntake 1 1050\nfront 1\n"}

@@ -1,8 +1,8 @@
 """A model of how takers of a node's lock sleep and are woken (crates/node_lock/src/sleepers.rt), written by hand from that code.
 
-It goes through every schedule of the atomic steps of a few threads, each of which takes the state and gives it back some times. A park
+It plays every schedule of the atomic steps of a few threads, each of which takes the state and gives it back some times. A park
 may return for no reason. Where no thread can go on and one has not ended, a wake was lost. Nothing ties the model to the code: it says
-that the form is right, and not that the code has it. Two simpler forms that lose a wake-up stand beside it, so that the model can fail.
+that the form is right, and not that the code has it. Two simpler forms that lose a wake-up are beside it, so that the model can fail.
 """
 
 from typing import NamedTuple

@@ -31,7 +31,7 @@ class Declaration(NamedTuple):
 
 
 def texts(lines):
-    """Each line with those below that stand further in, up to one that ends with `where`, as [number, indent, text]; no comments."""
+    """Each line with those below that are indented further, up to one that ends with `where`, as [number, indent, text]; no comments."""
     found = []
     for number, line in enumerate(lines, 1):
         text = line.strip()
@@ -46,7 +46,7 @@ def texts(lines):
 
 
 def declarations(folder):
-    """The records, data types and signatures in this folder of each crate. What a module has stands two columns further in than it."""
+    """The records, data types and signatures in this folder of each crate. What a module has is indented by two columns more than the module."""
     for path in sorted(ROOT.glob(f"crates/*/{folder}/**/*.antt")):
         name = path.relative_to(ROOT)
         modules = []
@@ -64,7 +64,7 @@ def declarations(folder):
 
 
 def statement(text):
-    """The tokens of a type, in which an arrow stands behind each binder, and each bound name is a number, by where it is bound first."""
+    """The tokens of a type, in which an arrow follows each binder, and each bound name is a number, by where it is bound first."""
     text = BETWEEN_BINDERS.sub(" → ", text)
     bound = " ".join(found[1] or found[2] for found in BOUND.finditer(text)).split()
     numbers = {name: f"#{number}" for number, name in enumerate(dict.fromkeys(bound))}

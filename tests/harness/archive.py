@@ -58,7 +58,7 @@ class Segment(Node):
         return as_line(self.told(as_frame(" ".join(map(str, words)))))
 
     def told(self, *requests):
-        """The bytes that answer the last of these requests, which come at once; the answers before are thrown away."""
+        """The bytes that answer the last of these requests, which come at once; the answers before are dropped."""
         self.own.sendall(framed(requests))
         return [self.answer() for _ in requests][-1]
 

@@ -77,7 +77,7 @@ def points_of(choose, of_pieces=False):
 
 
 def book(choose, points):
-    """Truncations, points and waiting advances, which mostly stand above an epoch and rise by epoch, reader and point."""
+    """Truncations, points and waiting advances, which mostly are above an epoch and rise by epoch, reader and point."""
     many, roster = choose.randrange(0, 4), len(points)
     cuts = [cut(choose, epoch) for epoch in numbers(choose, many, many + choose.randrange(0, 3))]
     first = choose.choice((many, many, 1, 0))
@@ -95,7 +95,7 @@ def image(choose, page):
 
 
 def records_of(choose, many, size):
-    """Records behind their number: by rising numbers, mostly of one epoch."""
+    """Records after their number: by rising numbers, mostly of one epoch."""
     epoch = choose.randrange(0, 3)
     parts = [record(choose, epoch + (choose.random() < 0.1), number) for number in numbers(choose, many, max(many, 99))]
     return wire.listed(parts, size, wrong(choose))

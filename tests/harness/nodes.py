@@ -1,4 +1,4 @@
-"""Nodes behind lines or frames, and scripts of nodes that gossip, played with a process or a segment for each node."""
+"""Nodes over lines or frames, and scripts of nodes that gossip, played with a process or a segment for each node."""
 
 import contextlib
 import re
@@ -138,7 +138,7 @@ class Node:
 
 
 class FramedNode(Node):
-    """The same behind frames."""
+    """The same over frames."""
 
     words = ("--frames",)
 

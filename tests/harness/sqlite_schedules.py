@@ -274,7 +274,7 @@ def check_two_admitted(world):
 
 
 def check_another_volume(world):
-    """All servers lose their files, and the place comes to have another volume. Who knew the former one believes nothing of it."""
+    """All servers lose their files, and the place gets another volume. Readers of the former one believe nothing of it."""
     cluster = world.cluster(rows=None)
     for is_made_by_other in (True, False):
         place = cluster.folder / "volume"

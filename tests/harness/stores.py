@@ -157,7 +157,7 @@ class Store:
 
 
 def until(holds):
-    """Whether something comes to hold in time."""
+    """Whether something holds in time."""
     end = time.monotonic() + SECONDS
     while time.monotonic() < end:
         if holds():

@@ -11,7 +11,7 @@ never. The model's side is `model.volume_machine`, which makes the machine's cho
 | engine | `created`, `opened`, `committed`, `durable`, a fault | the same words |
 
 `volume_bytes` has the bytes of what the model speaks of. Where a node has discarded records, its answer to an engine has pages in their
-place; whether it has, its base point tells. What an engine makes of its union for a node is not compared, but what the node then means.
+place; its base point shows whether it has. What an engine makes of its union for a node is not compared, but what the node then means.
 
 Of a take without a question for the front, the network repeats an earlier one, so that each take is answered by a front as in the model.
 The second round of a creation is `fence 0`, and its answer that of a status. Requests that reach a node together come in one frame or each

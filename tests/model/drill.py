@@ -26,7 +26,7 @@ def first_record(number):
 
 
 def later_record(place, lo, hi):
-    """Of epoch 1, which goes on behind what the truncation leaves: each page from its last number there."""
+    """Of epoch 1, which continues after what the truncation leaves: each page from its last number there."""
     number, page = hi + place, (place - 1) % PAGES
     back = lo if place == 1 else number - 1
     last = 0 if lo < page else lo - (lo - page) % PAGES

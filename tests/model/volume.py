@@ -332,7 +332,7 @@ class World:
         self.send_again(engine, i)
 
     def start(self, generation, margin):
-        """An engine opens the volume. `margin` tells how far hi is above lo: "lo", "complete", "seen" or "more"."""
+        """An engine opens the volume. `margin` says how far hi is above lo: "lo", "complete", "seen" or "more"."""
         self.engines.append(Engine(len(self.engines), generation, margin))
         self.send_all("fence", len(self.engines) - 1, generation)
 

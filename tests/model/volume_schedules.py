@@ -119,7 +119,7 @@ def record_of(number):
 
 
 def both(i):
-    """The two nodes that stand for one in a doubled schedule."""
+    """The two nodes that replace one in a doubled schedule."""
     return 2 * i, 2 * i + 1
 
 
@@ -168,7 +168,7 @@ def torn_transaction(s):
 
 
 def fronts_of_two_epochs(s):
-    """Node 2 is ahead by epoch and behind by records."""
+    """Node 2 is ahead by epoch, and lacks records."""
     a = s.committed()
     s.give(a, [2], "fence")
     s.give(a, [2], "take", having=cut_of(1))

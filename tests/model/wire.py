@@ -19,7 +19,7 @@ def fields(*numbers):
 
 
 def listed(parts, size, more=0):
-    """Parts behind their number; with `more` a wrong number."""
+    """Parts after their number; with `more` a wrong number."""
     return fields((max(0, len(parts) + more), size)) + b"".join(parts)
 
 
@@ -76,7 +76,7 @@ def image_bytes(page, content):
 
 
 def piece_bytes(points, name, index, total, kind, content):
-    """A piece of a snapshot: its head (kind 0), a page (1) or records behind their number (2)."""
+    """A piece of a snapshot: its head (kind 0), a page (1) or records after their number (2)."""
     return tag(0x12, points) + fields((name, 8), (index, 4), (total, 4), (kind, 1)) + content
 
 
