@@ -1,6 +1,6 @@
 //! CRC-32C, the checksum of files.
 
-/// The polynomial of Castagnoli, lowest bit first.
+/// The Castagnoli polynomial, lowest bit first.
 const POLYNOMIAL: u32 = 0x82f6_3b78;
 
 const TABLE: [u32; 256] = table();
@@ -15,7 +15,7 @@ const fn table() -> [u32; 256] {
     table
 }
 
-/// The remainder that eight bits leave.
+/// Returns the remainder after eight bits.
 const fn shifted(mut bits: u32) -> u32 {
     let mut count = 0;
     while count < 8 {
@@ -25,7 +25,7 @@ const fn shifted(mut bits: u32) -> u32 {
     bits
 }
 
-/// The checksum of these parts, one after the other.
+/// Returns the checksum of these parts, in order.
 pub fn crc32c(parts: &[&[u8]]) -> u32 {
     let bytes = parts.iter().copied().flatten();
     !bytes.fold(u32::MAX, |sum, byte| sum >> 8 ^ TABLE[usize::from(sum as u8 ^ byte)])
@@ -35,7 +35,7 @@ pub fn crc32c(parts: &[&[u8]]) -> u32 {
 mod tests {
     use super::crc32c;
 
-    /// The values that the definition of iSCSI prints, and that of the digits.
+    /// The values in the definition of iSCSI, and the checksum of the digits 1 to 9.
     #[test]
     fn known_sums() {
         assert_eq!(crc32c(&[b"123456789"]), 0xe306_9283);

@@ -1,8 +1,8 @@
 //! One proved storage segment inside a Rust server.
 //!
-//! A [`Node`] is a segment on a thread of its own, behind a pair of pipes: the archive of the crate `node_c`, which is proved down to
-//! its two descriptors. This package is not proved. What requests and answers are is in the package `client`, whose names this one has
-//! too.
+//! A [`Node`] is a segment on a thread of its own, connected by a pair of pipes. The segment is the archive of the crate `node_c`, which is
+//! proved down to its two descriptors; this package is not proved. The package `client` defines requests and answers, and this package
+//! exports its names.
 //!
 //! ```no_run
 //! use yieldcleat::{Advance, Calls, Node, Patch, Record};
@@ -18,8 +18,8 @@
 //! # }
 //! ```
 //!
-//! A node lives in memory. A [`Store`] is one that comes back after a crash: it writes the requests that have changed the node to a file
-//! before it answers. `src/bin/durable.rs` is a server with one.
+//! A node lives in memory. A [`Store`] is a node that survives a crash: it writes the requests that changed the node to a file before it
+//! returns their answers. `src/bin/durable.rs` is a server with a store.
 
 mod crc32c;
 mod node;

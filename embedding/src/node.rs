@@ -1,4 +1,4 @@
-//! A segment behind a stream.
+//! A segment at the other end of a stream.
 
 use std::fs::File;
 use std::io::{self, BufReader, PipeReader, PipeWriter, Write};
@@ -9,36 +9,37 @@ use std::thread::{self, JoinHandle};
 use yieldcleat_client::{answers, frames, requests, signals, Calls, Error, Status};
 
 extern "C" {
-    /// In `crates/node_c/src/lib.rt`, and told in `include/yieldcleat.h`; nothing compares the declarations.
+    /// Defined in `crates/node_c/src/lib.rt` and declared in `include/yieldcleat.h`. Nothing compares the declarations.
     fn yieldcleat_serve_as(input: i32, output: i32, birth: u64) -> u8;
 }
 
-/// The stack of a segment's thread.
+/// The stack size of a segment's thread, in bytes.
 const STACK: usize = 1 << 20;
 
-/// One segment, which other threads and processes do not share.
+/// A segment that is not shared with other threads or processes.
 ///
-/// A call waits for its answer. Each one may end in `Stopped`, `Memory` and `LongFrame`; each call lists its other errors.
-/// After `Stopped` the node is of no use any more.
+/// Each call waits for its answer, and may return `Stopped`, `Memory` or `LongFrame`; each call lists its other errors. After `Stopped` the
+/// node cannot be used.
 ///
-/// One frame of requests is on its way at a time, and a call returns only after the whole answer to it. So neither side ever waits to
-/// write while the other one does, however few bytes a pipe holds (past a user's soft limit, one page), and no caller's code runs while
-/// an answer is not read yet.
+/// Only one frame of requests is in flight at a time, and a call returns only after it has read the whole answer. So the two sides never
+/// block each other by writing, however few bytes a pipe holds (past a user's soft limit, one page), and no code of the caller runs while
+/// an answer is unread.
 pub struct Node {
     ends: Option<Ends>,
     thread: Option<JoinHandle<u8>>,
-    /// The frame that is sent next.
+    /// The next frame to send.
     request: Vec<u8>,
     answer: Vec<u8>,
-    /// Whether a request was sent whose answer is not read. Where a call begins so, a panic has ended an earlier one.
+    /// Whether a request was sent and its answer is unread. If it is set when a call begins, a panic ended an earlier call, or the segment
+    /// has stopped.
     is_waiting: bool,
 }
 
-/// The ends at this side.
+/// This side's ends of the stream.
 struct Ends {
     reader: BufReader<File>,
     writer: File,
-    /// What has to be shut down for the other side to see an end: both of them are one socket.
+    /// The socket, if both ends are one: it must be shut down for the other side to read the end.
     socket: Option<UnixStream>,
 }
 
@@ -50,30 +51,30 @@ impl Ends {
 
 impl Drop for Ends {
     fn drop(&mut self) {
-        // An error says that the stream has ended already.
+        // An error means that the stream has ended already.
         let _ = self.socket.as_ref().map(|socket| socket.shutdown(Shutdown::Both));
     }
 }
 
 impl Node {
-    /// Starts an empty segment of so many readers, 1 to 15, on a thread of its own.
+    /// Starts an empty segment of `readers` readers, 1 to 15, on a thread of its own.
     ///
-    /// Errors: `NotStarted`, and `BadRequest` for another number of readers.
+    /// Errors: `NotStarted`, `BadRequest` for another number of readers, and `Stopped` if memory runs out at the start.
     pub fn open(readers: u8) -> Result<Node, Error> {
         Node::open_as(readers, 0)
     }
 
-    /// The same for a node of a birth of its own, where several engines may ask it: no earlier life of the node had this number.
+    /// Like `open`, for a node that several engines use. No earlier life of the node may have had this birth.
     pub fn open_as(readers: u8, birth: u64) -> Result<Node, Error> {
         let not_started = |error: io::Error| Error::NotStarted(error.kind());
         Node::over(io::pipe().map_err(not_started)?, io::pipe().map_err(not_started)?, readers, birth)
     }
 
-    /// The same over pipes for its requests and its answers.
+    /// Like `open_as`, over these pipes for requests and answers.
     fn over(requests: (PipeReader, PipeWriter), answers: (PipeReader, PipeWriter), readers: u8, birth: u64) -> Result<Node, Error> {
         let serve = move || {
             signals::block();
-            // SAFETY: the declaration is that of the archive, and both descriptors stay open until the call has returned.
+            // SAFETY: the declaration is that of the archive, and both descriptors stay open until the call returns.
             unsafe { yieldcleat_serve_as(requests.0.as_raw_fd(), answers.1.as_raw_fd(), birth) }
         };
         let mut node = Node::at(Ends::new(answers.0, requests.1, None));
@@ -83,9 +84,10 @@ impl Node {
         Ok(node)
     }
 
-    /// A segment that serves the other end of the stream, as a process of `fleet-node --frames` does. It is what it is: it may have facts.
+    /// Makes a node of a segment that serves the other end of the stream, such as a process of `fleet-node --frames`. The segment is used
+    /// as it is: it may have facts.
     ///
-    /// Its error is `NotStarted`.
+    /// Errors: `NotStarted`.
     pub fn behind(stream: UnixStream) -> Result<Node, Error> {
         let again = || stream.try_clone().map_err(|error| Error::NotStarted(error.kind()));
         Ok(Node::at(Ends::new(again()?, again()?, Some(stream))))
@@ -95,7 +97,7 @@ impl Node {
         Node { ends: Some(ends), thread: None, request: Vec::new(), answer: Vec::new(), is_waiting: false }
     }
 
-    /// Ends the segment, and says how it ended where its thread is this node's.
+    /// Ends the segment. Returns its status if this node runs its thread and the segment had not ended before.
     pub fn close(mut self) -> Option<Status> {
         self.end()
     }
@@ -111,13 +113,13 @@ impl Node {
         Error::Stopped(self.end())
     }
 
-    /// Makes the next frame of these parts, in place of what a call that failed may have left there.
+    /// Builds the next frame of these parts, and replaces what a failed call may have left.
     fn prepare(&mut self, parts: &[&[u8]]) -> Result<(), Error> {
         self.request.clear();
         frames::append(&mut self.request, parts).map_err(|_| Error::LongFrame)
     }
 
-    /// Sends the frame, and reads its answer.
+    /// Sends the frame and reads its answer.
     fn exchange(&mut self) -> Result<&[u8], Error> {
         if self.is_waiting {
             return Err(self.stopped());
@@ -165,11 +167,11 @@ mod tests {
         fn pthread_kill(thread: RawPthread, signal: i32) -> i32;
     }
 
-    /// Sets the capacity of a pipe.
+    /// The command that sets the capacity of a pipe.
     const F_SETPIPE_SZ: i32 = 1031;
     const SIGUSR1: i32 = 10;
 
-    /// A pipe that holds one page, as the system makes it past a user's soft limit.
+    /// Makes a pipe that holds one page, as the system does past a user's soft limit.
     fn narrow() -> (PipeReader, PipeWriter) {
         let pipe = io::pipe().unwrap();
         // SAFETY: the descriptor is open, and the command takes one number.
@@ -183,7 +185,7 @@ mod tests {
         record.encode().unwrap()
     }
 
-    /// What a call returns that is to end soon.
+    /// Returns the result of a call that must end soon.
     fn soon<T: Send + 'static>(call: impl FnOnce() -> T + Send + 'static) -> T {
         let (sender, receiver) = mpsc::channel();
         thread::spawn(move || sender.send(call()));
@@ -199,7 +201,7 @@ mod tests {
             assert_eq!(taken, vec![Ok(Taken::Changed); 3000]);
             let taken = node.take_all(others.iter().map(Vec::as_slice)).unwrap();
             assert_eq!(taken, vec![Err(Error::Refused(Refused::Record)); 3000]);
-            // Requests and answers of more bytes than such a pipe holds.
+            // Requests and answers with more bytes than such a pipe holds.
             let fact = record(3001, 1);
             let request = requests::many(std::iter::repeat_n(&b"read 1 3000 0 4096"[..], 100)).unwrap();
             assert_eq!(node.ask(&request).unwrap().len(), 100 * (4 + 5 + 4096));
@@ -207,7 +209,7 @@ mod tests {
         });
     }
 
-    /// Facts, and then a panic.
+    /// Yields facts, then panics.
     fn panicking(facts: &[Vec<u8>]) -> impl Iterator<Item = &[u8]> {
         let panic = std::iter::from_fn(|| panic!("the caller's iterator"));
         facts.iter().map(Vec::as_slice).chain(panic)
@@ -220,7 +222,7 @@ mod tests {
             let facts: Vec<_> = (1..=600).map(|number| record(number, 1)).collect();
             assert!(catch_unwind(AssertUnwindSafe(|| node.take_all(panicking(&facts)))).is_err());
             assert!(catch_unwind(AssertUnwindSafe(|| node.ask_all(panicking(&[b"front".to_vec()])))).is_err());
-            // Whole frames were taken, and each later answer is that of its request.
+            // Whole frames were taken, and each later answer belongs to its request.
             let front = node.front().unwrap();
             assert_eq!(front, Front { epoch: 0, complete: 2 * MOST as u64, min: 0 });
             assert_eq!(node.take_all(facts.iter().map(Vec::as_slice)).unwrap().len(), 600);
@@ -239,7 +241,7 @@ mod tests {
         }
         let mut node = Node::open(1).unwrap();
         for _ in 0..5 {
-            // It is in its next read by then.
+            // The segment is in its next read by now.
             thread::sleep(Duration::from_millis(50));
             let segment = node.thread.as_ref().map(JoinHandle::as_pthread_t).unwrap();
             // SAFETY: the thread is not joined before the node is dropped.

@@ -1,10 +1,10 @@
-//! A node that comes back. The child is a server over a `Store`: what a request changes is on the disk before it is answered, and now and
-//! then a snapshot takes the place of the log. Its parent is the database, and kills it at random moments. Each time a new child comes
-//! back from the folder, and the parent looks whether something is gone that was acknowledged. It ends by itself, with status 0 where
-//! nothing is, and at the end each page shows what a plain replay of the log shows.
+//! A node that survives crashes. The child is a server over a `Store`: the changes of a request are on the disk before it is answered, and
+//! from time to time a snapshot replaces the log. Its parent acts as the database and kills it at random moments. Each time a new child
+//! restores the node from the folder, and the parent checks that nothing that was acknowledged is lost. The parent ends with status 0 if
+//! nothing is lost and, at the end, each page is that of a plain replay of the log.
 //!
-//!     durable [SEED]            with the files in a new folder of the system's folder for such
-//!     durable --forgetful       a child that keeps nothing, so that something is lost: status 1
+//!     durable [SEED]            the parent, with the files in a new folder of the system's temporary folder
+//!     durable --forgetful       the same with a child that stores nothing, so that records are lost: status 1
 //!     durable serve FOLDER      the child: request frames on standard input, answer frames on standard output
 
 use std::collections::hash_map::RandomState;
@@ -22,10 +22,11 @@ type Failed = Box<dyn std::error::Error>;
 
 // What the child does
 
-/// So many requests come to the log at least before a snapshot takes their place.
+/// The number of requests that the log has at least before a snapshot replaces it.
 const CHECKPOINT: u64 = 100;
 
-/// The next request, and those that have come behind it already, each nothing where it is too long; none where the input has ended.
+/// Reads the next request and those that have arrived whole after it. A request that is too long is `None`; the batch is empty at the end
+/// of the input.
 fn batch(input: &mut BufReader<impl Read>) -> io::Result<Vec<Option<Vec<u8>>>> {
     let (mut batch, mut request) = (Vec::new(), Vec::new());
     while batch.is_empty() || frames::is_whole(input.buffer()) {
@@ -60,7 +61,7 @@ fn serve(mut answers_to: impl FnMut(&[&Vec<u8>]) -> Result<Vec<Vec<u8>>, StoreEr
     }
 }
 
-/// A server that comes back from its folder.
+/// Serves a node that its folder restores.
 fn serve_durably(folder: &Path) -> Result<(), Failed> {
     let home = Home::open(folder)?;
     let node = Node::open_as(1, home.birth())?;
@@ -71,16 +72,16 @@ fn serve_durably(folder: &Path) -> Result<(), Failed> {
     let mut until = CHECKPOINT;
     serve(|batch| {
         if store.logged() >= until {
-            // The log goes on without a snapshot: the disk may be full for now.
+            // The log continues without a snapshot: the disk may be full for now.
             store.checkpoint().unwrap_or_else(|error| eprintln!("durable: no checkpoint: {error}"));
-            // Behind a checkpoint the log has the staging, if there is one: it doubles before it is written again.
+            // After a checkpoint the log has the staging, if there is one: it doubles before it is written again.
             until = 2 * store.logged() + CHECKPOINT;
         }
         store.answer(batch)
     })
 }
 
-/// A server that forgets all when it is killed.
+/// Serves a node that loses everything when it is killed.
 fn serve_forgetfully() -> Result<(), Failed> {
     let mut node = Node::open(1)?;
     serve(|batch| batch.iter().map(|request| Ok(node.ask(request)?.to_vec())).collect())
@@ -91,15 +92,15 @@ fn serve_forgetfully() -> Result<(), Failed> {
 const RECORDS: u64 = 2000;
 const PAGES: u64 = 8;
 const KILLS: u64 = 6;
-/// How many requests it sends before it reads an answer.
+/// The number of records that the parent sends before it reads an answer.
 const WINDOW: u64 = 16;
 
-/// What a record writes to its page, at an offset.
+/// Returns what a record writes to its page, and at which offset.
 fn written(number: u64) -> (u16, [u8; 2]) {
     ((number % 100) as u16 * 2, (number as u16).to_be_bytes())
 }
 
-/// Record `number` of one chain, behind an advance now and then.
+/// Returns record `number` of one chain; every 50th one is followed by an advance.
 fn facts(number: u64) -> Result<Vec<Vec<u8>>, Failed> {
     let (offset, bytes) = written(number);
     let (page, block_back) = ((number % PAGES) as u16, number.saturating_sub(PAGES));
@@ -109,7 +110,7 @@ fn facts(number: u64) -> Result<Vec<Vec<u8>>, Failed> {
     Ok(if number.is_multiple_of(50) { vec![record.encode()?, advance.encode()?] } else { vec![record.encode()?] })
 }
 
-/// A page after all records.
+/// Returns a page after all records.
 fn page(page: u64) -> Vec<u8> {
     let mut image = vec![0; PAGE_LEN];
     for (offset, bytes) in (1..=RECORDS).filter(|number| number % PAGES == page).map(written) {
@@ -155,8 +156,8 @@ impl Server {
         Ok(facts.len() as u64)
     }
 
-    /// Sends the records behind one that was acknowledged, some at once, until another one is. The front alone acknowledges them: an
-    /// answer `unchanged` comes for a record that is there and for one that no page will ever show.
+    /// Sends the records after the last acknowledged one, several at a time, until record `until` is acknowledged. The front alone
+    /// acknowledges them: `unchanged` answers both a repeat and a dead record.
     fn take(&mut self, mut last: u64, until: u64) -> Result<u64, Failed> {
         while last < until {
             let mut sent = 0;
@@ -180,14 +181,14 @@ impl Server {
     }
 }
 
-/// The complete point of a front.
+/// Returns the complete point of a front.
 fn complete(front: &[u8]) -> Result<u64, Failed> {
     let front = std::str::from_utf8(front)?;
     let point = front.strip_prefix("front ").and_then(|rest| rest.split(' ').nth(1));
     Ok(point.ok_or("no front")?.parse()?)
 }
 
-/// A random number below a bound, by Sebastiano Vigna's splitmix64.
+/// A generator of random numbers below a bound, by Sebastiano Vigna's splitmix64.
 struct Random(u64);
 
 impl Random {
@@ -230,7 +231,7 @@ fn run(folder: &Path, word: &str, random: &mut Random) -> Result<(), Failed> {
     Ok(())
 }
 
-/// Each page at the complete point, and the end of the child.
+/// Checks each page at the complete point, and ends the child.
 fn judge(mut server: Server) -> Result<(), Failed> {
     for number in 0..PAGES {
         let answer = server.ask(&format!("read {number} {RECORDS} 0 4096"))?;

@@ -1,6 +1,6 @@
 //! Two processes with a segment in each. The first takes the even records of a log and its truncation, the second the odd records and an
-//! advance; then they gossip over TCP on 127.0.0.1 until both send the same summary, byte for byte. It ends by itself, with status 0
-//! where that is so and a page shows what a plain replay of the log shows.
+//! advance; then they gossip over TCP on 127.0.0.1 until both send the same summary, byte for byte. They end with status 0 if the summaries
+//! become equal and a page is that of a plain replay of the log.
 
 use std::io::BufReader;
 use std::net::{Shutdown, TcpListener, TcpStream};
@@ -12,26 +12,26 @@ use yieldcleat::{Advance, Calls, Node, Patch, Record, Truncation, PAGE_LEN};
 
 type Failed = Box<dyn std::error::Error>;
 
-/// The records of epoch 0; the last two are annulled, and epoch 1 goes on behind `LO`.
+/// The number of records of epoch 0. The last two are annulled, and epoch 1 continues after `LO`.
 const LAST: u64 = 1000;
 const LO: u64 = LAST - 2;
 const HI: u64 = LAST + 10;
 const ROUNDS: u32 = 5;
-/// How long a peer may be silent, or read nothing.
+/// How long a peer may send nothing, or read nothing.
 const PATIENCE: Duration = Duration::from_secs(30);
 
-/// What a record writes to page 3, at an offset.
+/// Returns what a record writes to page 3, and at which offset.
 fn written(number: u64) -> (u16, [u8; 2]) {
     ((number % 64) as u16 * 2, (number as u16).to_be_bytes())
 }
 
-/// Record `number` of one chain, all of one page.
+/// Returns record `number` of one chain, all of one page.
 fn record(epoch: u16, number: u64, back: u64) -> Record {
     let (offset, bytes) = written(number);
     Record { epoch, number, back, page: 3, block_back: back, begins_anew: false, patches: vec![Patch::write(offset, &bytes)] }
 }
 
-/// The log, of which each node takes a part.
+/// Returns the log, which is divided between the nodes.
 fn log() -> Result<Vec<Vec<u8>>, Failed> {
     let mut log: Vec<_> = (1..=LAST).map(|number| record(0, number, number - 1).encode()).collect::<Result<_, _>>()?;
     log.push(Advance { epoch: 0, reader: 1, point: LAST / 2 }.encode()?);
@@ -40,7 +40,7 @@ fn log() -> Result<Vec<Vec<u8>>, Failed> {
     Ok(log)
 }
 
-/// The page after the whole log.
+/// Returns the page after the whole log.
 fn page() -> Vec<u8> {
     let mut page = vec![0; PAGE_LEN];
     for number in (1..=LO).chain([HI + 1]) {
@@ -50,7 +50,7 @@ fn page() -> Vec<u8> {
     page
 }
 
-/// The peer, behind a connection.
+/// A peer, over a connection.
 struct Peer {
     reader: BufReader<TcpStream>,
     frame: Vec<u8>,
@@ -64,15 +64,15 @@ impl Peer {
         Ok(Peer { reader: BufReader::new(stream), frame: Vec::new() })
     }
 
-    /// Sends a frame and receives one, both at once: two peers that send first would stop each other where a frame is longer than what
-    /// the connection holds.
+    /// Sends a frame and receives one at the same time: if both peers sent first, frames that exceed the buffers of the connection would
+    /// block both.
     fn exchange(&mut self, told: &[u8]) -> Result<Vec<u8>, Failed> {
         let mut writer = self.reader.get_ref().try_clone()?;
         std::thread::scope(|scope| {
             let sender = scope.spawn(move || frames::write(&mut writer, told));
             let next = frames::read_within(&mut self.reader, &mut self.frame, frames::LONGEST);
             if !matches!(next, Ok(Next::Frame)) {
-                // So that the sender waits no longer. An error says that the connection has ended already.
+                // This ends the sender. An error means that the connection has ended already.
                 let _ = self.reader.get_ref().shutdown(Shutdown::Both);
             }
             let sent = sender.join().map_err(|_| "the sender failed")?;
@@ -85,7 +85,7 @@ impl Peer {
     }
 }
 
-/// Questions and answers until both summaries are the same; how many rounds it took.
+/// Exchanges summaries and deltas until both summaries are equal, and returns the number of rounds.
 fn gossip(node: &mut Node, peer: &mut Peer) -> Result<u32, Failed> {
     for round in 0..ROUNDS {
         let own = node.summary()?;

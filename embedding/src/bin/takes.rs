@@ -1,4 +1,4 @@
-//! What takes cost through the archive: the records of one chain, each waited for, and then with many on their way at once.
+//! Measures takes through the archive: the records of one chain, first with a wait for each answer, then with many in flight.
 //!
 //!     takes [HOW MANY]
 
@@ -10,14 +10,14 @@ type Failed = Box<dyn std::error::Error>;
 
 const PAGES: u64 = 400;
 
-/// Record `number` of a chain over `PAGES` pages.
+/// Returns record `number` of a chain over `PAGES` pages.
 fn record(number: u64) -> Record {
     let patches = vec![Patch::write(0, &[number as u8])];
     let block_back = number.saturating_sub(PAGES);
     Record { epoch: 0, number, back: number - 1, page: (number % PAGES) as u16, block_back, begins_anew: false, patches }
 }
 
-/// Takes the facts into a new node by a call, and prints how many a second that were.
+/// Takes the facts into a new node by a call, and prints how many it takes a second.
 fn measure(name: &str, facts: &[Vec<u8>], take: impl Fn(&mut Node, &[Vec<u8>]) -> Result<bool, Error>) -> Result<(), Failed> {
     let mut node = Node::open(1)?;
     let begun = Instant::now();

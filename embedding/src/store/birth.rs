@@ -1,5 +1,5 @@
-//! The birth of a node: a number that no earlier life of it had. It is lost together with the node's files, and never changes while they
-//! are there.
+//! The birth of a node: a number that no earlier life of the node had. It is lost together with the node's files, and never changes while
+//! they exist.
 
 use super::errors::StoreError;
 use super::folder::{sync, Folder};
@@ -11,45 +11,45 @@ use std::path::Path;
 const MAGIC: &[u8; 8] = b"yc birth";
 const LENGTH: usize = 20;
 
-/// A folder that no other process opens, and the birth of its node. `Store::open_in` takes it over, so that nobody draws another birth
-/// between the two.
+/// A locked folder, and the birth of its node. `Store::open_in` takes it over with its lock, so no other process can draw another birth in
+/// between.
 pub struct Home {
     folder: Folder,
     birth: u64,
 }
 
 impl Home {
-    /// Opens a folder, or makes it, and reads its birth. A folder without a log of a store gets a new one.
+    /// Opens or creates a folder, and reads its birth. A folder without a log of a store gets a new birth.
     ///
-    /// A birth without a log is not used again: the files may have been lost, and the node would count as one that has what they held.
+    /// A birth without a log is not used again: the files may have been lost, and the node must not count as one that has their contents.
     ///
-    /// Errors: `Io`; `Locked` while a store has the folder open; `Missing` where a file of the store is missing beside others; `Damaged`.
+    /// Errors: `Io`; `Locked` while a store has the folder open; `Missing` if a file of the store is missing beside others; `Damaged`.
     pub fn open(path: &Path) -> Result<Home, StoreError> {
         let folder = Folder::open(path)?;
         let birth = birth_in(path, &folder)?;
         Ok(Home { folder, birth })
     }
 
-    /// The birth with which the node has to be opened, `Node::open_as`.
+    /// Returns the birth with which the node must be opened, by `Node::open_as`.
     pub fn birth(&self) -> u64 {
         self.birth
     }
 
-    /// The folder, which stays locked.
+    /// Returns the folder, which stays locked.
     pub(super) fn into_folder(self) -> Folder {
         self.folder
     }
 }
 
-/// The birth that `Home::open` reads or draws in a folder, with the same errors.
+/// Reads or draws the birth of a folder as `Home::open` does, with the same errors.
 ///
-/// The folder is free again when this returns. Another process that starts at this time may draw another birth before a store opens the
-/// folder, and the folder keeps only the last one. So open a store in a `Home` wherever that may be.
+/// The folder is unlocked when this returns. Another process may draw another birth before a store opens the folder, which keeps only the
+/// last one. If that can happen, open a store in a `Home`.
 pub fn birth(folder: &Path) -> Result<u64, StoreError> {
     Home::open(folder).map(|home| home.birth())
 }
 
-/// The birth of a folder that is locked.
+/// Reads or draws the birth of a locked folder.
 fn birth_in(folder: &Path, lock: &Folder) -> Result<u64, StoreError> {
     let path = folder.join("birth");
     match File::open(&path) {
@@ -83,13 +83,13 @@ fn encoded(birth: u64) -> Vec<u8> {
     bytes
 }
 
-/// The birth of a folder without files.
+/// Draws the birth of a folder without files.
 fn draw(folder: &Path, path: &Path) -> Result<u64, StoreError> {
     refuse_files(folder, path)?;
     write(folder, path)
 }
 
-/// Writes a birth that nobody had, all of it or nothing.
+/// Draws a new birth and writes it, all of it or nothing.
 fn write(folder: &Path, path: &Path) -> Result<u64, StoreError> {
     let birth = random().map_err(StoreError::io(Path::new(RANDOM)))?;
     let draft = folder.join("birth.draft");
@@ -100,7 +100,7 @@ fn write(folder: &Path, path: &Path) -> Result<u64, StoreError> {
     Ok(birth)
 }
 
-/// A folder whose node has lived must have its birth.
+/// Refuses a folder that has files of a store and no birth.
 fn refuse_files(folder: &Path, path: &Path) -> Result<(), StoreError> {
     for entry in fs::read_dir(folder).map_err(StoreError::io(folder))? {
         let name = entry.map_err(StoreError::io(folder))?.file_name();

@@ -1,21 +1,22 @@
-//! What the system keeps of a file. The standard library has no call for it, so this one file of the store calls the system's library.
+//! The system's cache of a file. The standard library has no call for it, so this file calls the C library; no other file of the store
+//! does.
 
 use std::fs::File;
 use std::os::fd::AsRawFd;
 
-/// The advice that the bytes of a file are not needed soon.
+/// The advice that the bytes of a file will not be needed soon.
 const NOT_NEEDED: i32 = 4;
 
 extern "C" {
     fn posix_fadvise(descriptor: i32, from: i64, count: i64, advice: i32) -> i32;
 }
 
-/// Drops what the system keeps of a file that is flushed: from now on it is read from the disk.
+/// Drops the system's cache of a flushed file, so that later reads come from the disk.
 ///
-/// After a flush that was refused the system may keep bytes that the disk does not have, show them to each reader, and flush without an
-/// error, although it never writes them.
+/// After a failed flush the cache may have bytes that the disk does not have. Readers get these bytes, and later flushes succeed although
+/// the system never writes them.
 pub fn drop_kept(file: &File) {
-    // SAFETY: the descriptor is open, and the call takes numbers alone. A count of 0 stands for all bytes.
-    // An error says that the system knows no advice for this file, and then keeps its bytes.
+    // SAFETY: the descriptor is open, and the call takes only numbers. A count of 0 means all bytes.
+    // An error means that the system does not take the advice for this file, and keeps its cache.
     let _ = unsafe { posix_fadvise(file.as_raw_fd(), 0, 0, NOT_NEEDED) };
 }

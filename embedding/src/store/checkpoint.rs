@@ -1,7 +1,7 @@
 //! A snapshot that is written piece by piece while its store answers.
 //!
-//! The node keeps what it had when the snapshot was frozen. From then on each change goes to two logs: to the present one, which a crash
-//! needs until the snapshot has its name, and to the one of the next generation, which begins after the snapshot.
+//! The node keeps the snapshot as it was frozen. Each later change goes to two logs: to the present one, which a crash needs until the
+//! snapshot is renamed, and to that of the next generation, which begins after the snapshot.
 
 use super::errors::StoreError;
 use super::folder::{Draft, Whole};
@@ -12,24 +12,24 @@ use std::io;
 use std::thread::{self, JoinHandle};
 use yieldcleat_client::{engines, requests, Admission, Calls, EngineCalls, Membership, Name};
 
-/// What a node has frozen: so many pieces, and the requests after them.
+/// A snapshot that a node has frozen: the number of its pieces, and the requests after them.
 pub struct Frozen {
     pub total: u32,
     pub last: Vec<Vec<u8>>,
 }
 
 impl Frozen {
-    /// Freezes a node's segment, and notes what its guard is.
+    /// Freezes a node's segment, and records the state of its guard.
     pub fn of(node: &mut Node, name: u64) -> Result<Frozen, StoreError> {
         let Membership { generation, birth, is_member, front, accepted } = node.membership()?;
         let total = node.freeze(name)?;
-        // A node that is no member has a guard as each new one.
+        // A node that is not a member has the guard of a new node.
         let name = Name { generation, birth };
         let admitted = is_member.then(|| engines::admit(&Admission { name, epoch: front.epoch, complete: front.complete, accepted }));
         Ok(Frozen { total, last: [requests::finish()].into_iter().chain(admitted).collect() })
     }
 
-    /// How many entries the snapshot has.
+    /// Returns the number of entries of the snapshot's file.
     pub fn entries(&self) -> u64 {
         1 + u64::from(self.total) + self.last.len() as u64
     }
@@ -37,42 +37,43 @@ impl Frozen {
 
 #[cfg(test)]
 impl Checkpoint {
-    /// From now on the system refuses to write the log after the snapshot.
+    /// Makes the system refuse to write the log after the snapshot.
     pub fn refuse(&mut self) {
         self.log.refuse();
     }
 }
 
-/// A snapshot that is not whole, and the log after it. After an error it is of no use.
+/// An unfinished snapshot, and the log after it. After an error it must be dropped.
 pub struct Checkpoint {
     pub generation: u64,
     snapshot: Draft,
-    /// The next piece, and how many there are.
+    /// The next piece to write.
     next: u32,
+    /// The number of pieces.
     total: u32,
-    /// What comes after the pieces: the end of the staging, and what the guard was.
+    /// The requests after the pieces: the end of the staging, and the admission of the guard.
     last: Vec<Vec<u8>>,
-    /// The thread that gives the snapshot to the disk, when it has all pieces.
+    /// The thread that flushes the snapshot, once all pieces are written.
     flushing: Option<JoinHandle<io::Result<()>>>,
     log: Log,
     pub progress: Progress,
 }
 
 impl Checkpoint {
-    /// A snapshot of pieces that the node has frozen, in a draft that has none of them.
+    /// Makes a checkpoint of a frozen snapshot, in a draft without pieces.
     pub fn new(generation: u64, snapshot: Draft, frozen: Frozen, log: Log, progress: Progress) -> Checkpoint {
         let Frozen { total, last } = frozen;
         Checkpoint { generation, snapshot, next: 0, total, last, flushing: None, log, progress }
     }
 
-    /// Whether the node is asked for more pieces, so that it may freeze nothing else.
+    /// Returns whether pieces are still needed from the node, which must not freeze another snapshot then.
     pub fn needs_pieces(&self) -> bool {
         self.flushing.is_none()
     }
 
     /// Appends changes to the log after the snapshot. They are on the disk when `end` returns.
     ///
-    /// Errors: `Io`, also where there is no room, and `TooLong`.
+    /// Errors: `Io`, also if there is no room, and `TooLong`.
     pub fn write(&mut self, changes: &[u8]) -> Result<(), StoreError> {
         self.log.append_unflushed(changes).map_err(|error| match error {
             StoreError::Full { path, error } => StoreError::Io { path, error },
@@ -80,7 +81,7 @@ impl Checkpoint {
         })
     }
 
-    /// Writes up to so many more pieces. The result is true when the snapshot is on the disk, or the disk has failed.
+    /// Writes up to `pieces` more pieces. Returns true once the snapshot is on the disk, or its flush has failed.
     pub fn go_on(&mut self, node: &mut Node, pieces: u32) -> Result<bool, StoreError> {
         if let Some(thread) = &self.flushing {
             return Ok(thread.is_finished());
@@ -101,7 +102,7 @@ impl Checkpoint {
         Ok(false)
     }
 
-    /// Waits until the snapshot and the log after it are on the disk. The snapshot may have its name then.
+    /// Waits until the snapshot and the log after it are on the disk. The snapshot may be renamed then.
     pub fn end(mut self) -> Result<(Whole, Log, Progress), StoreError> {
         let flushed = self.flushing.take().map(JoinHandle::join);
         match flushed {

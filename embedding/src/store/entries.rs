@@ -2,12 +2,12 @@
 //!
 //! | Part | Bytes |
 //! |---|---|
-//! | header | the kind (8), the generation (8), a random salt (8), how many entries there are (8, 0 in a log), CRC-32C of these (4) |
-//! | entry | its place from 0 (8), its length (4), CRC-32C of its bytes (4), CRC-32C of the salt and of these (4); its bytes: request frames |
+//! | header | the kind (8), the generation (8), a random salt (8), the number of entries (8, 0 in a log), CRC-32C of these (4) |
+//! | entry | its place from 0 (8), its length (4), CRC-32C of its bytes (4), CRC-32C of salt and these (4); its bytes: request frames |
 //!
-//! A log grows by one entry at a time, and each is on the disk before the next one is written. So a crash can spoil the last one alone,
-//! in any of its sectors: where a whole head follows a spoiled entry, the file was damaged. The salt keeps bytes that somebody
-//! sent in a request from being taken for a head.
+//! A log grows by one entry at a time, and each entry is on the disk before the next one is written. So a crash can spoil only the last
+//! entry, in any of its sectors; a spoiled entry with a whole head after it means that the file was damaged. The salt prevents bytes that a
+//! client sent in a request from being taken for a head.
 
 use super::errors::StoreError;
 use crate::crc32c::crc32c;
@@ -28,7 +28,7 @@ pub enum Kind {
 }
 
 impl Kind {
-    /// What its file begins with, the version of this format included.
+    /// Returns the first bytes of the file, which include the version of the format.
     fn magic(self) -> &'static [u8; 8] {
         match self {
             Kind::Log => b"yc log 1",
@@ -44,23 +44,23 @@ impl Kind {
     }
 }
 
-/// The bytes of an entry that has this request alone.
+/// Returns the size of an entry that has only this request, in bytes.
 pub fn length(request: &[u8]) -> u64 {
     (HEAD + 4 + request.len()) as u64
 }
 
-/// The number of so many bytes from an offset on; the bytes are there.
+/// Decodes the number in `count` bytes from an offset on, which must exist.
 fn number(bytes: &[u8], from: usize, count: usize) -> u64 {
     bytes[from..from + count].iter().fold(0, |number, byte| number << 8 | u64::from(*byte))
 }
 
-/// How a file begins.
+/// The header of a file.
 #[derive(Debug, Clone, Copy, PartialEq, Eq)]
 pub struct Header {
     pub kind: Kind,
     pub generation: u64,
     pub salt: u64,
-    /// How many entries a snapshot has.
+    /// The number of entries of a snapshot, and 0 in a log.
     pub count: u64,
 }
 
@@ -76,14 +76,14 @@ impl Header {
         bytes
     }
 
-    /// The header that these bytes are, if they are one of this kind and generation.
+    /// Decodes a header of this kind and generation.
     fn of(bytes: &[u8], kind: Kind, generation: u64) -> Option<Header> {
         let header =
             (bytes.len() == HEADER).then(|| Header { kind, generation, salt: number(bytes, 16, 8), count: number(bytes, 24, 8) })?;
         (header.bytes() == bytes).then_some(header)
     }
 
-    /// Appends the entry of that place to a buffer.
+    /// Appends the entry of this place to a buffer.
     pub fn append_entry(&self, buffer: &mut Vec<u8>, place: u64, bytes: &[u8]) -> Result<(), StoreError> {
         let length = u32::try_from(bytes.len()).map_err(|_| StoreError::TooLong)?;
         let head = Head { place, length, sum: crc32c(&[bytes]) };
@@ -93,7 +93,7 @@ impl Header {
     }
 }
 
-/// How an entry begins.
+/// The head of an entry.
 #[derive(Debug, Clone, Copy, PartialEq, Eq)]
 struct Head {
     place: u64,
@@ -108,7 +108,7 @@ impl Head {
         bytes
     }
 
-    /// The head that the first bytes are, if they are one.
+    /// Decodes the head in the first bytes.
     fn of(bytes: &[u8], salt: u64) -> Option<Head> {
         let bytes = bytes.get(..HEAD)?;
         let is_whole = u64::from(crc32c(&[&salt.to_be_bytes(), &bytes[..16]])) == number(bytes, 16, 4);
@@ -123,7 +123,7 @@ pub enum Next {
     Entry,
     /// The end of the file.
     End,
-    /// No whole entry.
+    /// Something that is not a whole entry.
     Spoiled,
 }
 
@@ -132,12 +132,15 @@ pub struct Entries {
     path: PathBuf,
     reader: BufReader<File>,
     header: Header,
-    /// The place of the next entry, and its offset.
+    /// The place of the next entry.
     place: u64,
+    /// The offset of the next entry.
     offset: u64,
 }
 
 impl Entries {
+    /// Opens a file and reads its header.
+    ///
     /// Errors: `Io`, and `Damaged` for a file that does not begin with the header of this kind and generation.
     pub fn open(path: &Path, kind: Kind, generation: u64) -> Result<Entries, StoreError> {
         let (mut bytes, file) = (Vec::new(), File::open(path).map_err(StoreError::io(path))?);
@@ -156,7 +159,7 @@ impl Entries {
         self.place
     }
 
-    /// Where the whole entries end that were read.
+    /// Returns the offset at which the whole entries that were read end.
     pub fn offset(&self) -> u64 {
         self.offset
     }
@@ -165,9 +168,9 @@ impl Entries {
         StoreError::Damaged { path: self.path.clone(), offset: self.offset }
     }
 
-    /// Reads the next entry into the buffer, in place of what it had.
+    /// Reads the next entry into the buffer, whose contents it replaces.
     ///
-    /// Its error is `Io`.
+    /// Errors: `Io`.
     pub fn next(&mut self, bytes: &mut Vec<u8>) -> Result<Next, StoreError> {
         self.read(HEAD as u64, bytes)?;
         if bytes.is_empty() {
@@ -190,14 +193,14 @@ impl Entries {
         self.reader.by_ref().take(length).read_to_end(bytes).map(drop).map_err(StoreError::io(&self.path))
     }
 
-    /// The requests of an entry.
+    /// Splits an entry into its requests.
     pub fn requests<'a>(&self, bytes: &'a [u8]) -> Result<Vec<&'a [u8]>, StoreError> {
         frames::inside(bytes).ok_or_else(|| self.damaged())
     }
 
-    /// How many bytes follow the whole entries: what a crash has left of the last one.
+    /// Returns the number of bytes after the whole entries: what a crash has left of the last one.
     ///
-    /// Errors: `Io`, and `Damaged` where no crash leaves them so, since something was written after them.
+    /// Errors: `Io`, and `Damaged` if no crash leaves such bytes, because something was written after them.
     pub fn torn(&mut self) -> Result<u64, StoreError> {
         let mut rest = Vec::new();
         self.reader.seek(SeekFrom::Start(self.offset)).map_err(StoreError::io(&self.path))?;
@@ -212,7 +215,7 @@ impl Entries {
         }
     }
 
-    /// Whether a head of this file stands anywhere in these bytes.
+    /// Returns whether a head of this file is anywhere in these bytes.
     fn has_head(&self, bytes: &[u8]) -> bool {
         let most = self.place.saturating_add(bytes.len() as u64);
         bytes.windows(HEAD).any(|it| number(it, 0, 8) <= most && Head::of(it, self.header.salt).is_some())

@@ -1,40 +1,40 @@
-//! Why a store does not open, or does not answer.
+//! Why a store cannot be opened, or does not answer.
 
 use std::path::{Path, PathBuf};
 use std::{fmt, io};
 use yieldcleat_client::Error;
 
-/// Why a store does not open, or does not answer. Its files stay as they are, but for a torn end of the log, which is cut off.
+/// Why a store cannot be opened, or does not answer. Its files stay as they are, except for a torn end of the log, which is cut off.
 #[derive(Debug)]
 pub enum StoreError {
-    /// The system refuses to read or write a file or the folder.
+    /// The system refused to read or write a file or the folder.
     Io { path: PathBuf, error: io::Error },
-    /// The disk is full, or a limit on the files is reached. Nothing of the batch is acknowledged, what it has changed in the node is
-    /// kept to be written first, and the next call may succeed.
+    /// The disk is full, or a limit on the files is reached. Nothing of the batch is acknowledged; what it changed in the node is kept and
+    /// written first by the next call, which may succeed.
     Full { path: PathBuf, error: io::Error },
     /// Another store has this folder open.
     Locked { folder: PathBuf },
-    /// A file that belongs to those in the folder is not there.
+    /// A file is missing that the other files of the folder need.
     Missing { path: PathBuf },
-    /// From this offset on a file does not have what was written, and no crash leaves it so.
+    /// A file differs from what was written, from this offset on, in a way that no crash causes.
     Damaged { path: PathBuf, offset: u64 },
-    /// The node answers a request of the files otherwise than when it was written down: with `memory`, say.
+    /// The node answered a logged request differently than before, for example with `memory`.
     Unexpected { request: String, answer: String },
-    /// The node does not answer.
+    /// A call to the node failed.
     Node(Error),
-    /// The requests of one batch have 2^32 bytes or more.
+    /// A request, an answer or the changes of one batch have 2^32 bytes or more.
     TooLong,
-    /// An earlier call has failed, so that the node may have changes that the log does not have. Open the folder again.
+    /// An earlier call failed, so the node may have changes that the log lacks. Open the folder again.
     Stopped,
 }
 
 impl StoreError {
-    /// Whether an error of the system says that there is no room, which passes.
+    /// Returns whether an error of the system means that there is no room, which may pass.
     pub(super) fn is_full(error: &io::Error) -> bool {
         matches!(error.kind(), io::ErrorKind::StorageFull | io::ErrorKind::QuotaExceeded | io::ErrorKind::FileTooLarge)
     }
 
-    /// What was to be done with a file, and why it was not.
+    /// Converts an error of the system for this file.
     pub(super) fn io(path: &Path) -> impl FnOnce(io::Error) -> StoreError + '_ {
         move |error| StoreError::Io { path: path.to_path_buf(), error }
     }

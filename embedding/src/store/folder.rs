@@ -1,8 +1,8 @@
-//! The folder of a store: a lock, and of each generation a log `log.N` and a snapshot `snapshot.N`, after which that log begins.
+//! The folder of a store: a lock, and for each generation a log `log.N`, which begins after the snapshot `snapshot.N`.
 //!
 //! Generation 0 has no snapshot: its log begins with an empty segment. The store is at the newest generation that has a snapshot. A
-//! checkpoint writes the next log, then the next snapshot, each under the name of a draft until it is whole and on the disk; with the
-//! snapshot's own name the next generation begins, and then the older files go.
+//! checkpoint writes the next log, then the next snapshot, each under a draft name until it is whole and on the disk. The next generation
+//! begins when the snapshot is renamed; then the older files are removed.
 
 use super::entries::{Header, Kind};
 use super::errors::StoreError;
@@ -10,35 +10,35 @@ use std::fs::{self, File, OpenOptions, TryLockError};
 use std::io::{self, BufWriter, ErrorKind, Write};
 use std::path::{Path, PathBuf};
 
-/// The end of the name of a file that is not whole yet.
+/// The suffix of the name of an unfinished file.
 const DRAFT: &str = ".draft";
 
 pub struct Folder {
     path: PathBuf,
-    /// The folder itself. It stays open: where no more files can be opened, names still get to the disk.
+    /// The folder itself. It stays open, so that names can be flushed even if the process cannot open more files.
     names: File,
-    /// Held for as long as the store is open.
+    /// Locked while the store is open.
     lock: File,
 }
 
 impl Drop for Folder {
-    /// A process that is being started has a copy of the descriptor until it runs its own program, and with it the lock: closing ours
-    /// does not free it. So it is unlocked.
+    /// Unlocks the folder. A process that is being started has a copy of the descriptor, and with it the lock, until it runs its own
+    /// program, so closing our descriptor does not release the lock.
     fn drop(&mut self) {
-        // An error leaves what closing it does.
+        // If this fails, closing the descriptor may still release the lock.
         let _ = self.lock.unlock();
     }
 }
 
 impl Folder {
-    /// Opens a folder, or makes it, for this store alone.
+    /// Opens or creates a folder, and locks it for this store.
     ///
     /// Errors: `Io` and `Locked`.
     pub fn open(path: &Path) -> Result<Folder, StoreError> {
         match fs::create_dir(path) {
             Err(error) if error.kind() != ErrorKind::AlreadyExists => return Err(StoreError::io(path)(error)),
             _ if path.join("lock").exists() => {}
-            // The lock comes when the folder's own name is on the disk, so a folder without one may have been left before.
+            // The lock file is created after the folder's name is flushed, so the name of a folder without one may not be on the disk.
             _ => sync_name(path)?,
         }
         let (name, names) = (path.join("lock"), File::open(path).map_err(StoreError::io(path))?);
@@ -54,14 +54,14 @@ impl Folder {
         self.path.join(format!("{}.{generation}", kind.name()))
     }
 
-    /// The bytes of a file; none where there is no such file.
+    /// Returns the size of a file in bytes; 0 if there is no such file.
     pub fn length(&self, kind: Kind, generation: u64) -> u64 {
         fs::metadata(self.path(kind, generation)).map_or(0, |it| it.len())
     }
 
-    /// The generation at which the store is, if it has one.
+    /// Returns the generation of the store; `None` if the folder has no files of one.
     ///
-    /// Errors: `Io`, and `Missing` where the files that there are need one that is not there.
+    /// Errors: `Io`, and `Missing` if a file is missing that the others need.
     pub fn generation(&self) -> Result<Option<u64>, StoreError> {
         let (mut logs, mut snapshots) = (Vec::new(), Vec::new());
         for file in self.files()? {
@@ -72,7 +72,7 @@ impl Folder {
             }
         }
         let newest = snapshots.iter().copied().max().unwrap_or(0);
-        // A checkpoint that did not end leaves the next log.
+        // An unfinished checkpoint leaves the next log.
         let later = logs.iter().copied().find(|log| *log > newest + 1);
         if let Some(log) = later {
             return Err(StoreError::Missing { path: self.path(Kind::Snapshot, log) });
@@ -84,7 +84,7 @@ impl Folder {
         }
     }
 
-    /// The files of stores that the folder has. It may have other ones.
+    /// Lists the files of stores in the folder, which may have other files.
     fn files(&self) -> Result<Vec<Named>, StoreError> {
         let names = fs::read_dir(&self.path).map_err(StoreError::io(&self.path))?;
         let names: Result<Vec<_>, _> = names.map(|entry| entry.map(|it| it.file_name())).collect();
@@ -92,7 +92,7 @@ impl Folder {
         Ok(names.iter().filter_map(|name| Named::of(name.to_str()?)).collect())
     }
 
-    /// Removes what does not belong to a generation.
+    /// Removes the logs and snapshots of other generations.
     pub fn remove_others(&self, generation: u64) -> Result<(), StoreError> {
         for file in self.files()? {
             let path = match file {
@@ -105,8 +105,8 @@ impl Folder {
         Ok(())
     }
 
-    /// Removes what a checkpoint to a generation has written that failed, or that a crash has ended, before the generation began. What
-    /// cannot be removed goes with the next one.
+    /// Removes the files of a checkpoint that failed, or that a crash ended, before its generation began. A file that cannot be removed is
+    /// replaced by the next checkpoint.
     pub fn remove_drafts(&self, generation: u64) {
         let (log, snapshot) = (self.path(Kind::Log, generation), self.path(Kind::Snapshot, generation));
         for path in [draft_of(&snapshot), draft_of(&log), log] {
@@ -114,7 +114,7 @@ impl Folder {
         }
     }
 
-    /// Begins a file of a kind, in place of an older draft of it.
+    /// Creates a draft of a file of this kind, in place of an older one.
     pub fn draft(&self, header: Header) -> Result<Draft, StoreError> {
         let path = self.path(header.kind, header.generation);
         let draft = draft_of(&path);
@@ -124,25 +124,25 @@ impl Folder {
         Ok(Draft { path, draft, writer, header, place: 0, entry: Vec::new() })
     }
 
-    /// The names of the files are on the disk when this returns.
+    /// Waits until the names of the files are on the disk.
     pub fn sync(&self) -> Result<(), StoreError> {
         self.names.sync_all().map_err(StoreError::io(&self.path))
     }
 }
 
-/// The name under which a file is written.
+/// Returns the name under which an unfinished file is written.
 fn draft_of(path: &Path) -> PathBuf {
     let mut name = path.as_os_str().to_owned();
     name.push(DRAFT);
     name.into()
 }
 
-/// The names of a folder's files are on the disk when this returns.
+/// Waits until the names of a folder's files are on the disk.
 pub fn sync(folder: &Path) -> Result<(), StoreError> {
     File::open(folder).and_then(|it| it.sync_all()).map_err(StoreError::io(folder))
 }
 
-/// The name of a folder is on the disk when this returns, unless this process may not read where the name is.
+/// Waits until the name of a folder is on the disk, unless this process may not read the parent folder.
 fn sync_name(folder: &Path) -> Result<(), StoreError> {
     match sync(folder.parent().filter(|parent| !parent.as_os_str().is_empty()).unwrap_or(Path::new("."))) {
         Err(StoreError::Io { error, .. }) if error.kind() == ErrorKind::PermissionDenied => Ok(()),
@@ -150,7 +150,7 @@ fn sync_name(folder: &Path) -> Result<(), StoreError> {
     }
 }
 
-/// What a file is by its name.
+/// A file, as identified by its name.
 enum Named {
     Log(u64),
     Snapshot(u64),
@@ -171,7 +171,7 @@ impl Named {
     }
 }
 
-/// A file that is not whole yet.
+/// An unfinished file.
 pub struct Draft {
     path: PathBuf,
     draft: PathBuf,
@@ -190,29 +190,29 @@ impl Draft {
         self.writer.write_all(&self.entry).map_err(StoreError::io(&self.draft))
     }
 
-    /// All of it is on the disk when this returns; its name is not.
+    /// Writes all of it to the disk, except its name.
     pub fn sync(mut self) -> Result<Whole, StoreError> {
         self.written()?.sync_all().map_err(self.failure())?;
         Ok(self.whole())
     }
 
-    /// Gives all of it to the system, and returns the file, so that another thread can give it to the disk.
+    /// Passes all of it to the system, and returns the file, so that another thread can flush it.
     pub fn written(&mut self) -> Result<File, StoreError> {
         self.writer.flush().and_then(|()| self.writer.get_ref().try_clone()).map_err(StoreError::io(&self.draft))
     }
 
-    /// The file, when it is on the disk.
+    /// Marks the file as whole; it must be on the disk.
     pub fn whole(self) -> Whole {
         Whole { path: self.path, draft: self.draft }
     }
 
-    /// What an error of the system means for the file.
+    /// Converts an error of the system for this file.
     pub fn failure(&self) -> impl FnOnce(io::Error) -> StoreError + '_ {
         StoreError::io(&self.draft)
     }
 }
 
-/// A file that is whole, under the name of its draft.
+/// A whole file under its draft name.
 pub struct Whole {
     path: PathBuf,
     draft: PathBuf,

@@ -1,4 +1,4 @@
-//! The log of requests that have come since a snapshot.
+//! The log of the requests after a snapshot.
 
 use super::cache::drop_kept;
 use super::entries::{Entries, Header, Kind, Next};
@@ -8,28 +8,30 @@ use std::io::{self, Write};
 use std::path::{Path, PathBuf};
 use std::time::{Duration, Instant};
 
-/// A log whose entries are all on the disk, to which more are appended.
+/// A log to which entries are appended. All of them are on the disk, except those of `append_unflushed` before the next `flush`.
 pub struct Log {
     path: PathBuf,
     file: File,
     header: Header,
-    /// The place of the next entry, and its offset.
+    /// The place of the next entry.
     place: u64,
+    /// The offset of the next entry.
     length: u64,
     entry: Vec<u8>,
 }
 
 impl Log {
-    /// Opens a log, hands the requests of each entry to `each`, and cuts off what a crash has left of the last entry. The second result
-    /// is how many bytes that were.
+    /// Opens a log, passes the requests of each entry to `each`, and cuts off what a crash has left of the last entry. Also returns the
+    /// number of bytes that were cut off.
     ///
-    /// Errors: `Io`, `Damaged`, and those of `each`; nothing is cut off then.
+    /// Errors: `Io`, `Damaged`, and those of `each`. Nothing is cut off then, unless `Io` is the error of the flush after the cut.
     pub fn recover<F>(path: &Path, generation: u64, mut each: F) -> Result<(Log, u64), StoreError>
     where
         F: FnMut(&[&[u8]]) -> Result<(), StoreError>,
     {
         let file = OpenOptions::new().append(true).open(path).map_err(StoreError::io(path))?;
-        // The last entry may not be on the disk: its writer was killed before it could wait for that, or its flush was refused.
+        // The last entry may not be on the disk: its writer may have been killed after it gave the bytes to the system and before it
+        // flushed, or the flush may have failed.
         file.sync_all().map_err(StoreError::io(path))?;
         drop_kept(&file);
         let (mut entries, mut bytes) = (Entries::open(path, Kind::Log, generation)?, Vec::new());
@@ -47,14 +49,14 @@ impl Log {
         Ok((Log { path, file, header, place, length, entry: Vec::new() }, torn))
     }
 
-    /// How many bytes the log has.
+    /// Returns the size of the log in bytes.
     pub fn length(&self) -> u64 {
         self.length
     }
 
-    /// Appends an entry of request frames, and returns how long the disk took to have it. It is on the disk when this returns.
+    /// Appends an entry of request frames, waits until it is on the disk, and returns the duration of the flush.
     ///
-    /// Errors: `Full`, and the log is as it was; `Io` and `TooLong`, and the log is of no use any more.
+    /// Errors: `Full`, which leaves the log as it was; `Io` and `TooLong`, after which the log must not be used.
     pub fn append(&mut self, requests: &[u8]) -> Result<Duration, StoreError> {
         self.write(requests)?;
         let begin = Instant::now();
@@ -63,7 +65,7 @@ impl Log {
         Ok(begin.elapsed())
     }
 
-    /// The same, and does not wait for the disk: only for a log that is not in use before it is flushed.
+    /// Like `append`, but does not wait for the disk: for a log that is flushed before it is used.
     pub fn append_unflushed(&mut self, requests: &[u8]) -> Result<(), StoreError> {
         self.write(requests)?;
         self.count();
@@ -72,7 +74,7 @@ impl Log {
 
     /// Waits until all entries are on the disk.
     ///
-    /// Its error is `Io`, and the log is of no use any more.
+    /// Errors: `Io`, after which the log must not be used.
     pub fn flush(&mut self) -> Result<(), StoreError> {
         self.file.sync_data().map_err(StoreError::io(&self.path))
     }
@@ -90,8 +92,8 @@ impl Log {
         self.length += self.entry.len() as u64;
     }
 
-    /// Cuts off an entry whose write or flush was refused. It is all written again where there is room later. No flush is tried again by
-    /// itself: the system may have dropped what it could not write, and then says that all is well.
+    /// Cuts off an entry whose write or flush failed. After `Full` the whole entry is written again later; a failed flush alone is never
+    /// tried again: the system may have dropped what it could not write, and report success the next time.
     fn take_back(&mut self, error: io::Error) -> StoreError {
         match self.file.set_len(self.length) {
             Ok(()) if StoreError::is_full(&error) => StoreError::Full { path: self.path.clone(), error },
@@ -99,7 +101,7 @@ impl Log {
         }
     }
 
-    /// Hands the requests of each entry to `each` once more.
+    /// Passes the requests of each entry to `each` again.
     pub fn replay<F>(&self, mut each: F) -> Result<(), StoreError>
     where
         F: FnMut(&[&[u8]]) -> Result<(), StoreError>,
@@ -122,7 +124,7 @@ pub(super) mod tests {
     use std::{env, fs, process};
     use yieldcleat_client::frames;
 
-    /// A folder of a test, which goes with it.
+    /// The folder of a test, which is removed with it.
     pub struct Place(PathBuf);
 
     impl Place {
@@ -144,7 +146,7 @@ pub(super) mod tests {
     }
 
     impl Log {
-        /// From now on the system refuses to write it.
+        /// Makes the system refuse to write the log.
         pub fn refuse(&mut self) {
             self.file = File::open(&self.path).unwrap();
         }
@@ -158,7 +160,7 @@ pub(super) mod tests {
 
     const BATCHES: [&[&[u8]]; 3] = [&[b"open 1"], &[b"take a", b"take b"], &[b"take ccc"]];
 
-    /// A log of generation 4 with these batches, and where each entry ends.
+    /// Makes a log of generation 4 with these batches, and returns where each entry ends.
     fn written(place: &Place) -> (PathBuf, Vec<usize>) {
         let folder = Folder::open(place.path()).unwrap();
         folder.draft(Header::new(Kind::Log, 4, 0)).unwrap().sync().unwrap().rename().unwrap();
@@ -172,7 +174,7 @@ pub(super) mod tests {
         (path, ends)
     }
 
-    /// How many batches a log has, where these are the first ones, and how many bytes were torn.
+    /// Checks that a log has the first of the batches, and returns their number and the number of torn bytes.
     fn recovered(path: &Path) -> Result<(usize, u64), StoreError> {
         let mut count = 0;
         let (_, torn) = Log::recover(path, 4, |requests| {
@@ -203,7 +205,7 @@ pub(super) mod tests {
         assert_eq!(replayed, [framed(BATCHES[0]), framed(BATCHES[1]), framed(BATCHES[2]), framed(&[b"front"])]);
     }
 
-    /// A crash leaves any beginning of the last entry, and the log goes on behind the entry before.
+    /// A crash leaves any beginning of the last entry, and the log continues after the entry before it.
     #[test]
     fn a_torn_end_is_cut_off() {
         let place = Place::new("torn");
@@ -219,7 +221,7 @@ pub(super) mod tests {
         }
     }
 
-    /// A crash may leave any of the last entry's bytes as zeros, since the file is longer before they are there.
+    /// A crash may leave any of the last entry's bytes as zeros, because the file gets its length before its bytes.
     #[test]
     fn zeros_are_no_entry() {
         let place = Place::new("zeros");
@@ -242,7 +244,7 @@ pub(super) mod tests {
         }
     }
 
-    /// What has an entry behind it was on the disk, so that no crash explains another content.
+    /// An entry with another one after it was on the disk, so no crash explains other contents.
     #[test]
     fn a_damaged_middle_is_refused() {
         let place = Place::new("middle");
@@ -270,7 +272,7 @@ pub(super) mod tests {
         assert!(matches!(Log::recover(&path, 5, |_| Ok(())), Err(StoreError::Damaged { offset: 0, .. })));
     }
 
-    /// Bytes of a request that look like an entry do not make a torn end a damage.
+    /// Bytes of a request that look like an entry do not turn a torn end into damage.
     #[test]
     fn requests_imitate_no_entry() {
         let place = Place::new("imitation");

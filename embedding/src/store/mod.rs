@@ -1,8 +1,8 @@
-//! A node that comes back: what its requests change is on the disk before they are answered.
+//! A node that survives crashes: the changes of its requests are on the disk before it returns their answers.
 //!
-//! `Store` keeps a folder (`folder`) with a log of the requests that have changed the node (`log`) and a snapshot in place of those
-//! before (`entries` has the bytes of both). A request that the node refuses, and one that changes nothing, is not kept. So each kept
-//! request has one answer, and a node that comes back is right only if it gives just these answers.
+//! `Store` keeps a folder (`folder`) with a log of the requests that changed the node (`log`), and a snapshot that replaces the earlier
+//! ones; `entries` has the format of both. A request that the node refuses, or that changes nothing, is not logged. So each logged request
+//! has exactly one possible answer, and recovery checks that the new node returns it.
 
 mod birth;
 mod cache;
@@ -25,61 +25,65 @@ use std::time::Duration;
 use yieldcleat_client::requests::{self, Effect};
 use yieldcleat_client::{frames, Calls, Error};
 
-/// A node, and the folder from which it comes back.
+/// A node, and the folder that restores it.
 ///
-/// After an error of `answer` but `Full` the store answers nothing more, since the node may have changes that the log does not have.
+/// After an error of `answer` other than `Full`, calls return `Stopped`, because the node may have changes that the log lacks. Drop the
+/// store then, and open the folder again.
 pub struct Store {
     node: Node,
     folder: Folder,
     generation: u64,
-    /// Nothing while a call changes the node and behind a call that has failed.
+    /// The log; `None` while a call changes the node, and after a call that failed.
     log: Option<Log>,
     progress: Progress,
-    /// Frames of requests that have changed the node, for which the disk had no room.
+    /// Request frames that changed the node, and that the disk had no room for.
     unwritten: Vec<u8>,
     activity: Activity,
-    /// Whether the node keeps a snapshot that a checkpoint has made, and not one that a client asked for.
+    /// Whether the node's snapshot was made by a checkpoint, and not for a client.
     is_displaced: bool,
     checkpoint: Option<Checkpoint>,
-    /// Why the last checkpoint was given up, until `go_on_with_checkpoint` returns it.
+    /// Why the last checkpoint was abandoned, until `go_on_with_checkpoint` returns it.
     given_up: Option<StoreError>,
 }
 
-/// What a store has found in its folder.
+/// What a store found in its folder.
 #[derive(Debug, Clone, Copy, PartialEq, Eq)]
 pub struct Recovery {
-    /// How many requests the node was asked: those of the snapshot and of the log.
+    /// The number of requests that were sent to the node: those of the snapshot and those of the log.
     pub requests: u64,
-    /// How many bytes a crash had left of the log's last entry. Nobody was answered for what they had.
+    /// The number of bytes that a crash left of the log's last entry. Nobody received an answer to its requests.
     pub torn: u64,
 }
 
-/// What a store has done with its files since it was opened, and how large they are.
+/// Counts of what a store did with its files after it was opened, and the sizes of these files.
 #[derive(Debug, Clone, Copy, Default, PartialEq, Eq)]
 pub struct Activity {
-    /// How many entries the log has had, and so flushes, and their bytes.
+    /// The number of entries appended to the log, each with one flush.
     pub flushes: u64,
+    /// The number of bytes of these entries.
     pub written: u64,
-    /// How long the last flush has taken.
+    /// The duration of the last flush.
     pub last_flush: Duration,
-    /// How many snapshots have taken the place of a log.
+    /// The number of snapshots that replaced a log.
     pub snapshots: u64,
-    /// The bytes of the present log, and of the snapshot before it.
+    /// The size of the present log, in bytes.
     pub log: u64,
+    /// The size of the snapshot before the log, in bytes; 0 if there is none.
     pub snapshot: u64,
-    /// The bytes with which the next log begins: those of a staging that is not at its end, which no snapshot has.
+    /// The number of bytes with which the next log begins: those of an unfinished staging, because a snapshot has no staging.
     pub staging: u64,
+    /// The generation of the present files.
     pub generation: u64,
 }
 
-/// How far the log is.
+/// The contents of a log, in counts.
 #[derive(Debug, Clone, Copy, Default)]
 struct Progress {
-    /// How many requests it has.
+    /// The number of requests in the log.
     logged: u64,
-    /// Of these, the place of the `stage` that began the staging, where there is one.
+    /// The place in the log of the `stage` request of the present staging, if there is one.
     staging: Option<u64>,
-    /// The bytes of the staging, as the next log has them.
+    /// The number of bytes that the staging has in the next log.
     staged: u64,
 }
 
@@ -95,8 +99,8 @@ impl Progress {
     }
 }
 
-/// Hands each request of the log in a folder to `each`, in order, and changes nothing. The result says whether the log begins with an
-/// empty segment; otherwise a snapshot has what came before.
+/// Passes each request of the log in a folder to `each`, in order, and changes nothing. Returns true if the log begins with an empty
+/// segment, and false if it begins after a snapshot.
 ///
 /// Errors: `Locked` while a store has the folder open, `Io`, `Missing` and `Damaged`.
 pub fn read_log(folder: &Path, mut each: impl FnMut(&[u8])) -> Result<bool, StoreError> {
@@ -116,17 +120,17 @@ pub fn read_log(folder: &Path, mut each: impl FnMut(&[u8])) -> Result<bool, Stor
 }
 
 impl Store {
-    /// Brings a new node to what a folder has, or makes the folder for an empty segment of so many readers.
+    /// Restores a new node from a folder, or creates the folder for an empty segment of `readers` readers.
     ///
-    /// Errors: `Io`, `Locked`, `Missing`, `Damaged`, and `Unexpected` where the node does not answer as it did. The files stay as they
-    /// are then, but for a torn end of the log, which is cut off.
+    /// Errors: `Io`, `Locked`, `Missing`, `Damaged`, `Node`, and `Unexpected` if the node does not answer a logged request as before. The
+    /// files stay as they are, except for a torn end of the log, which is cut off.
     pub fn open(folder: &Path, node: Node, readers: u8) -> Result<(Store, Recovery), StoreError> {
         Store::open_locked(Folder::open(folder)?, node, readers)
     }
 
-    /// The same in a folder whose birth the node has, and which nobody else has opened since.
+    /// Like `open`, in a folder that the `Home` has locked. The node must have its birth.
     ///
-    /// Errors: those of `open`, but `Locked`.
+    /// Errors: those of `open`, except `Locked`.
     pub fn open_in(home: Home, node: Node, readers: u8) -> Result<(Store, Recovery), StoreError> {
         Store::open_locked(home.into_folder(), node, readers)
     }
@@ -155,32 +159,32 @@ impl Store {
         Ok((store, recovery))
     }
 
-    /// What it has done with its files.
+    /// Returns counts of what the store did with its files.
     pub fn activity(&self) -> Activity {
         Activity { staging: self.progress.staged, ..self.activity }
     }
 
-    /// Whether a call has failed so that each later one is `Stopped`.
+    /// Returns whether a call has failed so that later ones return `Stopped`.
     pub fn is_stopped(&self) -> bool {
         self.log.is_none()
     }
 
-    /// How many requests the log has: what is asked before the node is back, beside the snapshot.
+    /// Returns the number of requests in the log: a restart sends them to the node after those of the snapshot.
     pub fn logged(&self) -> u64 {
         self.progress.logged
     }
 
-    /// Asks requests in order, and returns the answer to each when all that they have changed is on the disk. A request whose first word
-    /// this package does not know is a `bad request`, and so is a `many` that has one.
+    /// Sends requests in order, and returns their answers once all that they changed is on the disk. A request whose first word this
+    /// package does not know is answered `bad request`, and so is a `many` with such a request inside.
     ///
-    /// Errors: `Full`, and the node is asked nothing until there is room for what it has changed; `Io`, `Node`, `TooLong`, and `Stopped`
-    /// after any of these three.
+    /// Errors: `Full`, after which the node gets no request until there is room for what it has changed; `Io`, `Node`, `TooLong` and
+    /// `Unexpected`, and `Stopped` after one of these four.
     pub fn answer<R: AsRef<[u8]>>(&mut self, batch: &[R]) -> Result<Vec<Vec<u8>>, StoreError> {
         self.answer_until(batch, usize::MAX)
     }
 
-    /// The same, and asks no more requests once the answers have so many bytes. There are answers to the requests that were asked, at least
-    /// to the first one.
+    /// Like `answer`, but sends no further request once the answers have `enough` bytes. Returns an answer for each request that was sent,
+    /// at least for the first one.
     pub fn answer_until<R: AsRef<[u8]>>(&mut self, batch: &[R], enough: usize) -> Result<Vec<Vec<u8>>, StoreError> {
         self.write(Vec::new())?;
         let log = self.log.take().ok_or(StoreError::Stopped)?;
@@ -198,7 +202,7 @@ impl Store {
         Ok(answers)
     }
 
-    /// Appends these changes of the node to the log, behind those for which there was no room.
+    /// Appends changes of the node to the log, after those for which there was no room.
     fn write(&mut self, changes: Vec<u8>) -> Result<(), StoreError> {
         let mut log = self.log.take().ok_or(StoreError::Stopped)?;
         self.unwritten.extend(changes);
@@ -224,7 +228,7 @@ impl Store {
         Ok(())
     }
 
-    /// Writes the same changes to the log after the snapshot that is being written, if there is one. The checkpoint fails alone.
+    /// Appends the same changes to the log after the snapshot that is being written, if there is one. An error ends the checkpoint only.
     fn write_behind_snapshot(&mut self) {
         let written = self.checkpoint.as_mut().map_or(Ok(()), |checkpoint| checkpoint.write(&self.unwritten));
         if let Err(error) = written {
@@ -233,7 +237,7 @@ impl Store {
         }
     }
 
-    /// Asks a request, and appends what it has changed to the frames of `changes`.
+    /// Sends a request, and appends the requests that changed something to the frames of `changes`.
     fn ask(&mut self, request: &[u8], changes: &mut Vec<u8>) -> Result<Vec<u8>, StoreError> {
         if !is_known(request) {
             return Ok(b"bad request".to_vec());
@@ -255,12 +259,12 @@ impl Store {
                 Ok(settled)
             }
             (Some(_), Some(_)) => Err(unexpected(request, &answer)),
-            // Nothing of it was carried out.
+            // The node did not carry out any of it.
             _ => Ok(answer),
         }
     }
 
-    /// The answer that a client gets, and a request that has changed something among the changes.
+    /// Returns the answer for the client, and appends the request to the changes if it changed something.
     fn settle(&mut self, request: &[u8], answer: Vec<u8>, changes: &mut Vec<u8>) -> Result<Vec<u8>, StoreError> {
         if requests::has_changed(request, &answer) {
             self.progress.count(request);
@@ -275,22 +279,23 @@ impl Store {
         };
         match requests::word(asked) {
             b"freeze" if reply.starts_with(b"frozen ") => self.is_displaced = false,
-            // The pieces of a checkpoint's snapshot are not those that the client began with.
+            // The pieces of a checkpoint's snapshot are not those of the snapshot that the client froze.
             b"piece" if self.is_displaced && reply != b"bad request" => return Ok([heading, b"no snapshot"].concat()),
             _ => {}
         }
         Ok(answer)
     }
 
-    /// Puts a snapshot in place of the log. A crash in between leaves the older generation, whole. A snapshot that a client has frozen
-    /// is lost: `piece` answers `no snapshot`.
+    /// Replaces the log with a snapshot. A crash in between leaves the older generation whole. A snapshot that a client froze is lost:
+    /// `piece` answers `no snapshot`.
     ///
-    /// Its errors are those of `answer`, but for `Full` of the new files, which is `Io`. The store goes on behind an error, and the room of
-    /// the new files is free again, unless the log has become unsure: then all calls are `Stopped`.
+    /// Errors: those of `answer`, but `Io` if there is no room for the new files. After an error the store continues with the older
+    /// generation and without the new files, or with the new generation if only the removal of older files failed. If it is not known which
+    /// generation the folder has, all calls return `Stopped`.
     pub fn checkpoint(&mut self) -> Result<(), StoreError> {
         self.write(Vec::new())?;
         match self.node.tidy() {
-            // Only a log that is not sound has a broken chain; its snapshot is larger then.
+            // Only an unsound log has a broken chain; its snapshot is larger then.
             Ok(()) | Err(Error::Broken { .. }) => {}
             Err(error) => return Err(error.into()),
         }
@@ -299,11 +304,11 @@ impl Store {
         Ok(())
     }
 
-    /// Begins to put a snapshot in place of the log: of what the node has now. `go_on_with_checkpoint` writes it, and calls of `answer` may
-    /// come in between. A client's `freeze` among them ends it, and so does an error of its files; the store goes on with the older
-    /// generation, and the room of the new files is free again.
+    /// Begins to replace the log with a snapshot of what the node has now. `go_on_with_checkpoint` writes it; `answer` may be called in
+    /// between. A client's `freeze` before all pieces are written abandons it, as does an error of its files; the store continues with the
+    /// older generation and without the new files.
     ///
-    /// Its errors are those of `checkpoint`.
+    /// Errors: those of `checkpoint`.
     pub fn begin_checkpoint(&mut self) -> Result<(), StoreError> {
         self.abandon_checkpoint();
         self.given_up = None;
@@ -313,14 +318,15 @@ impl Store {
         Ok(())
     }
 
+    /// Returns whether a checkpoint is in progress.
     pub fn has_checkpoint(&self) -> bool {
         self.checkpoint.is_some()
     }
 
-    /// Writes up to so many pieces of the snapshot, and puts it in place of the log when the disk has all of it. The result is false when
-    /// there is nothing left to do.
+    /// Writes up to `pieces` pieces of the snapshot, and replaces the log with it once all of it is on the disk. Returns false when there
+    /// is nothing left to do.
     ///
-    /// Its errors are those of `checkpoint`; also that of an earlier call of `answer` that could not write the log after the snapshot.
+    /// Errors: those of `checkpoint`, and the error of an earlier call of `answer` that could not append to the log after the snapshot.
     pub fn go_on_with_checkpoint(&mut self, pieces: u32) -> Result<bool, StoreError> {
         if self.is_stopped() {
             return Err(StoreError::Stopped);
@@ -331,7 +337,7 @@ impl Store {
         let Some(checkpoint) = &mut self.checkpoint else {
             return Ok(false);
         };
-        // Where all pieces are to come at once, there is nothing to do while the disk takes them.
+        // If all pieces are to be written at once, there is nothing else to do while the disk writes them.
         let is_ready = checkpoint.go_on(&mut self.node, pieces).inspect_err(|_| self.folder.remove_drafts(self.generation + 1));
         match is_ready {
             Ok(false) if pieces < u32::MAX || self.checkpoint.as_ref().is_some_and(Checkpoint::needs_pieces) => Ok(true),
@@ -349,13 +355,13 @@ impl Store {
         }
     }
 
-    /// Begins the generation of the snapshot.
+    /// Completes the checkpoint: begins the generation of the snapshot, and removes the older files.
     fn end_checkpoint(&mut self) -> Result<(), StoreError> {
         let Some(checkpoint) = self.checkpoint.take() else {
             return Ok(());
         };
         let next = checkpoint.generation;
-        // The next log has its name on the disk before the snapshot has.
+        // The next log must have its name on the disk before the snapshot does.
         let ended = checkpoint.end().and_then(|ended| self.folder.sync().map(|()| ended));
         let (snapshot, log, progress) = ended.inspect_err(|_| self.folder.remove_drafts(next))?;
         self.log = None;
@@ -373,7 +379,7 @@ impl Store {
         self.folder.remove_others(next)
     }
 
-    /// Freezes a snapshot, and makes the files of the next generation, which begins when the snapshot has its name.
+    /// Freezes a snapshot and creates the files of the next generation, which begins when the snapshot is renamed.
     fn prepare(&mut self, next: u64) -> Result<Checkpoint, StoreError> {
         let log = self.log.as_ref().ok_or(StoreError::Stopped)?;
         let progress = begin_behind(&self.folder, next, log, self.progress)?;
@@ -386,13 +392,13 @@ impl Store {
     }
 }
 
-/// Whether the request, or one in it, is to keep another snapshot.
+/// Returns whether the request, or one inside it, replaces the node's snapshot.
 fn freezes(request: &[u8]) -> bool {
     let inside = request.strip_prefix(b"many ").and_then(frames::inside).unwrap_or_default();
     [request].iter().chain(&inside).any(|it| requests::word(requests::heading(it).1) == b"freeze")
 }
 
-/// Whether the node may be asked: the package knows whether each request in it changes something.
+/// Returns whether the node may get the request: this package must know the effect of each request inside it.
 fn is_known(request: &[u8]) -> bool {
     match (requests::effect(request), request.strip_prefix(b"many ")) {
         (Some(Effect::Many), Some(inside)) => {
@@ -402,20 +408,20 @@ fn is_known(request: &[u8]) -> bool {
     }
 }
 
-/// Asks a node requests that have changed an earlier one.
+/// Sends a node requests that changed an earlier one, and checks that they change it too.
 fn tell(node: &mut Node, asked: &[&[u8]]) -> Result<(), StoreError> {
     let answers = node.ask_all(asked.iter().copied())?;
     let differs = asked.iter().zip(&answers).find(|(request, answer)| !requests::has_changed(request, answer));
     differs.map_or(Ok(()), |(request, answer)| Err(unexpected(request, answer)))
 }
 
-/// The first words of a request and of its answer.
+/// Makes the error with the first words of a request and its answer.
 fn unexpected(request: &[u8], answer: &[u8]) -> StoreError {
     let beginning = |bytes: &[u8]| String::from_utf8_lossy(&bytes[..bytes.len().min(60)]).into_owned();
     StoreError::Unexpected { request: beginning(requests::word(request)), answer: beginning(answer) }
 }
 
-/// The first log, of an empty segment.
+/// Creates the first log, of an empty segment.
 fn begin(folder: &Folder, readers: u8) -> Result<u64, StoreError> {
     let mut log = folder.draft(Header::new(Kind::Log, 0, 0))?;
     log.put(&framed(&requests::open(readers))?)?;
@@ -430,7 +436,7 @@ fn framed(request: &[u8]) -> Result<Vec<u8>, StoreError> {
     Ok(bytes)
 }
 
-/// The log of the next generation. It begins with the staging that is not at its end, which no snapshot has.
+/// Creates the log of the next generation. It begins with an unfinished staging, because a snapshot has no staging.
 fn begin_behind(folder: &Folder, generation: u64, log: &Log, before: Progress) -> Result<Progress, StoreError> {
     let mut next = folder.draft(Header::new(Kind::Log, generation, 0))?;
     let (mut place, mut progress) = (0, Progress::default());
@@ -450,7 +456,7 @@ fn begin_behind(folder: &Folder, generation: u64, log: &Log, before: Progress) -
     Ok(progress)
 }
 
-/// Tells a node a snapshot; how many requests that were.
+/// Sends a snapshot to a node, and returns the number of requests.
 fn restore(path: &Path, generation: u64, node: &mut Node) -> Result<u64, StoreError> {
     let (mut entries, mut bytes) = (Entries::open(path, Kind::Snapshot, generation)?, Vec::new());
     while entries.place() < entries.header().count {
@@ -470,7 +476,7 @@ mod tests {
     use super::log::tests::Place;
     use super::*;
 
-    /// The log behind a snapshot fails alone, and its error is returned once.
+    /// The log after a snapshot fails alone, and its error is returned once.
     #[test]
     fn why_a_checkpoint_is_given_up_is_returned() {
         let place = Place::new("given-up");
@@ -489,7 +495,7 @@ mod tests {
         assert_eq!(store.answer(&[b"front"]).unwrap(), [b"front 0 0 1"]);
     }
 
-    /// The files of the next generation lack what the node had when the store stopped.
+    /// The log of the next generation lacks changes that the node had when the store stopped.
     #[test]
     fn a_checkpoint_does_not_revive_a_store() {
         let place = Place::new("revived");
