@@ -1,8 +1,8 @@
-//! How many bytes of long requests are held at a time.
+//! The limit on the bytes of long requests in memory.
 
 use std::sync::{Condvar, Mutex, MutexGuard, PoisonError};
 
-/// A number of bytes that connections share. A connection that gets none waits and reads nothing, so that its client waits too.
+/// A number of bytes that connections share. A connection that gets none waits and reads nothing, so its client waits too.
 pub struct Budget {
     total: usize,
     left: Mutex<usize>,
@@ -14,12 +14,12 @@ impl Budget {
         Budget { total, left: Mutex::new(total), freed: Condvar::new() }
     }
 
-    /// How many bytes are taken.
+    /// Returns the number of bytes in use.
     pub fn taken(&self) -> usize {
         self.total - *self.lock()
     }
 
-    /// Waits for so many bytes; nothing where that is more than there are in all.
+    /// Waits for `bytes` bytes. `None` if that is more than the whole budget.
     pub fn take(&self, bytes: usize) -> Option<Share<'_>> {
         if bytes > self.total {
             return None;
@@ -34,7 +34,7 @@ impl Budget {
     }
 }
 
-/// Bytes of the budget, which go back when this is dropped.
+/// Bytes of the budget, which return to it when this is dropped.
 pub struct Share<'a> {
     budget: &'a Budget,
     bytes: usize,

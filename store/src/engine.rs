@@ -1,7 +1,7 @@
-//! The thread that owns the store: requests of all connections, group commit, and the work in the background.
+//! The thread that owns the store: the requests of all connections, group commit, and the work in the background.
 //!
-//! All requests that wait are one batch: they are asked in order, and one flush puts what they have changed on the disk before any of
-//! them is answered. Between two batches the thread does one slice of the background work.
+//! All pending requests are one batch. They are carried out in order, and one flush puts what they changed on the disk before any of them
+//! is answered. Between two batches the thread does one slice of the background work.
 
 use crate::housekeeping::Housekeeping;
 use crate::metrics::{Metrics, Seen};
@@ -14,17 +14,18 @@ use std::time::{Duration, Instant};
 use yieldcleat::{Store, StoreError};
 use yieldcleat_client::{answers, engines};
 
-/// The most requests of one batch, and the bytes of requests after which it takes no more.
+/// The greatest number of requests of one batch.
 const MOST: usize = 4096;
+/// The number of request bytes after which a batch takes no more.
 const ENOUGH: usize = 8 << 20;
-/// The bytes of answers after which they are given before more requests are asked.
+/// The number of answer bytes after which the answers are returned before more requests are carried out.
 const PORTION: usize = 16 << 20;
-/// How often the thread looks round where no request comes.
+/// How long the thread waits for requests before it does other work.
 const PACE: Duration = Duration::from_millis(20);
-/// How often it publishes how far the segment is, and tries whether the disk has room again.
+/// How often the thread publishes the segment's state, and checks whether the disk has room again.
 const LOOK: Duration = Duration::from_millis(50);
 
-/// Why a request is not answered by the segment.
+/// Why the segment does not answer a request.
 #[derive(Debug, Clone, Copy, PartialEq, Eq)]
 pub enum Refusal {
     /// The disk has no room for what a request changes.
@@ -35,28 +36,28 @@ pub enum Refusal {
 
 pub type Answers = Result<Vec<Vec<u8>>, Refusal>;
 
-/// Answers to the first of some requests, and the requests that are not asked yet.
+/// Answers to the first of some requests, and the requests that are not carried out yet.
 #[derive(Debug, Default, PartialEq, Eq)]
 pub struct Portion {
     pub answers: Vec<Vec<u8>>,
     pub rest: Vec<Vec<u8>>,
 }
 
-/// Requests that are asked one after the other.
+/// Requests that are carried out in order.
 struct Job {
     requests: Vec<Vec<u8>>,
     sender: SyncSender<Result<Portion, Refusal>>,
 }
 
 impl Job {
-    /// Gives answers to the first requests, and the other requests back.
+    /// Returns answers to the first requests, and the other requests unanswered.
     fn reply(&mut self, answers: Answers) {
         let mut requests = mem::take(&mut self.requests).into_iter();
         let portion = answers.map(|answers| {
             requests.by_ref().take(answers.len()).for_each(drop);
             Portion { answers, rest: requests.collect() }
         });
-        // An error says that the connection has ended meanwhile.
+        // An error means that the connection has ended meanwhile.
         let _ = self.sender.send(portion);
     }
 }
@@ -66,12 +67,12 @@ enum Message {
     Stop,
 }
 
-/// How other threads ask the segment. The queue has a bound: who asks waits for a place in it.
+/// The request queue of the segment, for other threads. The queue is bounded: a sender waits for a place in it.
 #[derive(Clone)]
 pub struct Handle(SyncSender<Message>);
 
 impl Handle {
-    /// Asks requests in order, and waits until what they have changed is on the disk.
+    /// Sends requests in order, and waits until what they changed is on the disk.
     pub fn ask(&self, requests: Vec<Vec<u8>>) -> Answers {
         let (mut answers, mut rest) = (Vec::new(), requests);
         while !rest.is_empty() {
@@ -82,16 +83,16 @@ impl Handle {
         Ok(answers)
     }
 
-    /// The same for as many of the requests, at least one, as have answers of moderate length together.
+    /// Like `ask`, for as many of the requests, at least one, as have answers of moderate length together.
     pub fn ask_some(&self, requests: Vec<Vec<u8>>) -> Result<Portion, Refusal> {
         let (sender, portion) = sync_channel(1);
         self.0.send(Message::Job(Job { requests, sender })).map_err(|_| Refusal::Stopped)?;
         portion.recv().unwrap_or(Err(Refusal::Stopped))
     }
 
-    /// Ends the thread after the requests that wait.
+    /// Ends the thread after the pending requests.
     pub fn stop(&self) {
-        // An error says that it has ended.
+        // An error means that the thread has ended.
         let _ = self.0.send(Message::Stop);
     }
 }
@@ -102,7 +103,7 @@ pub struct Engine {
     metrics: Arc<Metrics>,
     housekeeping: Housekeeping,
     next_look: Instant,
-    /// Whether the node was no member at the last look.
+    /// Whether the node was not a member at the last look.
     was_fresh: bool,
 }
 
@@ -114,7 +115,7 @@ impl Engine {
 
     /// Answers until it is stopped.
     ///
-    /// Errors: those of the store, but `Full`. No request of the last batch is answered then.
+    /// Errors: those of the store, except `Full`. Each request without an answer gets `Stopped` then.
     pub fn run(mut self) -> Result<(), StoreError> {
         self.look()?;
         loop {
@@ -138,7 +139,7 @@ impl Engine {
         }
     }
 
-    /// The first job and those that wait after it, and whether the thread has to stop.
+    /// Returns the first job and those that wait after it, and whether the thread must stop.
     fn gather(&self, first: Job) -> (VecDeque<Job>, bool) {
         let size = |job: &Job| job.requests.iter().map(Vec::len).sum::<usize>();
         let (mut count, mut bytes) = (first.requests.len(), size(&first));
@@ -157,7 +158,7 @@ impl Engine {
         (jobs, false)
     }
 
-    /// Answers all jobs, and flushes once for each portion of the answers. One portion has all of them, unless they are long.
+    /// Answers all jobs, with one flush for each portion of the answers. One portion has all answers, unless they are long.
     fn answer(&mut self, mut jobs: VecDeque<Job>) -> Result<(), StoreError> {
         while !jobs.is_empty() {
             self.answer_portion(&mut jobs)?;
@@ -165,7 +166,7 @@ impl Engine {
         Ok(())
     }
 
-    /// Asks the requests of the first jobs, and removes the jobs that have got answers.
+    /// Carries out requests of the first jobs, and removes the jobs that are answered.
     fn answer_portion(&mut self, jobs: &mut VecDeque<Job>) -> Result<(), StoreError> {
         let batch: Vec<&Vec<u8>> = jobs.iter().flat_map(|job| &job.requests).collect();
         let before = self.store.activity().flushes;
@@ -205,7 +206,7 @@ impl Engine {
         }
     }
 
-    /// Publishes how far the segment is, if all of that is on the disk.
+    /// Publishes the segment's state, if all of it is on the disk.
     fn look(&mut self) -> Result<(), StoreError> {
         let answered = self.store.answer(&[engines::STATUS, b"state"]);
         self.note_room(&answered, 0);
@@ -225,7 +226,7 @@ impl Engine {
         Ok(())
     }
 
-    /// Answers what waits when the thread has to stop.
+    /// Answers the pending requests when the thread must stop.
     fn drain(mut self) -> Result<(), StoreError> {
         while let Ok(message) = self.messages.try_recv() {
             if let Message::Job(job) = message {
@@ -237,7 +238,7 @@ impl Engine {
     }
 }
 
-/// Gives answers to the first jobs, which are removed. The last of them may get only some of its answers.
+/// Gives answers to the first jobs, and removes these. The last of them may get only some of its answers.
 fn give(jobs: &mut VecDeque<Job>, answers: Vec<Vec<u8>>) {
     let mut answers = answers.into_iter();
     while jobs.front().is_some_and(|job| job.requests.is_empty() || answers.len() > 0) {

@@ -1,26 +1,28 @@
-//! Which requests of a client reach the segment and its guard.
+//! The requests of a client that reach the segment and its guard.
 //!
-//! The guard itself, which decides what it answers which engine, is in the archive. Here a client is kept from replacing the segment of a
-//! node that is no member yet, and each delta of gossip gets a bound. An engine that opens a volume needs all that a node has at once.
+//! The guard in the archive decides which engine the node answers. This module refuses clients a request that replaces the segment, which
+//! the guard allows while the node is not a member, and it limits the size of each delta. An engine that opens a volume needs all that a
+//! node has at once, so its deltas are not limited.
 
 use yieldcleat_client::{frames, requests};
 
-/// What becomes of a request.
+/// What to do with a request.
 #[derive(Debug, Clone, PartialEq, Eq)]
 pub enum Verdict {
-    /// The segment is asked this.
+    /// Send this request to the segment.
     Ask(Vec<u8>),
-    /// The segment is not asked.
+    /// Answer without the segment.
     Answer(Vec<u8>),
-    /// The server reports on itself.
+    /// Answer with the report.
     Report,
+    /// Answer with the metrics.
     Metrics,
 }
 
-/// Requests that put another segment in place of the segment, and so forget facts that were acknowledged.
+/// Requests that replace the segment, and so lose facts that were acknowledged.
 const REPLACING: [&[u8]; 2] = [b"open", b"finish"];
 
-/// Judges a request. A delta has at most `most` bytes where it is asked for under no generation.
+/// Judges a request. A delta has at most `most` bytes, unless it is requested under a generation.
 pub fn judge(request: Vec<u8>, most: u32) -> Verdict {
     match requests::word(&request) {
         b"report" => Verdict::Report,
@@ -32,7 +34,7 @@ pub fn judge(request: Vec<u8>, most: u32) -> Verdict {
     }
 }
 
-/// Judges the requests in a `many`. If one of them is refused, all are.
+/// Judges the requests in a `many`. If one is refused, all are.
 fn judge_many(request: Vec<u8>, most: u32) -> Verdict {
     let inside = request.strip_prefix(b"many ").and_then(frames::inside).unwrap_or_default();
     if inside.iter().any(|it| REPLACING.contains(&requests::word(it))) {
@@ -43,11 +45,12 @@ fn judge_many(request: Vec<u8>, most: u32) -> Verdict {
         return Verdict::Ask(request);
     }
     let asked = inside.iter().zip(&limited).map(|(it, limited)| limited.as_deref().unwrap_or(it));
-    // The request is too long only where the limits make it longer than 4 GiB.
+    // The request is too long only if the limits make it exceed 4 GiB.
     requests::many(asked).map_or_else(|_| Verdict::Answer(b"long frame".to_vec()), Verdict::Ask)
 }
 
-/// The request for a delta with a limit; nothing where the segment will find its form bad, or an engine asks under its generation.
+/// Adds a limit to the request for a delta. `None` if it is within the limit, if the segment will find it malformed, or if an engine sends
+/// it under its generation.
 fn bounded(request: &[u8], most: u32) -> Option<Vec<u8>> {
     if let Some(summary) = request.strip_prefix(b"answer ") {
         return Some(requests::within(summary, most));

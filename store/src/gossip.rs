@@ -1,7 +1,7 @@
-//! Gossip with a peer: this node asks for what it lacks, in bounded messages.
+//! Gossip with a peer: this node requests what it lacks, in bounded messages.
 //!
-//! A round asks the peer for the delta beyond the own summary. Where that is larger than the limit, a snapshot of the peer comes in
-//! pieces and is united with the segment, which goes on answering meanwhile. The peer does the same for itself.
+//! A round requests the peer's delta for the local summary. If the delta exceeds the limit, a snapshot of the peer is fetched in pieces and
+//! united with the segment, which continues to answer meanwhile. The peer does the same for itself.
 
 use crate::engine::{Handle, Refusal};
 use crate::metrics::Metrics;
@@ -12,22 +12,23 @@ use std::thread;
 use std::time::Duration;
 use yieldcleat_client::{answers, frames, requests, Address, Calls, Connection, Error, Limits, MOST_NUMBER};
 
-/// How many pieces of a snapshot are on their way at a time.
+/// The number of pieces of a snapshot in flight at a time.
 const PIECES: u32 = 64;
-/// The longest and the first pause after rounds that failed.
+/// The longest pause after a failed round.
 const LONGEST_PAUSE: Duration = Duration::from_secs(5);
+/// The pause after the first failed round.
 const FIRST_PAUSE: Duration = Duration::from_millis(100);
-/// A delta with nothing new lengthens the pause before the next round, by `every` for each so many bytes.
+/// The length of a repeated delta, in bytes, for which the pause before the next round grows by `every`.
 const USELESS: usize = 1 << 16;
 
-/// The own segment, through the queue of requests.
+/// The local segment, through the request queue.
 struct Local {
     handle: Handle,
     answer: Vec<u8>,
 }
 
 impl Local {
-    /// Asks requests that share one flush.
+    /// Sends requests that share one flush.
     fn ask_at_once(&self, requests: Vec<Vec<u8>>) -> Result<Vec<Vec<u8>>, Error> {
         self.handle.ask(requests).map_err(|refusal| match refusal {
             Refusal::DiskFull => Error::DiskFull,
@@ -43,21 +44,21 @@ impl Calls for Local {
     }
 }
 
-/// What is the same for all peers.
+/// Settings and state that all peers share.
 pub struct Terms {
     pub handle: Handle,
     pub metrics: Arc<Metrics>,
     pub every: Duration,
     pub most: u32,
     pub patience: Duration,
-    /// A segment has one staging, so one snapshot comes at a time.
+    /// Locked while a snapshot is fetched, because a segment has one staging.
     pub staging: Mutex<()>,
 }
 
-/// One peer of this node.
+/// The gossip with one peer.
 pub struct Gossip {
     terms: Arc<Terms>,
-    /// Its place on the command line.
+    /// The position of the peer on the command line.
     place: usize,
     address: Address,
     local: Local,
@@ -72,7 +73,7 @@ impl Gossip {
         Gossip { terms, place, address, local, last: None, hasher: RandomState::new() }
     }
 
-    /// Gossips until the own segment has stopped.
+    /// Gossips until the local segment has stopped.
     pub fn run(mut self) {
         let (mut connection, mut pause) = (None, FIRST_PAUSE);
         loop {
@@ -92,7 +93,7 @@ impl Gossip {
         }
     }
 
-    /// One round, over a new connection where there is none. Returns the length of a delta with nothing new, else 0.
+    /// Runs one round, over a new connection if there is none. Returns the length of a delta with nothing new, or 0.
     fn turn(&mut self, connection: &mut Option<Connection>) -> Result<usize, Error> {
         let limits = Limits { connect: self.terms.patience, answer: self.terms.patience, longest: frames::LONGEST };
         let mut peer = match connection.take().filter(Connection::is_open) {
@@ -119,8 +120,8 @@ impl Gossip {
         Ok(useless)
     }
 
-    /// Absorbs a delta, unless it is the last one again. A peer that lags sends all that it has above its own anchor in each round, so such a
-    /// delta may be long. Returns its length, else 0.
+    /// Absorbs a delta, unless it equals the last one. Returns the length of such a repeated delta, or 0. It may be long, because a peer
+    /// that lags sends all that it has above its own anchor in each round.
     fn absorb(&mut self, summary: &[u8], delta: &[u8]) -> Result<usize, Error> {
         let hash = Some(self.hasher.hash_one(delta));
         if hash == self.last {
@@ -128,14 +129,15 @@ impl Gossip {
         }
         self.last = match self.local.absorb(summary, delta) {
             Ok(()) => hash,
-            // The segment has folded meanwhile: the next round asks with another summary.
+            // The segment has folded meanwhile: the next round sends another summary.
             Err(Error::Uncovered(_)) => None,
             Err(error) => return Err(error),
         };
         Ok(0)
     }
 
-    /// Brings a snapshot of the peer, and unites it with the segment. If the peer is busy with another reader, a later round tries again.
+    /// Fetches a snapshot of the peer and unites it with the segment. If another reader uses the peer's snapshot, or another snapshot is
+    /// being fetched, a later round tries again.
     fn bring_snapshot(&mut self, peer: &mut Connection) -> Result<(), Error> {
         let terms = self.terms.clone();
         let Ok(_one) = terms.staging.try_lock() else {
@@ -165,7 +167,7 @@ impl Gossip {
         self.local.ask_at_once(adds)?.iter().try_for_each(|answer| answers::done(answer, "added"))
     }
 
-    /// Notes why a round failed, and says so where the peer was up.
+    /// Records why a round failed, and logs it if the peer was up.
     fn note_failure(&self, error: &Error) {
         let mut was_up = false;
         self.terms.metrics.with_peer(self.place, |it| {

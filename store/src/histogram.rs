@@ -1,10 +1,10 @@
-//! How long something took, as Prometheus counts it.
+//! A histogram of durations, in the format of Prometheus.
 
 use std::fmt::Write;
 use std::sync::atomic::{AtomicU64, Ordering::Relaxed};
 use std::time::Duration;
 
-/// The upper bounds of the buckets, in microseconds and as they are printed in seconds.
+/// The upper bounds of the buckets, in microseconds and as printed, in seconds.
 const BOUNDS: [(u64, &str); 12] = [
     (50, "0.00005"),
     (100, "0.0001"),
@@ -40,12 +40,12 @@ impl Histogram {
         self.count.load(Relaxed)
     }
 
-    /// The mean, if there was one.
+    /// Returns the mean; `None` before the first duration.
     pub fn mean(&self) -> Option<Duration> {
         self.nanoseconds.load(Relaxed).checked_div(self.count()).map(Duration::from_nanos)
     }
 
-    /// The lines of a histogram of this name.
+    /// Writes the lines of a histogram with this name.
     pub fn write(&self, text: &mut String, name: &str) {
         let mut below = 0;
         for (bucket, (_, bound)) in self.buckets.iter().zip(BOUNDS) {

@@ -1,5 +1,5 @@
-//! What the server does between requests: it folds pages up to the minimum read point, discards what is folded, and puts a snapshot in
-//! place of a log that has grown.
+//! The work of the server between requests: it folds pages up to the anchor, discards what is folded, and replaces a log that has grown
+//! with a snapshot.
 
 use crate::metrics::Metrics;
 use crate::snapshots::{Owner, Snapshots};
@@ -11,15 +11,16 @@ use std::time::{Duration, Instant};
 use yieldcleat::{Activity, Store, StoreError};
 use yieldcleat_client::{answers, frames, requests};
 
-/// The most pages of a slice.
+/// The greatest number of pages of a slice.
 const SLICE: usize = 256;
 const PAGES: usize = 1 << 16;
-/// A log of so many times the bytes at which a snapshot is scheduled waits for no reader of the present snapshot.
+/// The multiple of the scheduled log size at which a snapshot is made even while a client reads the present one.
 const OVERDUE: f64 = 4.0;
-/// No snapshot is tried within this time after one that failed.
+/// The pause after a snapshot that failed.
 const AGAIN: Duration = Duration::from_secs(10);
-/// How many pieces of a snapshot are written between two batches of requests, and how often where no request comes.
+/// The number of pieces of a snapshot that are written at a time, between two batches of requests.
 const PIECES: u32 = 64;
+/// The least interval between two such writes, and how long the thread waits for requests meanwhile.
 const PIECES_EVERY: Duration = Duration::from_millis(2);
 
 pub struct Housekeeping {
@@ -27,21 +28,25 @@ pub struct Housekeeping {
     next: Instant,
     /// The pages that may have records to fold.
     pages: Vec<bool>,
-    /// Whether there are such pages, and the page at which the next slice begins: 0 between two rounds.
+    /// Whether there are such pages.
     has_pages: bool,
+    /// The page at which the next slice begins; 0 between two rounds.
     place: usize,
-    /// The anchor up to which all pages are folded, and that at which the present round over the pages began.
+    /// The anchor up to which all pages are folded.
     folded: u64,
+    /// The anchor at which the present round over the pages began.
     aim: u64,
-    /// The least bytes of the log before a snapshot.
+    /// The least size of the log before a snapshot, in bytes.
     snapshot_after: u64,
-    /// From 1 to 2: nodes with logs of one size make their snapshots at different times.
+    /// A random factor from 1 to 2, so that nodes with logs of one size make their snapshots at different times.
     stagger: f64,
     snapshots: Arc<Snapshots>,
     again_at: Instant,
-    /// When the snapshot began that is being written, the generation before it, and when its next pieces are written.
+    /// When the snapshot that is being written began.
     began: Option<Instant>,
+    /// The generation before that snapshot.
     generation: u64,
+    /// When its next pieces are written.
     next_pieces: Instant,
 }
 
@@ -66,7 +71,7 @@ impl Housekeeping {
         }
     }
 
-    /// How long the thread may wait for requests.
+    /// Returns how long the thread may wait for requests.
     pub fn pace(&self, most: Duration) -> Duration {
         if self.began.is_some() {
             PIECES_EVERY
@@ -75,7 +80,7 @@ impl Housekeeping {
         }
     }
 
-    /// Notes what requests may have left to fold.
+    /// Notes the pages that requests may have left to fold.
     pub fn note(&mut self, batch: &[&Vec<u8>]) {
         for request in batch {
             match request.strip_prefix(b"many ") {
@@ -102,9 +107,9 @@ impl Housekeeping {
         }
     }
 
-    /// What is scheduled now: a slice of folding, the beginning of a snapshot, or some pieces of it.
+    /// Does the scheduled work: a slice of folding, the beginning of a snapshot, or some of its pieces.
     ///
-    /// Errors: those of the store, but `Full`.
+    /// Errors: those of the store, except `Full`.
     pub fn work(&mut self, store: &mut Store, metrics: &Metrics) -> Result<(), StoreError> {
         let now = Instant::now();
         if self.began.is_some() && now >= self.next_pieces {
@@ -149,7 +154,7 @@ impl Housekeeping {
         Ok(())
     }
 
-    /// The next slice begins after this one. A page stays noted: its records above the anchor are folded in a later round.
+    /// Sets where the next slice begins. A page stays noted: its records above the anchor are folded in a later round.
     fn go_on(&mut self, chosen: &[usize]) {
         match chosen.last() {
             Some(last) if chosen.len() == SLICE => self.place = last + 1,
@@ -157,8 +162,8 @@ impl Housekeeping {
         }
     }
 
-    /// The bytes of the log at which a snapshot is scheduled. The next log begins with a staging that is not at its end: the log has as
-    /// much beside it before the staging is written again.
+    /// Returns the log size at which a snapshot is scheduled. The next log begins with an unfinished staging, so the log must reach twice
+    /// the size of the staging before it is written again.
     fn least(&self, activity: &Activity) -> f64 {
         self.snapshot_after.max(2 * activity.snapshot).max(2 * activity.staging) as f64 * self.stagger
     }
@@ -179,9 +184,9 @@ impl Housekeeping {
         self.judge(store, begun)
     }
 
-    /// Notes whether a snapshot goes on, is there, or has failed.
+    /// Notes whether a snapshot continues, is finished, or has failed.
     ///
-    /// Its error is one after which the store answers nothing.
+    /// Errors: an error after which the store answers nothing.
     fn judge(&mut self, store: &Store, went: Result<bool, StoreError>) -> Result<(), StoreError> {
         let Some(began) = self.began else {
             return Ok(());
@@ -207,7 +212,7 @@ impl Housekeeping {
     }
 }
 
-/// The page of the record that a request takes.
+/// Returns the page of the record in a take.
 fn page_of(take: &[u8]) -> Option<u16> {
     let fact = take.strip_prefix(b"take ")?;
     let page = fact.get(15..17)?.try_into().ok()?;

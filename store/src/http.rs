@@ -1,4 +1,4 @@
-//! The little of HTTP that a scraper needs: GET of /metrics and /report.
+//! The part of HTTP that a scraper needs: GET of /metrics and /report.
 
 use crate::listener::Listener;
 use crate::metrics::Metrics;
@@ -6,20 +6,23 @@ use std::io::{self, BufRead, BufReader, Read, Write};
 use std::time::{Duration, Instant};
 use yieldcleat_client::Stream;
 
-/// The most bytes of a request's head, and how long it may take.
+/// The greatest number of bytes of a request's head.
 const MOST: u64 = 8192;
+/// The time limit for the whole head of a request, and for each write of the answer.
 const PATIENCE: Duration = Duration::from_secs(5);
 
-/// Answers one connection after the other.
+/// Answers connections one after another.
+///
+/// Errors: those of the socket.
 pub fn serve(listener: &Listener, metrics: &Metrics) -> io::Result<()> {
     loop {
         let stream = listener.accept()?;
-        // An error is the scraper's: it has left, or stalls.
+        // An error is the scraper's: it has disconnected, or stalls.
         let _ = answer(stream, metrics);
     }
 }
 
-/// A socket from which all has to come until a time.
+/// A socket whose reads time out at `end`.
 struct Until {
     stream: Stream,
     end: Instant,
@@ -43,7 +46,7 @@ fn answer(stream: Stream, metrics: &Metrics) -> io::Result<()> {
     let mut line = String::new();
     reader.read_line(&mut line)?;
     let reply = reply(&line, metrics);
-    // What is not read of a request resets the connection before the answer is read.
+    // Unread bytes of a request would reset the connection before the answer is read.
     while !matches!(line.as_str(), "" | "\n" | "\r\n") {
         line.clear();
         reader.read_line(&mut line)?;

@@ -1,4 +1,4 @@
-//! Sockets that listen, and a thread for each connection.
+//! Listening sockets.
 
 use std::fs;
 use std::io::{self, ErrorKind};
@@ -10,20 +10,21 @@ use std::thread;
 use std::time::Duration;
 use yieldcleat_client::{Address, Stream};
 
-/// The stack of a connection's thread.
+/// The stack size of a connection's thread, in bytes.
 pub const STACK: usize = 1 << 18;
-/// How long nobody is accepted after an error that may pass, and after how many such errors in a row that is said.
+/// The pause after an error that may pass.
 const PAUSE: Duration = Duration::from_millis(50);
+/// The number of such errors in a row that is logged.
 const MANY: u32 = 20;
 
-/// A socket that listens.
+/// A listening socket.
 pub enum Listener {
     Unix(UnixListener, PathBuf),
     Tcp(TcpListener),
 }
 
 impl Listener {
-    /// Listens at an address. A Unix socket that nobody listens at any more is replaced.
+    /// Listens at an address. A Unix socket without a listening process is replaced.
     pub fn bind(address: &Address) -> io::Result<Listener> {
         match address {
             Address::Unix(path) => {
@@ -34,7 +35,7 @@ impl Listener {
         }
     }
 
-    /// The address, with the port that the system has chosen for port 0.
+    /// Returns the address, with the port that the system chose for port 0.
     pub fn address(&self) -> String {
         match self {
             Listener::Unix(_, path) => format!("unix:{}", path.display()),
@@ -42,17 +43,17 @@ impl Listener {
         }
     }
 
-    /// Removes the file of a Unix socket, when the server ends.
+    /// Removes the file of a Unix socket when the server ends.
     pub fn remove(&self) {
         if let Listener::Unix(_, path) = self {
-            // An error leaves a socket that the next start replaces.
+            // After an error the next start replaces the socket.
             let _ = fs::remove_file(path);
         }
     }
 
-    /// The next connection. An error of a client or of the system, as too many open files, is waited out.
+    /// Waits for the next connection. After an error of a client or of the system, such as too many open files, it pauses and tries again.
     ///
-    /// Errors: those of the socket itself, which takes no connection any more.
+    /// Errors: those of the socket itself, which can accept no further connection.
     pub fn accept(&self) -> io::Result<Stream> {
         let mut errors = 0;
         loop {
@@ -74,7 +75,7 @@ impl Listener {
     }
 }
 
-/// Whether an error says that the socket is no socket that listens: each later `accept` has it too.
+/// Returns whether an error means that the socket does not listen, so each later `accept` fails too.
 fn is_of_socket(error: &io::Error) -> bool {
     const BAD_FILE: i32 = 9;
     const BAD_ADDRESS: i32 = 14;
@@ -83,13 +84,13 @@ fn is_of_socket(error: &io::Error) -> bool {
     matches!(error.raw_os_error(), Some(BAD_FILE | BAD_ADDRESS | NOT_LISTENING | NO_SOCKET))
 }
 
-/// A connection whose answers do not wait for one another. Where the system refuses that, they do.
+/// Makes a connection whose answers do not wait for one another. If the system refuses that, they do.
 fn prompt(stream: TcpStream) -> Stream {
     let _ = stream.set_nodelay(true);
     Stream::Tcp(stream)
 }
 
-/// Removes the socket of a process that was killed. Any other file stays, and the bind fails.
+/// Removes the socket of a process that was killed. Any other file stays, and `bind` fails.
 fn remove_stale(path: &Path) -> io::Result<()> {
     let is_socket = fs::symlink_metadata(path).is_ok_and(|it| it.file_type().is_socket());
     match is_socket.then(|| UnixStream::connect(path)) {

@@ -1,8 +1,8 @@
 //! `yieldcleat-store`: one proved storage segment as a server.
 //!
-//! The segment is the archive of `crates/node_c`; nothing here is proved. `engine` owns the segment and its files, `session` and
-//! `listener` bring requests to it, `gossip` what it lacks, `housekeeping` folds and makes snapshots. `docs/OPERATING.md` is for whoever
-//! runs it.
+//! The segment is the archive of `crates/node_c`; nothing in this package is proved. `engine` owns the segment and its files, `session` and
+//! `listener` receive requests, `gossip` fetches what the segment lacks, and `housekeeping` folds and makes snapshots. `docs/OPERATING.md`
+//! is for operators.
 
 #![deny(unsafe_code)]
 
@@ -34,7 +34,7 @@ fn main() -> ExitCode {
     status
 }
 
-/// What the program ends with.
+/// Runs the program, and returns its exit status.
 fn status() -> ExitCode {
     match Command::of_system(std::env::args_os().skip(1)) {
         Ok(Command::Help) => print(HELP),

@@ -1,4 +1,4 @@
-//! What the server counts, and its two texts: `metrics` for Prometheus and `report` for people.
+//! The metrics of the server and their two texts: `text` for Prometheus and `report` for people.
 
 use crate::budget::Budget;
 use crate::histogram::Histogram;
@@ -9,7 +9,7 @@ use std::time::Instant;
 use yieldcleat::Activity;
 use yieldcleat_client::{Front, Membership, State};
 
-/// What the segment last reported, when all of it was on the disk.
+/// What the segment last reported, once all of it was on the disk.
 #[derive(Debug, Clone, Copy)]
 pub struct Seen {
     pub membership: Membership,
@@ -17,7 +17,7 @@ pub struct Seen {
     pub activity: Activity,
 }
 
-/// What is known of a peer.
+/// The state of gossip with a peer.
 #[derive(Debug, Clone, Default)]
 pub struct Peer {
     pub address: String,
@@ -76,14 +76,14 @@ impl Metrics {
         *lock(&self.seen) = Some(seen);
     }
 
-    /// Changes what is known of a peer, by its place on the command line.
+    /// Changes the state of a peer, by its position on the command line.
     pub fn with_peer(&self, place: usize, change: impl FnOnce(&mut Peer)) {
         if let Some(peer) = lock(&self.peers).get_mut(place) {
             change(peer);
         }
     }
 
-    /// The text for Prometheus, version 0.0.4 of its format.
+    /// Returns the text for Prometheus, in version 0.0.4 of its format.
     pub fn text(&self) -> String {
         let mut text = String::new();
         self.write_counts(&mut text);
@@ -129,7 +129,7 @@ impl Metrics {
         }
     }
 
-    /// The text for people.
+    /// Returns the text for people.
     pub fn report(&self) -> String {
         let mut text = format!("up {} s, {} connections\n", self.started.elapsed().as_secs(), self.connections.load(Relaxed));
         match *lock(&self.seen) {
@@ -172,7 +172,7 @@ fn peer_value(name: &str, peer: &Peer, own: Option<Front>) -> Option<u64> {
     }
 }
 
-/// By how many numbers the own complete point is below that of the peer. Fronts of two epochs do not compare.
+/// Returns how far the local complete point is below that of the peer. Fronts of two epochs do not compare.
 fn lag(peer: &Peer, own: Option<Front>) -> Option<u64> {
     let (front, own) = (peer.front?, own?);
     (front.epoch == own.epoch).then(|| front.complete.saturating_sub(own.complete))

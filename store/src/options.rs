@@ -35,7 +35,7 @@ Exit status: 0 stopped by SIGTERM or SIGINT, 2 bad command line, 3 DIR is in use
 6 it cannot listen on an address, or has lost one.
 ";
 
-/// What the command line asks for.
+/// The options of the server.
 #[derive(Debug, Clone, PartialEq, Eq)]
 pub struct Options {
     pub data: PathBuf,
@@ -55,7 +55,7 @@ pub struct Options {
     pub snapshot_after: u64,
 }
 
-/// What is to be done.
+/// The task that the command line requests.
 #[derive(Debug, Clone, PartialEq, Eq)]
 pub enum Command {
     Help,
@@ -63,7 +63,7 @@ pub enum Command {
     Serve(Box<Options>),
 }
 
-/// Why a command line is bad.
+/// Why a command line is invalid.
 #[derive(Debug, Clone, PartialEq, Eq)]
 pub enum BadOption {
     NoText(OsString),
@@ -87,7 +87,7 @@ impl fmt::Display for BadOption {
     }
 }
 
-/// The options that are read so far.
+/// The options as read, in order.
 #[derive(Default)]
 struct Given {
     values: Vec<(String, String)>,
@@ -132,7 +132,7 @@ impl Given {
         Ok(given)
     }
 
-    /// The values of an option, each read as its type.
+    /// Returns the values of an option, each parsed as its type.
     fn all<T: FromStr<Err: fmt::Display>>(&self, option: &str) -> Result<Vec<T>, BadOption> {
         let read = |value: &String| {
             let bad = |why: T::Err| BadOption::Value { option: option.into(), value: value.clone(), why: why.to_string() };
@@ -145,7 +145,7 @@ impl Given {
         Ok(self.all(option)?.pop())
     }
 
-    /// A number within a range, or its default.
+    /// Returns a number within a range, or its default.
     fn number(&self, option: &str, default: u64, least: u64, most: u64) -> Result<u64, BadOption> {
         let number = self.one(option)?.unwrap_or(default);
         if (least..=most).contains(&number) {
@@ -161,13 +161,13 @@ impl Given {
 }
 
 impl Command {
-    /// Reads the words after the program's name, as the system has them.
+    /// Parses the words after the program's name, as the system passes them.
     pub fn of_system(words: impl Iterator<Item = OsString>) -> Result<Command, BadOption> {
         let words: Result<Vec<String>, OsString> = words.map(OsString::into_string).collect();
         Command::read(words.map_err(BadOption::NoText)?.into_iter())
     }
 
-    /// Reads the words after the program's name.
+    /// Parses the words after the program's name.
     pub fn read(words: impl Iterator<Item = String>) -> Result<Command, BadOption> {
         let words: Vec<String> = words.collect();
         if words.iter().any(|word| word == "--help" || word == "-h") {

@@ -20,21 +20,21 @@ use std::{fmt, process};
 use yieldcleat::{Home, Node, Store, StoreError};
 use yieldcleat_client::{frames, Address, Stream};
 
-/// How long answers may take to be written when the server ends.
+/// How long the server waits for answers to be written when it ends.
 const GRACE: Duration = Duration::from_secs(3);
 
 /// Why the server does not run.
 #[derive(Debug)]
 pub enum Failure {
     Store(StoreError),
-    /// A socket does not listen at an address, or takes no connection any more.
+    /// A socket cannot listen at this address, or has stopped accepting connections.
     Listen(String, io::Error),
-    /// The system starts no thread, or takes no mask of signals.
+    /// The system refused to start a thread, or to set up signals.
     System(io::Error),
 }
 
 impl Failure {
-    /// The status of the program.
+    /// Returns the exit status of the program.
     pub fn status(&self) -> u8 {
         match self {
             Failure::Store(StoreError::Locked { .. }) => 3,
@@ -67,7 +67,7 @@ impl From<yieldcleat_client::Error> for Failure {
     }
 }
 
-/// Serves until a signal stops it.
+/// Serves until a signal stops the server.
 pub fn run(options: &Options) -> Result<(), Failure> {
     let stop = Stop::block().map_err(Failure::System)?;
     log::start().map_err(Failure::System)?;
@@ -92,7 +92,7 @@ pub fn run(options: &Options) -> Result<(), Failure> {
     failures.try_recv().map_or(Ok(()), Err)
 }
 
-/// Opens the files of the node, for this process alone from before its birth is read or drawn.
+/// Opens the files of the node. They are locked for this process before the birth is read or drawn.
 fn open(options: &Options) -> Result<Store, Failure> {
     let home = Home::open(&options.data)?;
     let node = Node::open_as(options.readers, home.birth())?;
@@ -133,7 +133,7 @@ fn bind(options: &Options) -> Result<Vec<(Listener, bool)>, Failure> {
     addresses.map(listen).collect()
 }
 
-/// Starts a thread for each socket. A socket that takes no connection any more ends the server, and why is sent to `failed`.
+/// Starts a thread for each socket. If a socket stops accepting connections, the server ends and the reason is sent to `failed`.
 fn start(
     options: &Options,
     listeners: Vec<(Listener, bool)>,
@@ -148,7 +148,7 @@ fn start(
         spawn("listener", move || {
             let ended = if is_http { http::serve(&listener, &service.metrics) } else { accept(&listener, &service, most) };
             if let Err(error) = ended {
-                // The receiver is there until the server has ended.
+                // The receiver exists until the server has ended.
                 let _ = failed.send(Failure::Listen(listener.address(), error));
                 service.stop();
             }
@@ -157,7 +157,7 @@ fn start(
     Ok(kept)
 }
 
-/// Takes connections, each on a thread of its own, up to the limit.
+/// Accepts connections up to the limit, each on a thread of its own.
 fn accept(listener: &Listener, service: &Arc<Service>, most: u64) -> io::Result<()> {
     loop {
         let mut stream = listener.accept()?;
@@ -169,7 +169,7 @@ fn accept(listener: &Listener, service: &Arc<Service>, most: u64) -> io::Result<
         }
         let own = service.clone();
         let body = move || {
-            // An error is the client's: it has left, or stalls.
+            // An error is the client's: it has disconnected, or stalls.
             let _ = session::serve(stream, &own);
             own.metrics.connections.fetch_sub(1, SeqCst);
         };
@@ -181,7 +181,7 @@ fn accept(listener: &Listener, service: &Arc<Service>, most: u64) -> io::Result<
 }
 
 fn turn_away(stream: &mut Stream) {
-    // An error says that the client has left.
+    // An error means that the client has disconnected.
     let _ = stream.set_timeouts(None, Some(Duration::from_millis(100)));
     let _ = frames::write(stream, b"busy");
 }
@@ -214,7 +214,7 @@ fn wait_for_signal(stop: &Stop, service: &Service) {
     service.stop();
 }
 
-/// Waits until the answers that there are have been written.
+/// Waits until pending answers are written, at most `GRACE`.
 fn finish(service: &Service) {
     service.is_stopping.store(true, SeqCst);
     let end = Instant::now() + GRACE;

@@ -1,4 +1,4 @@
-//! One connection of a client: frames in, frames out, in order.
+//! One connection of a client: frames in, answers out, in order.
 
 use crate::budget::Share;
 use crate::engine::{Handle, Portion, Refusal};
@@ -12,8 +12,8 @@ use std::sync::Arc;
 use std::time::{Duration, Instant};
 use yieldcleat_client::{frames, Stream};
 
-/// The bytes that a connection reads ahead, and those of a frame that are read before it takes a share of the memory: who announces a long
-/// frame and sends little of it keeps nothing from others.
+/// The number of bytes that a connection reads ahead, and the number of bytes of a frame that it reads before it takes a share of the
+/// memory. So a client that announces a long frame and sends little of it takes no memory from others.
 const AHEAD: usize = 1 << 16;
 
 /// What all connections share.
@@ -21,22 +21,22 @@ pub struct Service {
     pub handle: Handle,
     pub metrics: Arc<Metrics>,
     pub snapshots: Arc<Snapshots>,
-    /// How many connections have been served, for their numbers.
+    /// The number of connections so far, which gives each its number.
     pub connections: AtomicU64,
-    /// The bytes of the longest frame that is taken.
+    /// The greatest length of a frame that is accepted, in bytes.
     pub longest: u32,
     pub delta_bytes: u32,
-    /// How long a client may stall within a frame, take for a short one, and read no answer.
+    /// How long a client may stall within a frame, take to send a short one, or leave an answer unread.
     pub patience: Duration,
-    /// How long it may be silent between frames.
+    /// How long a client may be silent between frames.
     pub idle: Duration,
     pub is_stopping: AtomicBool,
-    /// How many connections have a request whose answer is not written.
+    /// The number of connections with a request whose answer is not written.
     pub busy: AtomicUsize,
 }
 
 impl Service {
-    /// Ends the server, after the requests that wait.
+    /// Ends the server, after the pending requests.
     pub fn stop(&self) {
         self.is_stopping.store(true, SeqCst);
         self.handle.stop();
@@ -45,15 +45,15 @@ impl Service {
 
 /// A frame of a client.
 enum Frame<'a> {
-    /// With its share of the memory that long requests may take.
+    /// A request, with its share of the memory for long requests.
     Whole(Vec<u8>, Option<Share<'a>>),
-    /// It is longer than the server takes, and is dropped.
+    /// A frame that is too long, whose bytes are dropped.
     TooLong,
 }
 
 /// Serves a connection until it ends.
 ///
-/// Errors are those of the socket: the client has left, or stalls.
+/// Errors: those of the socket: the client has disconnected, or stalls.
 pub fn serve(stream: Stream, service: &Service) -> io::Result<()> {
     let connection = service.connections.fetch_add(1, Relaxed);
     let ended = serve_as(connection, stream, service);
@@ -77,7 +77,8 @@ fn serve_as(connection: u64, stream: Stream, service: &Service) -> io::Result<()
     Ok(())
 }
 
-/// Waits for the first byte of a frame. The result says whether there is one: the client may have left, or been silent for too long.
+/// Waits for the first byte of a frame. Returns false if the client has disconnected or was silent for too long, or if the server is about
+/// to end.
 fn wait(reader: &mut BufReader<Stream>, service: &Service) -> io::Result<bool> {
     let (begin, patience) = (Instant::now(), service.patience);
     loop {
@@ -102,7 +103,7 @@ fn wait(reader: &mut BufReader<Stream>, service: &Service) -> io::Result<bool> {
     }
 }
 
-/// The next frame, and those that have all come with it.
+/// Reads the next frame, and those that have arrived whole with it.
 fn gather<'a>(reader: &mut BufReader<Stream>, service: &'a Service) -> io::Result<Vec<Frame<'a>>> {
     let mut length = [0; 4];
     reader.read_exact(&mut length)?;
@@ -114,14 +115,14 @@ fn gather<'a>(reader: &mut BufReader<Stream>, service: &'a Service) -> io::Resul
     Ok(gathered)
 }
 
-/// The length of the next frame, where all of it has come and the server takes it.
+/// Returns the length of the next frame, if all of it has arrived and it is not too long.
 fn next_whole(buffer: &[u8], longest: u32) -> Option<u32> {
     let length = u32::from_be_bytes(*buffer.first_chunk()?);
     (frames::is_whole(buffer) && length <= longest).then_some(length)
 }
 
-/// The bytes of a frame, of which the length is read. A frame that is too long is dropped. All of it has to come within a time, of which
-/// the wait for memory is no part.
+/// Reads the bytes of a frame of this length, or drops those of one that is too long. All of them must arrive within a time limit, which
+/// does not include the wait for memory.
 fn read<'a>(reader: &mut BufReader<Stream>, length: u32, service: &'a Service) -> io::Result<Frame<'a>> {
     service.metrics.frames.fetch_add(1, Relaxed);
     service.metrics.received.fetch_add(u64::from(length) + 4, Relaxed);
@@ -145,14 +146,14 @@ fn read<'a>(reader: &mut BufReader<Stream>, length: u32, service: &'a Service) -
     Ok(Frame::Whole(bytes, Some(share)))
 }
 
-/// How long the bytes of a frame may take: the patience, and a second for each megabyte.
+/// Returns how long the bytes of a frame may take: the patience, and a second for each megabyte.
 fn time_for(length: usize, patience: Duration) -> Duration {
     patience + Duration::from_micros(length as u64)
 }
 
-/// Hands so many bytes to `each`, as they come.
+/// Passes `count` bytes to `each` as they arrive.
 ///
-/// Errors: those of the socket, and `TimedOut` for a client that sends, but not all of them until `end`.
+/// Errors: those of the socket, and `TimedOut` for a client that sends bytes, but not all of them before `end`.
 fn pull(reader: &mut impl BufRead, count: usize, end: Instant, mut each: impl FnMut(&[u8])) -> io::Result<()> {
     let mut left = count;
     while left > 0 {
@@ -174,8 +175,8 @@ fn pull(reader: &mut impl BufRead, count: usize, end: Instant, mut each: impl Fn
     Ok(())
 }
 
-/// Answers frames in their order, in portions. The result is false where the server is about to end, and nobody may take a missing answer
-/// for one.
+/// Answers frames in order, in portions. Returns false if the server is about to end; the connection must end then, so that a later answer
+/// is not taken for a missing one.
 fn answer(connection: u64, frames: Vec<Frame>, service: &Service, writer: &mut impl Write) -> io::Result<bool> {
     let (mut verdicts, mut asked, mut shares) = (VecDeque::new(), Vec::new(), Vec::new());
     for frame in frames {
@@ -193,7 +194,7 @@ fn answer(connection: u64, frames: Vec<Frame>, service: &Service, writer: &mut i
         };
         asked = portion.rest;
         if asked.is_empty() {
-            // The requests are gone, and whoever reads the answers slowly keeps no memory of requests from others.
+            // The requests are dropped by now. A client that reads its answers slowly must not keep a share of the memory from others.
             shares.clear();
         }
         let bytes = settle(&mut verdicts, portion.answers)?;
@@ -203,7 +204,7 @@ fn answer(connection: u64, frames: Vec<Frame>, service: &Service, writer: &mut i
     Ok(true)
 }
 
-/// Asks the segment requests; nothing where the server is about to end.
+/// Sends requests to the segment. `None` if the server is about to end.
 fn ask(asked: Vec<Vec<u8>>, service: &Service) -> Option<Portion> {
     if asked.is_empty() {
         return Some(Portion::default());
@@ -216,7 +217,7 @@ fn ask(asked: Vec<Vec<u8>>, service: &Service) -> Option<Portion> {
     }
 }
 
-/// The frames of the next answers: those of the server, and of the segment as far as there are any. Their verdicts are done.
+/// Encodes the next answers: those of the server, and those of the segment while there are any. Removes their verdicts.
 fn settle(verdicts: &mut VecDeque<Option<Vec<u8>>>, answers: Vec<Vec<u8>>) -> io::Result<Vec<u8>> {
     let (mut answers, mut bytes) = (answers.into_iter(), Vec::new());
     while let Some(verdict) = verdicts.pop_front() {
@@ -229,7 +230,7 @@ fn settle(verdicts: &mut VecDeque<Option<Vec<u8>>>, answers: Vec<Vec<u8>>) -> io
     Ok(bytes)
 }
 
-/// What the server answers by itself. Otherwise the segment is asked.
+/// Returns the server's own answer to a request, or adds the request to those for the segment.
 fn own_answer(connection: u64, request: Vec<u8>, asked: &mut Vec<Vec<u8>>, service: &Service) -> Option<Vec<u8>> {
     if !service.snapshots.allows(connection, &request) {
         return Some(b"busy".to_vec());

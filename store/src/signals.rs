@@ -1,11 +1,11 @@
-//! Signals. The standard library has no call for them, so this one file calls the system's library; nothing else here is `unsafe`.
+//! Signals. The standard library has no call for them, so this file calls the C library; it is the only file of the package with `unsafe`.
 //!
-//! The signals that stop the server are blocked in each thread, and one thread waits for them: no handler runs at all, so nothing has to
-//! be safe within one. The signal of a limit on file sizes is ignored, so that the write fails that exceeds the limit.
+//! The signals that stop the server are blocked in each thread, and one thread waits for them. No handler runs, so no code has to be safe
+//! inside one. The signal of a file size limit is ignored, so that the write that exceeds the limit fails.
 
 use std::io;
 
-/// Room for a set of signals, as the system's library has it on Linux: 1,024 bits.
+/// A signal set as the C library defines it on Linux: 1,024 bits.
 #[repr(C)]
 struct Set([u64; 16]);
 
@@ -14,8 +14,9 @@ const INTERRUPT: i32 = 2;
 const TERMINATE: i32 = 15;
 const FILE_TOO_LARGE: i32 = 25;
 
-/// What a call of `signal` is given so that a signal is ignored, and its result where it fails.
+/// The action of `signal` that ignores a signal.
 const IGNORE: usize = 1;
+/// The result of a call of `signal` that fails.
 const FAILED: usize = usize::MAX;
 
 extern "C" {
@@ -26,20 +27,20 @@ extern "C" {
     fn signal(signal: i32, action: usize) -> usize;
 }
 
-/// SIGTERM and SIGINT, which are blocked in the thread that made this and in those that it starts from then on.
+/// SIGTERM and SIGINT, blocked in the thread that made this and in the threads that it starts afterwards.
 pub struct Stop {
     set: Set,
 }
 
 impl Stop {
-    /// Blocks the signals, and ignores that of a file that is too large. The main thread calls this before it starts another one.
+    /// Blocks the signals, and ignores that of a file size limit. The main thread must call this before it starts another thread.
     pub fn block() -> io::Result<Stop> {
         // SAFETY: no handler is set, and the standard library sets none for this signal.
         if unsafe { signal(FILE_TOO_LARGE, IGNORE) } == FAILED {
             return Err(io::Error::last_os_error());
         }
         let mut stop = Stop { set: Set([0; 16]) };
-        // SAFETY: the set is valid for writes and larger than the system's, and no old mask is asked for.
+        // SAFETY: the set is valid for writes and larger than the system's, and no old mask is requested.
         let failed = unsafe {
             sigemptyset(&mut stop.set);
             sigaddset(&mut stop.set, INTERRUPT);
@@ -53,7 +54,7 @@ impl Stop {
         }
     }
 
-    /// Waits until one of the signals comes; its name.
+    /// Waits for one of the signals and returns its name.
     pub fn wait(&self) -> io::Result<&'static str> {
         let mut signal = 0;
         // SAFETY: the set was filled by `block`, and the number is valid for a write.

@@ -4,7 +4,7 @@ use std::sync::{Mutex, MutexGuard, PoisonError};
 use std::time::{Duration, Instant};
 use yieldcleat_client::{frames, requests};
 
-/// A reader that asks for no piece within this time may lose the snapshot to another reader.
+/// The lease: a reader that requests no piece for this long may lose the snapshot to another reader.
 const LEASE: Duration = Duration::from_secs(5);
 
 /// Who uses the snapshot.
@@ -55,7 +55,8 @@ impl Snapshots {
         *self.lock() = Some((Owner::Server, Instant::now()));
     }
 
-    /// Whether the segment may be asked this by a connection: not for a snapshot while another owner uses the present one.
+    /// Returns whether the connection may send this request to the segment: a `freeze` must wait while another owner uses the present
+    /// snapshot.
     pub fn allows(&self, connection: u64, request: &[u8]) -> bool {
         let owner = Owner::Connection(connection);
         asked(request).into_iter().all(|word| match word {
@@ -73,7 +74,7 @@ impl Snapshots {
     }
 }
 
-/// The first word of each request, also in a `many` and under a generation.
+/// Returns the first word of each request, also in a `many` and under a generation.
 fn asked(request: &[u8]) -> Vec<&[u8]> {
     let inside = request.strip_prefix(b"many ").map(|it| frames::inside(it).unwrap_or_default());
     inside.unwrap_or_else(|| vec![request]).into_iter().map(|it| requests::word(requests::heading(it).1)).collect()

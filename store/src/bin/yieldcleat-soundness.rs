@@ -1,7 +1,7 @@
-//! `yieldcleat-soundness`: whether the facts in the request logs of some stores are a sound log.
+//! `yieldcleat-soundness`: checks that the facts in the request logs of some stores are a sound log.
 //!
-//! An engine that breaks a law of redo logs is noticed by no node: each takes what it is sent. This program collects the facts that all
-//! nodes were sent, and asks the proved checker, `fleet check`.
+//! No node notices an engine that breaks a law of redo logs: each takes what it is sent. This program collects the facts that the nodes
+//! took, and gives them to the proved checker, `fleet check`.
 
 #![deny(unsafe_code)]
 
@@ -29,7 +29,7 @@ A log that begins after a snapshot lacks the facts before it. Give the stores of
 Exit status: 0 sound, 2 bad command line, 3 unsound, 4 a file or a program fails.
 ";
 
-/// What the command line asks for.
+/// The options of the command line.
 struct Options {
     fleet: PathBuf,
     prints: bool,
@@ -41,10 +41,10 @@ struct Options {
 enum Failure {
     CommandLine(String),
     Store(StoreError),
-    /// Two logs are of segments with other numbers of readers.
+    /// Two logs are of segments with different numbers of readers.
     Readers(u64, u64),
     Program(PathBuf, io::Error),
-    /// The program ends with a status that it has for no answer.
+    /// The program ended with a status that is not one of its answers.
     Status(PathBuf, String),
     Output(io::Error),
 }
@@ -62,7 +62,7 @@ impl fmt::Display for Failure {
     }
 }
 
-/// The facts of all logs, each once, as the digits of their bytes, and the number of readers.
+/// The facts of all logs, each once, in hexadecimal digits, and the number of readers.
 #[derive(Default)]
 struct Facts {
     digits: BTreeSet<String>,
@@ -70,7 +70,7 @@ struct Facts {
 }
 
 impl Facts {
-    /// Adds the facts of a store's log. The result is false where the log begins after a snapshot.
+    /// Adds the facts of a store's log. Returns false if the log begins after a snapshot.
     fn add_log(&mut self, folder: &Path) -> Result<bool, Failure> {
         let mut differing = None;
         let is_whole = read_log(folder, |request| differing = differing.or(self.add(request))).map_err(Failure::Store)?;
@@ -80,7 +80,7 @@ impl Facts {
         }
     }
 
-    /// Adds what a request brings. The result is both numbers of readers where it opens a segment of another one.
+    /// Adds the fact or the number of readers in a request. Returns both numbers of readers if they differ.
     fn add(&mut self, request: &[u8]) -> Option<(u64, u64)> {
         // An engine's takes name its generation first.
         if let Some(fact) = requests::heading(request).1.strip_prefix(b"take ") {
@@ -91,7 +91,7 @@ impl Facts {
         (readers != opened).then_some((readers, opened))
     }
 
-    /// The text that `fleet check` reads.
+    /// Returns the text for `fleet check`.
     fn text(&self, fleet: &Path) -> Result<String, Failure> {
         let capture = self.digits.iter().fold(String::new(), |text, digits| text + digits + "\n");
         let inspected = run(fleet, &["inspect"], capture)?;
@@ -107,7 +107,7 @@ impl Facts {
     }
 }
 
-/// Where a fact line is in the log: by epoch, and in an epoch the truncation, the records by number, and the advances.
+/// Returns the position of a fact line in the log: by epoch, and in an epoch the truncation, the records by LSN, and the advances.
 fn place(line: &str) -> (u64, u8, u64) {
     let words: Vec<_> = line.split(' ').collect();
     let number = |place: usize| words.get(place).and_then(|word| word.parse().ok()).unwrap_or(0);
@@ -118,16 +118,16 @@ fn place(line: &str) -> (u64, u8, u64) {
     }
 }
 
-/// Runs `fleet` over an input, and returns its output. Its standard error is ours.
+/// Runs `fleet` with an input and returns its output. It inherits standard error.
 fn run(fleet: &Path, words: &[&str], input: String) -> Result<Output, Failure> {
     let failure = |error| Failure::Program(fleet.to_path_buf(), error);
     let mut command = Command::new(fleet);
     let mut child = command.args(words).stdin(Stdio::piped()).stdout(Stdio::piped()).spawn().map_err(failure)?;
     let stdin = child.stdin.take();
-    // A program that ends early reads no more; its status says why.
+    // A program that ends early reads no more; its status is the reason.
     let writer = thread::spawn(move || stdin.map(|mut stdin| stdin.write_all(input.as_bytes())));
     let output = child.wait_with_output().map_err(failure)?;
-    // The writer has no result that matters, and panics nowhere.
+    // The result of the writer does not matter, and it does not panic.
     let _ = writer.join();
     Ok(output)
 }
@@ -150,7 +150,7 @@ fn read_options(words: impl Iterator<Item = String>) -> Result<Option<Options>, 
     Ok(Some(options))
 }
 
-/// The status with which the program ends.
+/// Returns the exit status of the program.
 fn answer(options: &Options) -> Result<ExitCode, Failure> {
     let mut facts = Facts::default();
     for folder in &options.folders {
@@ -177,7 +177,7 @@ fn print(bytes: &[u8]) -> Result<(), Failure> {
 }
 
 fn say(what: &str) {
-    // A message that nobody reads changes no answer.
+    // A message that cannot be written changes no answer.
     let _ = writeln!(io::stderr(), "yieldcleat-soundness: {what}");
 }
 
