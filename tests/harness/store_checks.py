@@ -142,7 +142,7 @@ def check_answers(program, folder, disk, choose):
             text = log(0, [[b"open 1"], [*takes(1, 3), wrong], [take(4)]])
             (it.data / "log.0").write_bytes(text)
             status, said = it.refused()
-            assert status == 4 and "the node answers `" in said, (wrong, status, said)
+            assert status == 4 and "the node answered `" in said, (wrong, status, said)
             assert (it.data / "log.0").read_bytes() == text
 
 
