@@ -1,4 +1,4 @@
-//! Where a node listens.
+//! The address at which a node listens.
 
 use std::fmt;
 use std::path::PathBuf;
@@ -8,11 +8,11 @@ use std::str::FromStr;
 #[derive(Debug, Clone, PartialEq, Eq, Hash)]
 pub enum Address {
     Unix(PathBuf),
-    /// The host's name or number and the port, as `ToSocketAddrs` reads them.
+    /// The host's name or number and its port, as `ToSocketAddrs` reads them.
     Tcp(String),
 }
 
-/// A text that is no address.
+/// The error for a text that is not an address.
 #[derive(Debug, Clone, PartialEq, Eq)]
 pub struct BadAddress(String);
 

@@ -1,16 +1,16 @@
-//! From the bytes of answers to values. Each function reads one kind of answer, and gives the error that another answer says.
+//! Decoding of answers. Each function decodes one kind of answer, and returns the error that any other answer means.
 
 use crate::engines;
 use crate::errors::{Error, ReadFault, Refused, SnapshotFault, StagingFault, Uncovered, WireFault};
 
-/// Whether a fact has changed what the segment means.
+/// The effect of a fact on the segment's meaning.
 #[derive(Debug, Clone, Copy, PartialEq, Eq)]
 pub enum Taken {
     Changed,
     Unchanged,
 }
 
-/// How far a segment is.
+/// The front of a segment: how far its log is complete, and from which point it can be read.
 #[derive(Debug, Clone, Copy, PartialEq, Eq)]
 pub struct Front {
     /// The complete epoch.
@@ -22,52 +22,62 @@ pub struct Front {
 }
 
 impl Front {
-    /// Whether it acknowledges a record of a sound log by its key. Only a front of the record's own epoch does: an answer `unchanged` may
-    /// be that to a dead record, and fronts of other epochs do not compare.
+    /// Returns whether this front acknowledges the record of a sound log with this key. Only a front of the record's own epoch does:
+    /// `unchanged` may also be the answer to a dead record, and fronts of different epochs do not compare.
     pub fn has(&self, key: Key) -> bool {
         self.epoch == key.epoch && self.complete >= key.number
     }
 }
 
-/// What a segment stores, in numbers.
+/// Counts of what the segment stores, and the points that bound it.
 #[derive(Debug, Clone, Copy, PartialEq, Eq)]
 pub struct State {
+    /// The complete epoch.
     pub epoch: u16,
+    /// The complete point.
     pub complete: u64,
+    /// The minimum read point.
     pub min: u64,
+    /// The greatest linked LSN not above the minimum read point.
     pub anchor: u64,
+    /// The base point: a point up to which nothing is missing, and below which records may have been discarded.
     pub base: u64,
+    /// The number of stored records.
     pub held: u64,
+    /// The number of kept records: those alive above the anchor, or waiting for a later epoch.
     pub kept: u64,
+    /// The number of page images.
     pub images: u64,
+    /// The number of truncations.
     pub truncations: u64,
+    /// The number of advances that wait for a later epoch.
     pub waiting: u64,
 }
 
 /// What the complete point waits for.
 #[derive(Debug, Clone, Copy, PartialEq, Eq)]
 pub enum Gap {
-    /// The record of this number, behind which others are held already.
+    /// The record with this LSN: later ones are stored, and it is missing.
     Record { number: u64 },
-    /// The truncation that begins this epoch, for which records wait.
+    /// The truncation that begins this epoch: records wait for it.
     Truncation { epoch: u16 },
 }
 
-/// The key of a record: its epoch and its LSN.
+/// The key of a record: its epoch and LSN.
 #[derive(Debug, Clone, Copy, PartialEq, Eq, PartialOrd, Ord, Default)]
 pub struct Key {
     pub epoch: u16,
     pub number: u64,
 }
 
-/// A stored record: its key, and its bytes as a fact.
+/// A stored record: its key, and its encoding as a fact.
 #[derive(Debug, Clone, PartialEq, Eq)]
 pub struct Held {
     pub key: Key,
     pub bytes: Vec<u8>,
 }
 
-/// The numbers behind a word, where there are just so many and each fits.
+/// Parses exactly N decimal numbers after a word. `None` if there are more or fewer, or one exceeds 64 bits.
 fn numbers<const N: usize>(answer: &[u8], word: &str) -> Option<[u64; N]> {
     let rest = std::str::from_utf8(answer).ok()?.strip_prefix(word)?;
     let mut numbers = [0; N];
@@ -78,7 +88,7 @@ fn numbers<const N: usize>(answer: &[u8], word: &str) -> Option<[u64; N]> {
     words.next().is_none().then_some(numbers)
 }
 
-/// A number that the answer gives to a field of fewer bits.
+/// Converts a number to a field of fewer bits, if it fits.
 fn small<T: TryFrom<u64>>(number: u64) -> Option<T> {
     T::try_from(number).ok()
 }
@@ -118,7 +128,7 @@ fn staging(answer: &[u8]) -> Option<StagingFault> {
     Some(StagingFault::Malformed { index: small(index)? })
 }
 
-/// What an answer of a word and numbers says went wrong.
+/// Decodes the errors that consist of a word and numbers.
 fn numbered(answer: &[u8]) -> Option<Error> {
     if let Some([fault]) = numbers(answer, "wire ") {
         return Some(Error::Wire(WireFault::of(fault)?));
@@ -139,7 +149,7 @@ fn numbered(answer: &[u8]) -> Option<Error> {
     Some(Error::Uncovered(Uncovered::Key { epoch: small(epoch)?, number }))
 }
 
-/// Why a request was not carried out, by its answer.
+/// Returns the error that an answer means.
 pub fn error_of(answer: &[u8]) -> Error {
     match answer {
         b"memory" => Error::Memory,
@@ -163,7 +173,7 @@ pub fn error_of(answer: &[u8]) -> Error {
     }
 }
 
-/// An answer that is these words, and no other.
+/// Checks that an answer is exactly these words.
 pub fn done(answer: &[u8], words: &str) -> Result<(), Error> {
     if answer == words.as_bytes() {
         Ok(())
@@ -172,7 +182,7 @@ pub fn done(answer: &[u8], words: &str) -> Result<(), Error> {
     }
 }
 
-/// The bytes behind a word. (Those of a page may be any; the values of other words begin with their tags.)
+/// Returns the bytes after a word. (Those of a page may be any bytes; other values begin with a tag.)
 pub fn bytes(answer: &[u8], word: &str) -> Result<Vec<u8>, Error> {
     match answer.strip_prefix(word.as_bytes()) {
         Some(bytes) if bytes != b"too long" || word == "page " => Ok(bytes.to_vec()),
@@ -210,7 +220,7 @@ pub fn state(answer: &[u8]) -> Result<State, Error> {
     state().ok_or_else(|| error_of(answer))
 }
 
-/// The number of pieces of a snapshot.
+/// Returns the number of pieces of the frozen snapshot.
 pub fn frozen(answer: &[u8]) -> Result<u32, Error> {
     numbers(answer, "frozen ").and_then(|[total]| small(total)).ok_or_else(|| error_of(answer))
 }
@@ -226,7 +236,7 @@ pub fn gap(answer: &[u8]) -> Result<Option<Gap>, Error> {
     truncation.map(|epoch| Some(Gap::Truncation { epoch })).ok_or_else(|| error_of(answer))
 }
 
-/// The stored record in an answer, if there was one.
+/// Returns the stored record in an answer; `None` if there is none.
 pub fn held(answer: &[u8]) -> Result<Option<Held>, Error> {
     if answer == b"none" {
         return Ok(None);

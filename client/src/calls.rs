@@ -1,34 +1,37 @@
-//! The calls of a segment, whatever carries their frames.
+//! The calls of a segment, over any carrier of frames.
 
 use crate::answers::{self, Front, Gap, Held, Key, State, Taken};
 use crate::errors::Error;
 use crate::{frames, requests};
 use std::iter::Peekable;
 
-/// The most requests that one frame holds, and the bytes of requests after which it holds no more. A request of so many bytes goes in a
-/// frame of its own.
+/// The greatest number of requests in one frame.
 pub const MOST: usize = 256;
+/// The number of request bytes at which a frame is complete. A request of this size or more is sent in a frame of its own.
 const ENOUGH: usize = 1 << 16;
 
-/// One segment that answers requests. A call waits for its answer.
+/// A segment that answers requests. Each call waits for its answer.
 ///
-/// Each call may end in `Memory`, `LongFrame`, and an error of what carries it: `Stopped`, `TimedOut` or `Lost`. Whatever else it may end
-/// in is at the call. One frame of requests is on its way at a time, so neither side ever waits to write while the other one does.
+/// Errors: each call may return `Memory`, `LongFrame`, `Strange`, or an error of the carrier: `Stopped`, `TimedOut` or `Lost`. A connection
+/// to a server may also return `LongAnswer`, `DiskFull`, `NotAllowed` and `Busy`. Each call lists its other errors.
+///
+/// Only one frame of requests is in flight at a time, so the two sides never block each other by writing.
 pub trait Calls {
-    /// Sends a frame of these parts, one after the other, and reads its answer.
+    /// Sends a frame that consists of these parts, in order, and returns its answer.
     fn ask_parts(&mut self, parts: &[&[u8]]) -> Result<&[u8], Error>;
 
-    /// The bytes of the answer to the bytes of a request, whatever both are: those of `requests`, kept in a file, say.
+    /// Sends a request and returns the bytes of its answer, whatever both are: for example a request of `requests` that was read from a
+    /// file.
     ///
-    /// `LongFrame` is its error for 2^32 bytes or more.
+    /// Errors: `LongFrame` for 2^32 bytes or more.
     fn ask(&mut self, request: &[u8]) -> Result<&[u8], Error> {
         self.ask_parts(&[request])
     }
 
-    /// Asks requests in order, none of them a `many`, and returns the answer to each. They go many in a frame, and where the segment
-    /// lacks memory for the answers to one, that is the answer to each request in it.
+    /// Sends requests in order and returns the answer to each. None of them may be a `many`. Several are sent in one frame; if the segment
+    /// answers a whole frame at once, for example because it lacks memory, each request in it gets that answer.
     ///
-    /// After `LongFrame`, where a request has 2^32 bytes or more, some of the requests are carried out.
+    /// Errors: after `LongFrame`, because a request has 2^32 bytes or more, some of the requests may have been carried out.
     fn ask_all<'a, I>(&mut self, requests: I) -> Result<Vec<Vec<u8>>, Error>
     where
         I: IntoIterator<Item = &'a [u8]>,
@@ -43,18 +46,18 @@ pub trait Calls {
 
     // Facts
 
-    /// Takes a fact, as its bytes.
+    /// Delivers an encoded fact.
     ///
-    /// Errors: `Refused`, and `Wire` where they are no fact.
+    /// Errors: `Refused`, and `Wire` if the bytes are not a fact.
     fn take(&mut self, fact: &[u8]) -> Result<Taken, Error> {
         answers::taken(self.ask_parts(&[b"take ", fact])?)
     }
 
-    /// Takes facts in order, and says of each what `take` would. They go many in a frame, and where the segment lacks memory for the
-    /// answers to one, that is said of each fact in it. If the iterator panics, the facts of the frames before are taken, and the segment
-    /// serves on.
+    /// Delivers facts in order and returns the result of `take` for each. Several are sent in one frame; if the segment answers a whole
+    /// frame at once, for example because it lacks memory, each fact in it gets that result. If the iterator panics, the facts of the
+    /// frames before are taken, and the segment can still be used.
     ///
-    /// After `LongFrame`, where a fact has 2^32 bytes or more, some of the facts are taken.
+    /// Errors: after `LongFrame`, because a fact has 2^32 bytes or more, some of the facts may have been taken.
     fn take_all<'a, I>(&mut self, facts: I) -> Result<Vec<Result<Taken, Error>>, Error>
     where
         I: IntoIterator<Item = &'a [u8]>,
@@ -67,8 +70,8 @@ pub trait Calls {
         Ok(taken)
     }
 
-    /// Takes facts, the last record of a sound log's among them, and says whether the segment acknowledges that one. Its front says so,
-    /// and no answer to a take: `unchanged` comes for a repeat and for a dead record.
+    /// Delivers facts that include the record of a sound log with key `last`, and returns whether the segment acknowledges that record.
+    /// This depends on the segment's front and not on the answers to the takes: `unchanged` answers both a repeat and a dead record.
     ///
     /// Errors: that of the first fact that is not taken; facts before and after it may be taken.
     fn store<'a, I>(&mut self, facts: I, last: Key) -> Result<bool, Error>
@@ -80,80 +83,83 @@ pub trait Calls {
         Ok(self.front()?.has(last))
     }
 
-    // What it knows
+    // What the segment knows
 
-    /// How far the segment is.
+    /// Returns the front of the segment.
     fn front(&mut self) -> Result<Front, Error> {
         answers::front(self.ask(b"front")?)
     }
 
-    /// What it stores, in numbers.
+    /// Returns counts of what the segment stores.
     fn state(&mut self) -> Result<State, Error> {
         answers::state(self.ask(b"state")?)
     }
 
-    /// Some bytes of a page at a point: `len`, at least one, from `offset` on, within the page's 4,096.
+    /// Reads `len` bytes of a page at a read point, from `offset` on. `len` is at least 1, and the range lies within the page's 4,096
+    /// bytes.
     ///
-    /// Errors: `Read`, `Broken` and `BadRequest`.
+    /// Errors: `Read`, `Broken`, and `BadRequest` for a range outside the page.
     fn read(&mut self, page: u16, point: u64, offset: u16, len: u16) -> Result<Vec<u8>, Error> {
         answers::bytes(self.ask(format!("read {page} {point} {offset} {len}").as_bytes())?, "page ")
     }
 
-    /// The held record with the least key above this one; from `Key::default()` on, all come in turn.
+    /// Returns the stored record with the least key above this one. Repeated calls from `Key::default()` on return all stored records in
+    /// order.
     fn next(&mut self, key: Key) -> Result<Option<Held>, Error> {
         answers::held(self.ask(format!("next {} {}", key.epoch, key.number).as_bytes())?)
     }
 
-    /// What the complete point waits for; nothing where no record is held above it.
+    /// Returns what the complete point waits for; `None` if no stored record waits or is alive above it.
     fn gap(&mut self) -> Result<Option<Gap>, Error> {
         answers::gap(self.ask(b"gap")?)
     }
 
     // Gossip
 
-    /// What the segment has, as bytes for any other one.
+    /// Returns the segment's summary, encoded for another segment.
     ///
     /// Errors: `TooLong`.
     fn summary(&mut self) -> Result<Vec<u8>, Error> {
         answers::bytes(self.ask(b"ask")?, "summary ")
     }
 
-    /// What the segment has beyond a summary of another one, as bytes for that one.
+    /// Returns the delta for another segment's summary: what this segment has beyond it, encoded for that segment.
     ///
-    /// Errors: `Wire` where the bytes are no summary, `Broken` and `TooLong`.
+    /// Errors: `Wire` if the bytes are not a summary, `Broken` and `TooLong`.
     fn reply(&mut self, summary: &[u8]) -> Result<Vec<u8>, Error> {
         answers::bytes(self.ask(&requests::answer(summary))?, "delta ")
     }
 
-    /// The same, if the reply has at most so many bytes. Where it has more, a snapshot brings the other segment what it lacks, by `unite`.
+    /// Like `reply`, for a delta of at most `most` bytes. If it would have more, bring the other segment up to date with a snapshot and
+    /// `unite`.
     ///
     /// Errors: those of `reply`, and `Large`.
     fn reply_within(&mut self, summary: &[u8], most: u32) -> Result<Vec<u8>, Error> {
         answers::bytes(self.ask(&requests::within(summary, most))?, "delta ")
     }
 
-    /// Takes the reply to a summary of this segment.
+    /// Applies the delta that another segment returned for a summary of this segment.
     ///
-    /// Errors: `Uncovered` where the segment has lost since what the summary told, `Refused`, and `Wire`.
+    /// Errors: `Uncovered` if the segment has lost something that the summary lists, `Refused`, and `Wire`. They change nothing.
     fn absorb(&mut self, summary: &[u8], delta: &[u8]) -> Result<(), Error> {
         put(self, &requests::absorb(summary, delta), "absorbed")
     }
 
-    // Room
+    // Space
 
-    /// Brings a page's image to the anchor.
+    /// Folds a page: applies its records up to the anchor to its image.
     ///
     /// Errors: `Broken`.
     fn fold(&mut self, page: u16) -> Result<(), Error> {
         put(self, &requests::fold(page), "folded")
     }
 
-    /// Forgets what is folded.
+    /// Raises the base point to the anchor and removes the records that images contain.
     fn discard(&mut self) -> Result<(), Error> {
         put(self, b"discard", "discarded")
     }
 
-    /// Folds each page, and forgets all that is not needed any more.
+    /// Folds every page with stored records, discards, and removes dead records.
     ///
     /// Errors: `Broken`.
     fn tidy(&mut self) -> Result<(), Error> {
@@ -162,42 +168,42 @@ pub trait Calls {
 
     // Snapshots
 
-    /// Keeps a snapshot until the next one, and says how many pieces it has. A name is at most 2^48 - 1.
+    /// Makes a snapshot, which the segment keeps until the next one, and returns the number of its pieces. A name is at most 2^48 - 1.
     ///
     /// Errors: `Snapshot` and `BadRequest`.
     fn freeze(&mut self, name: u64) -> Result<u32, Error> {
         answers::frozen(self.ask(format!("freeze {name}").as_bytes())?)
     }
 
-    /// A piece of the kept snapshot, from 0.
+    /// Returns a piece of the snapshot; pieces are numbered from 0.
     ///
     /// Errors: `Snapshot` and `TooLong`.
     fn piece(&mut self, index: u32) -> Result<Vec<u8>, Error> {
         answers::bytes(self.ask(format!("piece {index}").as_bytes())?, "piece ")
     }
 
-    /// Begins a staging for so many pieces of a snapshot of that name, in place of an older staging.
+    /// Begins a staging for the `total` pieces of a snapshot of that name. It replaces an older staging.
     ///
     /// Errors: `BadRequest`.
     fn stage(&mut self, name: u64, total: u32) -> Result<(), Error> {
         put(self, &requests::stage(name, total), "staged")
     }
 
-    /// Adds a piece to the staging, in any order.
+    /// Adds a piece to the staging. Pieces may be added in any order.
     ///
-    /// Errors: `Staging`, and `Wire`.
+    /// Errors: `Staging`, and `Wire` if the bytes are not a piece.
     fn add(&mut self, piece: &[u8]) -> Result<(), Error> {
         put(self, &requests::add(piece), "added")
     }
 
-    /// Puts the segment of the staged pieces in place of the segment.
+    /// Replaces the segment with the segment of the staged pieces.
     ///
     /// Errors: `Staging`.
     fn finish(&mut self) -> Result<(), Error> {
         put(self, &requests::finish(), "restored")
     }
 
-    /// Joins the segment of the staged pieces into the segment, which so loses nothing.
+    /// Joins the segment of the staged pieces into the segment, which loses nothing.
     ///
     /// Errors: `Staging`, and `Refused`.
     fn unite(&mut self) -> Result<(), Error> {
@@ -209,7 +215,7 @@ fn put(calls: &mut (impl Calls + ?Sized), request: &[u8], done: &str) -> Result<
     answers::done(calls.ask(request)?, done)
 }
 
-/// Asks the next requests, each a word and these bytes: as many as one frame holds.
+/// Sends the next requests, each prefixed with `word`, as many as one frame has room for, and passes each answer to `heard`.
 fn ask_some<'a, I>(calls: &mut impl Calls, word: &[u8], requests: &mut Peekable<I>, mut heard: impl FnMut(&[u8])) -> Result<(), Error>
 where
     I: Iterator<Item = &'a [u8]>,

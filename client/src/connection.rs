@@ -1,4 +1,4 @@
-//! A connection to a node that listens.
+//! A connection to a node.
 
 use crate::address::Address;
 use crate::calls::Calls;
@@ -8,14 +8,14 @@ use crate::stream::Stream;
 use std::io::{self, BufReader, ErrorKind, Read};
 use std::time::{Duration, Instant};
 
-/// How long a connection waits, and what it takes.
+/// The timeouts of a connection, and the size of an answer.
 #[derive(Debug, Clone, Copy, PartialEq, Eq)]
 pub struct Limits {
-    /// Until a connection is made.
+    /// The timeout of a connection attempt.
     pub connect: Duration,
-    /// For the next bytes of an answer, and for room to send.
+    /// The timeout for the next bytes of an answer, and for room to send.
     pub answer: Duration,
-    /// The most bytes of an answer.
+    /// The greatest number of bytes of an answer.
     pub longest: u32,
 }
 
@@ -25,7 +25,7 @@ impl Default for Limits {
     }
 }
 
-/// How long a connection waits for bytes, or for room to send some: so long, and not beyond the end, where there is one.
+/// The limit of each wait for bytes or for room: `answer`, and not beyond `end` if there is one.
 #[derive(Debug, Clone, Copy)]
 struct Patience {
     answer: Duration,
@@ -33,9 +33,9 @@ struct Patience {
 }
 
 impl Patience {
-    /// How long it waits from a moment on.
+    /// Returns how long a read or write that begins at this moment may wait.
     ///
-    /// Its error is `TimedOut`, where the end has come.
+    /// Errors: `TimedOut` if no time is left.
     fn left(self, now: Instant) -> io::Result<Duration> {
         let left = self.end.map_or(self.answer, |end| self.answer.min(end.saturating_duration_since(now)));
         if left.is_zero() {
@@ -45,7 +45,8 @@ impl Patience {
         }
     }
 
-    /// Reads or writes some bytes. Where a signal interrupts that, the system waits from the start again, and this does not.
+    /// Reads or writes some bytes, and repeats that after a signal while time is left. Each repetition starts the socket's timeout again,
+    /// so signals may extend the wait to almost twice the time. A long write to a Unix socket may wait for room several times.
     fn wait(self, stream: &Stream, mut step: impl FnMut() -> io::Result<usize>) -> io::Result<usize> {
         let begun = Instant::now();
         let left = self.left(begun)?;
@@ -62,8 +63,8 @@ impl Patience {
     }
 }
 
-/// One connection to a node. After `TimedOut`, `Lost` and `LongAnswer` of a frame it is closed, and each call ends in `Lost`: open
-/// another one. Whether a request that was sent is carried out is not known then.
+/// A connection to a node. `TimedOut`, `Lost`, and `LongAnswer` for an answer over the limit close it, and each later call returns `Lost`:
+/// open another one. Whether a request that was sent is carried out is not known then.
 #[derive(Debug)]
 pub struct Connection {
     reader: BufReader<Stream>,
@@ -78,15 +79,15 @@ pub struct Connection {
 impl Connection {
     /// Connects to a node.
     ///
-    /// Its error is `NotConnected`.
+    /// Errors: `NotConnected`.
     pub fn open(address: &Address, limits: Limits) -> Result<Connection, Error> {
         let not_connected = |error: io::Error| Error::NotConnected(error.kind());
         Connection::over(Stream::connect(address, limits.connect).map_err(not_connected)?, limits)
     }
 
-    /// The same over a socket that is connected.
+    /// Makes a connection of a connected socket.
     ///
-    /// Its error is `NotConnected`.
+    /// Errors: `NotConnected`.
     pub fn over(stream: Stream, limits: Limits) -> Result<Connection, Error> {
         let not_connected = |error: io::Error| Error::NotConnected(error.kind());
         stream.set_timeouts(Some(limits.answer), Some(limits.answer)).map_err(not_connected)?;
@@ -96,12 +97,13 @@ impl Connection {
         Ok(Connection { reader: BufReader::new(stream), writer, patience, longest: limits.longest, request, answer, is_open: true })
     }
 
-    /// Whether the connection can carry another call.
+    /// Returns whether the connection can carry another call.
     pub fn is_open(&self) -> bool {
         self.is_open
     }
 
-    /// Has each later call end by a moment at the latest, also where an answer comes slowly; without one, as the limits say.
+    /// Sets a deadline for all later calls: a call that reaches it returns `TimedOut`, even while an answer arrives slowly. A signal, or a
+    /// node that reads a long frame slowly, may delay that. With `None`, only the timeouts of the limits apply.
     pub fn end_at(&mut self, end: Option<Instant>) -> io::Result<()> {
         if end.is_none() && self.patience.end.is_some() {
             self.writer.set_timeouts(Some(self.patience.answer), Some(self.patience.answer))?;
@@ -110,8 +112,8 @@ impl Connection {
         Ok(())
     }
 
-    /// Sends a frame, and does not wait for its answer. The caller reads one answer with `receive` for each frame that was sent, and
-    /// sends no more than the node reads without being read: a few.
+    /// Sends a frame without waiting for its answer. The caller must call `receive` once for each frame, in order, and must leave only a
+    /// few answers unread: a node that cannot write its answers stops reading.
     ///
     /// Errors: `LongFrame`, `TimedOut` and `Lost`.
     pub fn send(&mut self, parts: &[&[u8]]) -> Result<(), Error> {
@@ -134,14 +136,14 @@ impl Connection {
         Ok(())
     }
 
-    /// The next answer.
+    /// Returns the next answer.
     ///
-    /// Errors: `TimedOut`, `Lost`, and `LongAnswer` where it exceeds the limit.
+    /// Errors: `TimedOut`, `Lost`, and `LongAnswer` if the answer exceeds the limit.
     pub fn receive(&mut self) -> Result<&[u8], Error> {
         self.receive_with(|_| ())
     }
 
-    /// The same. It calls a function with the number of bytes whenever some of the answer have come, which may take long.
+    /// Like `receive`, for an answer that may take long: calls `came` with the number of bytes whenever some of them arrive.
     ///
     /// Errors: those of `receive`.
     pub fn receive_with(&mut self, came: impl FnMut(usize)) -> Result<&[u8], Error> {
@@ -160,10 +162,10 @@ impl Connection {
         }
     }
 
-    /// Closes the connection, since the next bytes are no answer to the next request.
+    /// Closes the connection, because its next bytes are not an answer to the next request.
     fn close(&mut self, kind: ErrorKind) -> Error {
         self.is_open = false;
-        // An error says that the connection has ended already.
+        // An error means that the connection has ended already.
         let _ = self.writer.shutdown();
         match kind {
             ErrorKind::WouldBlock | ErrorKind::TimedOut => Error::TimedOut,
@@ -172,7 +174,7 @@ impl Connection {
     }
 }
 
-/// A reader that waits as long as it may, and reports each number of bytes it has read.
+/// A reader that limits each wait, and reports the number of bytes of each read.
 struct Counted<'a, F> {
     reader: &'a mut BufReader<Stream>,
     stream: &'a Stream,
@@ -261,7 +263,7 @@ mod tests {
     fn a_slow_answer_ends_in_time() {
         let (mut connection, mut other) = pair(limits(5000, 100));
         let served = thread::spawn(move || {
-            // An answer of which a byte comes now and then.
+            // An answer that arrives one byte at a time.
             let parts = [&b"\0\0\0\x64"[..]].into_iter().chain([&b"x"[..]; 100]);
             parts.take_while(|part| other.write_all(part).is_ok()).for_each(|_| thread::sleep(Duration::from_millis(20)));
         });

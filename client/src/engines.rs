@@ -1,4 +1,4 @@
-//! The calls of an engine that is one of several: a node answers the engine of one generation alone.
+//! The calls of an engine among several. A member node answers the engine of one generation only.
 
 use crate::answers::{self, error_of, Front};
 use crate::calls::Calls;
@@ -14,18 +14,18 @@ pub struct Accepted {
     pub cut: Truncation,
 }
 
-/// What a node is, and how far its segment has come.
+/// The status of a node: its generation, birth, membership, front and accepted truncation.
 #[derive(Debug, Clone, Copy, PartialEq, Eq)]
 pub struct Membership {
     pub generation: u64,
-    /// The number of this life of the node.
+    /// The number that identifies this life of the node.
     pub birth: u64,
     pub is_member: bool,
     pub front: Front,
     pub accepted: Option<Accepted>,
 }
 
-/// A node that serves this generation from now on.
+/// The answer of a node that serves this generation only.
 #[derive(Debug, Clone, Copy, PartialEq, Eq)]
 pub struct Fenced {
     pub generation: u64,
@@ -33,36 +33,40 @@ pub struct Fenced {
     pub accepted: Option<Accepted>,
 }
 
-/// For whom a node carries out a request: the engine of a generation, if this is the birth of the node.
+/// The generation and birth under which a request is carried out: the node must have both.
 #[derive(Debug, Clone, Copy, PartialEq, Eq)]
 pub struct Name {
     pub generation: u64,
     pub birth: u64,
 }
 
-/// What makes a fresh node a member: the generation that it gets, the birth that it must have, and how far it must have come.
+/// The conditions of an admission: the generation that the node gets, the birth that it must have, and the front that it must have reached.
 #[derive(Debug, Clone, Copy, PartialEq, Eq)]
 pub struct Admission {
     pub name: Name,
+    /// The complete epoch that the node must have.
     pub epoch: u16,
+    /// The least complete point that the node must have.
     pub complete: u64,
+    /// The accepted truncation that the node gets.
     pub accepted: Option<Accepted>,
 }
 
-/// Why a node declined the request of an engine. Nothing has changed.
+/// Why a node declined an engine's request. Nothing has changed.
 #[derive(Debug, Clone, Copy, PartialEq, Eq)]
 pub enum Declined {
-    /// The node is a member of this generation, and serves no other, no other birth, and no proposal older than one that it has accepted.
+    /// The node is a member of this generation. It serves no other generation, no other birth, and no proposal older than one that it
+    /// accepted.
     Stale { generation: u64 },
-    /// The node is not a member, and this is its birth.
+    /// The node is not a member, and has this birth.
     Fresh { birth: u64 },
-    /// No engine may ask this under its generation.
+    /// The request cannot be sent under a generation.
     Unguarded,
     /// The node is a member: it is not admitted again, and its segment is not replaced.
     Member,
-    /// The node has another birth than the admission names: this one.
+    /// The admission names another birth than the node has, which is this one.
     Stranger { birth: u64 },
-    /// The node's front is not the one that the admission asks for.
+    /// The node's front is of another epoch than the admission requires, or its complete point is too low. These are the node's.
     Behind { epoch: u16, complete: u64 },
 }
 
@@ -81,42 +85,42 @@ impl fmt::Display for Declined {
 
 // ---- Requests
 
-/// What the node is.
+/// Requests the status of a node.
 pub const STATUS: &[u8] = b"status";
 
 fn pair(accepted: Option<Accepted>) -> String {
     accepted.map_or_else(String::new, |it| format!(" {} {} {} {}", it.generation, it.cut.epoch, it.cut.lo, it.cut.hi))
 }
 
-/// Serve this generation, if it is above the node's own.
+/// Encodes the request to serve this generation, if it is above the node's own.
 pub fn fence(generation: u64) -> Vec<u8> {
     format!("fence {generation}").into_bytes()
 }
 
-/// The prefix of a request that is carried out for one engine alone.
+/// Returns the prefix of a request that is carried out for one engine only.
 pub fn heading(name: Name) -> Vec<u8> {
     format!("as {} {} ", name.generation, name.birth).into_bytes()
 }
 
-/// A request that is carried out for one engine alone.
+/// Encodes a request that is carried out for one engine only.
 pub fn under(name: Name, request: &[u8]) -> Vec<u8> {
     [heading(name).as_slice(), request].concat()
 }
 
-/// Accept a truncation.
+/// Encodes the request to accept a truncation.
 pub fn propose(name: Name, cut: &Truncation) -> Vec<u8> {
     format!("propose {} {} {} {} {}", name.generation, name.birth, cut.epoch, cut.lo, cut.hi).into_bytes()
 }
 
-/// Become a member.
+/// Encodes the request to become a member.
 pub fn admit(admission: &Admission) -> Vec<u8> {
     let Admission { name, epoch, complete, accepted } = *admission;
     format!("admit {} {} {epoch} {complete}{}", name.generation, name.birth, pair(accepted)).into_bytes()
 }
 
-/// Many requests in one, each carried out for one engine alone.
+/// Encodes many requests as one, each carried out for one engine only.
 ///
-/// Its error is a request of 2^32 bytes or more.
+/// Errors: a request of 2^32 bytes or more.
 pub fn many_under<'a>(name: Name, requests: impl IntoIterator<Item = &'a [u8]>) -> io::Result<Vec<u8>> {
     let (heading, mut request) = (heading(name), b"many ".to_vec());
     requests.into_iter().try_for_each(|it| frames::append(&mut request, &[&heading, it]))?;
@@ -125,13 +129,13 @@ pub fn many_under<'a>(name: Name, requests: impl IntoIterator<Item = &'a [u8]>) 
 
 // ---- Answers
 
-/// The numbers after a word, of which all fit 64 bits.
+/// Parses the numbers after a word. `None` if one is not a number of 64 bits.
 fn numbers(answer: &[u8], word: &str) -> Option<Vec<u64>> {
     let rest = std::str::from_utf8(answer).ok()?.strip_prefix(word)?.strip_prefix(' ')?;
     rest.split(' ').map(|it| it.parse().ok()).collect()
 }
 
-/// An accepted truncation of four numbers, or none of none.
+/// Parses an accepted truncation from four numbers, or none from no numbers.
 fn accepted(numbers: &[u64]) -> Option<Option<Accepted>> {
     match *numbers {
         [] => Some(None),
@@ -143,7 +147,7 @@ fn accepted(numbers: &[u64]) -> Option<Option<Accepted>> {
     }
 }
 
-/// Why an engine's request was not carried out, or a plain one for a member's sake.
+/// Decodes why a node declined an engine's request, or another request because it is a member.
 pub(crate) fn declined(answer: &[u8]) -> Option<Declined> {
     match answer {
         b"unguarded" => return Some(Declined::Unguarded),
@@ -185,12 +189,12 @@ pub fn fenced(answer: &[u8]) -> Result<Fenced, Error> {
     fenced().ok_or_else(|| error_of(answer))
 }
 
-/// The answer of the replica to a request under this name. One that names another generation or birth is `Strange`.
+/// Returns the answer of the segment to a request under this name. An answer under another generation or birth is `Strange`.
 pub fn headed(answer: &[u8], name: Name) -> Result<&[u8], Error> {
     answer.strip_prefix(heading(name).as_slice()).ok_or_else(|| error_of(answer))
 }
 
-/// Whether the answer says that the node has accepted the truncation of this epoch from this engine.
+/// Checks that the node accepted the truncation of this epoch from this engine.
 pub fn proposed(answer: &[u8], name: Name, epoch: u16) -> Result<(), Error> {
     answers::done(answer, &format!("accepted {} {} {epoch}", name.generation, name.birth))
 }
@@ -201,9 +205,9 @@ pub fn admitted(answer: &[u8], name: Name) -> Result<(), Error> {
 
 // ---- Calls
 
-/// The calls of one of several engines, over whatever carries frames. Each may end in `Declined`, beside the errors of `Calls`.
+/// The calls of one of several engines. Each may return `Declined`, besides the errors of `Calls`.
 pub trait EngineCalls: Calls {
-    /// What the node is: generation, birth, membership, front and accepted truncation.
+    /// Returns the status of the node.
     fn membership(&mut self) -> Result<Membership, Error> {
         membership(self.ask(STATUS)?)
     }
@@ -213,17 +217,17 @@ pub trait EngineCalls: Calls {
         fenced(self.ask(&fence(generation))?)
     }
 
-    /// The answer to a request, which the node carries out for this engine alone.
+    /// Sends a request that the node carries out for this engine only, and returns its answer.
     fn ask_under(&mut self, name: Name, request: &[u8]) -> Result<Vec<u8>, Error> {
         headed(self.ask_parts(&[&heading(name), request])?, name).map(<[u8]>::to_vec)
     }
 
-    /// The front of a node that serves this engine.
+    /// Returns the front of a node that serves this engine.
     fn front_under(&mut self, name: Name) -> Result<Front, Error> {
         answers::front(&self.ask_under(name, b"front")?)
     }
 
-    /// Proposes a truncation, which the node accepts unless it has accepted one of a later epoch from this engine.
+    /// Proposes a truncation. The node accepts it unless it has accepted one of a later epoch from this engine.
     fn propose(&mut self, name: Name, cut: &Truncation) -> Result<(), Error> {
         proposed(self.ask(&propose(name, cut))?, name, cut.epoch)
     }

@@ -1,33 +1,33 @@
-//! Why a call was not carried out.
+//! The errors of calls.
 
 use crate::engines::Declined;
 use std::fmt;
 
-/// Why a fact or a delta is refused. Over a sound log none is.
+/// Why a fact, a delta or a staged segment is refused. Facts of one sound log are never refused.
 #[derive(Debug, Clone, Copy, PartialEq, Eq)]
 pub enum Refused {
-    /// The segment has `own` readers; the advance names reader `shown`, or the delta has `shown` readers.
+    /// The segment has `own` readers, and an advance names reader `shown`, or a delta or staged segment has `shown` readers.
     Roster { own: u8, shown: u8 },
-    /// Another truncation of that epoch is stored: this one.
+    /// This other truncation of the epoch is stored.
     OtherTruncation { epoch: u16, lo: u64, hi: u64 },
     /// It contradicts the minimum read point.
     Least { min: u64 },
-    /// It contradicts an advance, which waits.
+    /// It contradicts this waiting advance.
     Advance { epoch: u16, point: u64, reader: u8 },
-    /// It contradicts a truncation.
+    /// It contradicts this truncation.
     Truncation { epoch: u16, lo: u64, hi: u64 },
     /// Another record with its key is stored.
     Record,
 }
 
-/// The part of a summary that the segment does not cover, so the delta may lack something. Ask for a new summary.
+/// The part of a summary that the segment does not cover, so the delta may lack something. Request a new summary.
 #[derive(Debug, Clone, Copy, PartialEq, Eq)]
 pub enum Uncovered {
     Anchor { anchor: u64 },
     Key { epoch: u16, number: u64 },
 }
 
-/// Why a page may not be read at a point.
+/// Why a page cannot be read at a point.
 #[derive(Debug, Clone, Copy, PartialEq, Eq)]
 pub enum ReadFault {
     /// The point is below the minimum read point.
@@ -39,13 +39,13 @@ pub enum ReadFault {
 /// Why there is no snapshot, or no such piece of it.
 #[derive(Debug, Clone, Copy, PartialEq, Eq)]
 pub enum SnapshotFault {
-    /// It would have 2^32 pieces or more.
+    /// The snapshot would have 2^32 pieces or more.
     TooMany,
     NoSnapshot,
     NoPiece,
 }
 
-/// Why a piece was not added, or nothing restored.
+/// Why a piece was not added, or nothing was restored.
 #[derive(Debug, Clone, Copy, PartialEq, Eq)]
 pub enum StagingFault {
     NoStaging,
@@ -65,7 +65,7 @@ pub enum StagingFault {
     },
 }
 
-/// Why bytes are not a value of the expected kind, by the numbers of the format.
+/// Why bytes are not a value of the expected kind, in the order of the fault numbers of the format, from 1.
 #[derive(Debug, Clone, Copy, PartialEq, Eq)]
 pub enum WireFault {
     Short,
@@ -79,7 +79,7 @@ pub enum WireFault {
 /// How a segment ended.
 #[derive(Debug, Clone, Copy, PartialEq, Eq)]
 pub enum Status {
-    /// Its requests ended, and each whole one is answered.
+    /// Its input ended, and each whole request is answered.
     InputEnded,
     /// Its answers could not be written.
     OutputFailed,
@@ -89,13 +89,13 @@ pub enum Status {
     Other(u8),
 }
 
-/// Why a call failed. Nothing has changed then, unless the segment has `Stopped` and is gone, or the error says otherwise.
+/// Why a call failed. Nothing has changed, unless the segment has `Stopped` and is gone, or the error says otherwise.
 #[derive(Debug, Clone, PartialEq, Eq)]
 pub enum Error {
     Refused(Refused),
     Uncovered(Uncovered),
     Read(ReadFault),
-    /// A page has a record whose block backlink leads to no record. None has one over a sound log.
+    /// A record of the page has a block backlink that leads to no record. In a sound log there is none.
     Broken {
         page: u16,
         number: u64,
@@ -106,7 +106,8 @@ pub enum Error {
     TooLong,
     /// The delta has more bytes than the request allows.
     Large,
-    /// The answer does not fit into a frame with those of the other requests. Asked alone, the request has its answer.
+    /// The answer does not fit into a frame with the answers to the other requests, or exceeds the limit of the connection. Sent alone, the
+    /// request has its answer.
     LongAnswer,
     /// The given bytes are not a value of the expected kind.
     Wire(WireFault),
@@ -116,7 +117,7 @@ pub enum Error {
     LongFrame,
     /// The segment ran out of memory. The same request may succeed later.
     Memory,
-    /// The segment has ended; how, where this package runs it.
+    /// The segment has ended. The status is known if this package runs the segment.
     Stopped(Option<Status>),
     /// The segment could not be started.
     NotStarted(std::io::ErrorKind),
@@ -130,16 +131,16 @@ pub enum Error {
     DiskFull,
     /// The node does not carry out this request for a client.
     NotAllowed,
-    /// The node has as many connections as it takes, or it is about to end, or another client reads its snapshot.
+    /// The node has all the connections that it allows, or is about to end, or another client reads its snapshot.
     Busy,
-    /// The node serves another engine, or none, or is not to be admitted.
+    /// The node serves another engine or none, or cannot be admitted.
     Declined(Declined),
     /// An answer that this package does not know.
     Strange(Vec<u8>),
 }
 
 impl Status {
-    /// That of the archive's call.
+    /// Converts the status that the archive's call returns.
     pub fn of(number: u8) -> Status {
         match number {
             0 => Status::InputEnded,

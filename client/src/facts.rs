@@ -1,25 +1,25 @@
-//! Facts, and their bytes by `docs/FORMATS.md`.
+//! Facts, and their encoding by `docs/FORMATS.md`.
 
 use crate::answers::Key;
 use std::fmt;
 
-/// The greatest log sequence number, and the greatest point.
+/// The greatest LSN, and the greatest point.
 pub const MOST_NUMBER: u64 = (1 << 48) - 1;
 
-/// The bytes of a page.
+/// The size of a page in bytes.
 pub const PAGE_LEN: usize = 4096;
 
 const MOST_PATCHES: usize = 64;
 const MOST_BYTES: usize = 8192;
 
-/// Some bytes that a record puts into its page, within the page's 4,096.
+/// A change of bytes of a page, within its 4,096 bytes.
 #[derive(Debug, Clone, PartialEq, Eq)]
 pub enum Patch {
     Write {
         offset: u16,
         bytes: Vec<u8>,
     },
-    /// So many times one byte.
+    /// `count` copies of one byte.
     Fill {
         offset: u16,
         count: u16,
@@ -27,24 +27,25 @@ pub enum Patch {
     },
 }
 
-/// A redo record: what one write of the database does to one page.
+/// A redo record: the change that one write of the database makes to one page.
 #[derive(Debug, Clone, PartialEq, Eq)]
 pub struct Record {
     pub epoch: u16,
-    /// Its log sequence number, from 1.
+    /// The LSN, from 1.
     pub number: u64,
-    /// The number of the record before it in the segment, or 0.
+    /// The LSN of the previous record of the segment, or 0.
     pub back: u64,
     pub page: u16,
-    /// The number of the record before it of the same page, or 0.
+    /// The LSN of the previous record of the page, or 0.
     pub block_back: u64,
-    /// Whether the page is all zeros before the patches.
+    /// Whether the page is all zeros before the patches are applied.
     pub begins_anew: bool,
-    /// At most 64, which write at most 8,192 bytes together beside the fills.
+    /// At most 64 patches; the writes among them have at most 8,192 bytes together.
     pub patches: Vec<Patch>,
 }
 
-/// A truncation begins an epoch, from 1 on: it annuls the LSNs above `lo` of earlier epochs, and its own LSNs are above `hi`.
+/// A truncation, which begins an epoch from 1 on: it annuls the LSNs of earlier epochs above `lo`, and the LSNs of its own epoch are above
+/// `hi`.
 #[derive(Debug, Clone, Copy, PartialEq, Eq)]
 pub struct Truncation {
     pub epoch: u16,
@@ -52,7 +53,7 @@ pub struct Truncation {
     pub hi: u64,
 }
 
-/// A reader, from 1, reads nothing below this point any more.
+/// An advance: the reader, 1 to 15, reads nothing below this point.
 #[derive(Debug, Clone, Copy, PartialEq, Eq)]
 pub struct Advance {
     pub epoch: u16,
@@ -67,20 +68,20 @@ pub enum Fact {
     Advance(Advance),
 }
 
-/// The rule of its shape that a fact breaks, so that it has no bytes.
+/// The shape rule that a fact breaks, so that it has no encoding.
 #[derive(Debug, Clone, Copy, PartialEq, Eq)]
 pub enum Shape {
-    /// A number or a point is above 2^48 - 1, or 0 where it is from 1.
+    /// A number is above 2^48 - 1, or the LSN of a record or the point of an advance is 0.
     Number,
-    /// A backlink is not below the number, or the block backlink above the segment's.
+    /// A backlink is not below the LSN, or the block backlink is above the segment backlink.
     Backlink,
-    /// A patch is empty, or ends past the page.
+    /// A patch is empty or ends past the page.
     Patch,
-    /// There are too many patches, or bytes that they write.
+    /// There are more than 64 patches, or their writes have more than 8,192 bytes.
     Size,
-    /// A truncation of epoch 0, or one whose `lo` is above its `hi`.
+    /// A truncation has epoch 0, or a `lo` above its `hi`.
     Truncation,
-    /// A reader that is not 1 to 15.
+    /// A reader is not 1 to 15.
     Reader,
 }
 
@@ -107,13 +108,13 @@ fn need(holds: bool, shape: Shape) -> Result<(), Shape> {
     }
 }
 
-/// The six bytes of a number that was seen to fit.
+/// Appends the six bytes of a number that is known to fit.
 fn number(bytes: &mut Vec<u8>, value: u64) {
     bytes.extend_from_slice(&value.to_be_bytes()[2..]);
 }
 
 impl Patch {
-    /// A write of these bytes from an offset on.
+    /// Makes a patch that writes these bytes at an offset.
     pub fn write(offset: u16, bytes: &[u8]) -> Patch {
         Patch::Write { offset, bytes: bytes.to_vec() }
     }
@@ -142,7 +143,7 @@ impl Patch {
 }
 
 impl Record {
-    /// Under which a segment holds it.
+    /// The key under which a segment stores the record.
     pub fn key(&self) -> Key {
         Key { epoch: self.epoch, number: self.number }
     }
@@ -155,7 +156,9 @@ impl Record {
         need(self.patches.len() <= MOST_PATCHES && total <= MOST_BYTES, Shape::Size)
     }
 
-    /// Its bytes, or the rule that it breaks.
+    /// Encodes the record.
+    ///
+    /// Errors: the shape rule that it breaks.
     pub fn encode(&self) -> Result<Vec<u8>, Shape> {
         self.check()?;
         let is_plain = !self.begins_anew && !self.patches.iter().any(|patch| matches!(patch, Patch::Fill { .. }));
@@ -175,7 +178,9 @@ impl Record {
 }
 
 impl Truncation {
-    /// Its bytes, or the rule that it breaks.
+    /// Encodes the truncation.
+    ///
+    /// Errors: the shape rule that it breaks.
     pub fn encode(&self) -> Result<Vec<u8>, Shape> {
         need(self.hi <= MOST_NUMBER, Shape::Number)?;
         need(self.epoch >= 1 && self.lo <= self.hi, Shape::Truncation)?;
@@ -188,7 +193,9 @@ impl Truncation {
 }
 
 impl Advance {
-    /// Its bytes, or the rule that it breaks.
+    /// Encodes the advance.
+    ///
+    /// Errors: the shape rule that it breaks.
     pub fn encode(&self) -> Result<Vec<u8>, Shape> {
         need((1..=15).contains(&self.reader), Shape::Reader)?;
         need(self.point >= 1 && self.point <= MOST_NUMBER, Shape::Number)?;
@@ -204,7 +211,9 @@ impl Advance {
 }
 
 impl Fact {
-    /// Its bytes, or the rule that it breaks.
+    /// Encodes the fact.
+    ///
+    /// Errors: the shape rule that it breaks.
     pub fn encode(&self) -> Result<Vec<u8>, Shape> {
         match self {
             Fact::Record(record) => record.encode(),
@@ -226,7 +235,7 @@ mod tests {
         bytes.iter().map(|byte| format!("{byte:02x}")).collect()
     }
 
-    /// The vectors of the document.
+    /// The vectors of `docs/FORMATS.md`.
     #[test]
     fn facts_have_the_bytes_of_the_format() {
         let fill = Patch::Fill { offset: 0, count: 16, byte: 0xff };

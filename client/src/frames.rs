@@ -1,13 +1,13 @@
-//! Frames: a length of four bytes, most significant first, and so many bytes.
+//! Frames: a length of four bytes, most significant first, and that many bytes.
 
 use std::io::{self, Read, Write};
 
-/// The most bytes of a frame that a segment reads. It answers a longer one `long frame`.
+/// The greatest number of bytes of a frame that a segment reads. It answers `long frame` to a longer one.
 pub const LONGEST: u32 = 1 << 26;
 
-/// Appends a frame of these parts, one after the other, to a buffer.
+/// Appends a frame that consists of these parts, in order, to a buffer.
 ///
-/// An error, and nothing appended, where they have 2^32 bytes or more.
+/// Errors: parts of 2^32 bytes or more together; nothing is appended.
 pub fn append(buffer: &mut Vec<u8>, parts: &[&[u8]]) -> io::Result<()> {
     let length: usize = parts.iter().map(|part| part.len()).sum();
     let length = u32::try_from(length).map_err(|_| io::ErrorKind::InvalidInput)?;
@@ -23,25 +23,25 @@ pub fn write(writer: &mut impl Write, bytes: &[u8]) -> io::Result<()> {
     writer.write_all(&frame)
 }
 
-/// Reads the next frame into the buffer, in place of what it had. The result says whether there was a whole one before the input ended.
+/// Reads the next frame into the buffer, whose contents it replaces. Returns false if the input ended before a whole frame.
 ///
-/// For a sender that is trusted: the frame may have any length.
+/// Use it for a trusted sender: the frame may have any length.
 pub fn read(reader: &mut impl Read, frame: &mut Vec<u8>) -> io::Result<bool> {
     Ok(matches!(read_within(reader, frame, u32::MAX)?, Next::Frame))
 }
 
-/// What comes next of frames that may be too long.
+/// The result of reading a frame that may be too long.
 #[derive(Debug, Clone, Copy, PartialEq, Eq)]
 pub enum Next {
     /// A frame, which is in the buffer.
     Frame,
-    /// A frame of so many bytes, which are not read: `skip` drops them.
+    /// A frame of this length, whose bytes are not read: `skip` drops them.
     TooLong(u32),
-    /// No whole frame: the input has ended.
+    /// The input ended before a whole frame.
     End,
 }
 
-/// Reads the next frame into the buffer, in place of what it had, if it has at most so many bytes.
+/// Reads the next frame into the buffer, whose contents it replaces, if it has at most `longest` bytes.
 pub fn read_within(reader: &mut impl Read, frame: &mut Vec<u8>, longest: u32) -> io::Result<Next> {
     frame.clear();
     reader.by_ref().take(4).read_to_end(frame)?;
@@ -56,12 +56,12 @@ pub fn read_within(reader: &mut impl Read, frame: &mut Vec<u8>, longest: u32) ->
     Ok(if read == length as usize { Next::Frame } else { Next::End })
 }
 
-/// Reads so many bytes and drops them; fewer where the input ends.
+/// Reads `length` bytes and drops them; fewer if the input ends.
 pub fn skip(reader: &mut impl Read, length: u32) -> io::Result<()> {
     io::copy(&mut reader.by_ref().take(length.into()), &mut io::sink()).map(drop)
 }
 
-/// The frames that the bytes are, one after the other; nothing where they are no whole frames.
+/// Splits bytes into the frames that they consist of; `None` if they do not end with a whole frame.
 pub fn inside(mut bytes: &[u8]) -> Option<Vec<&[u8]>> {
     let mut frames = Vec::new();
     while !bytes.is_empty() {
@@ -73,7 +73,7 @@ pub fn inside(mut bytes: &[u8]) -> Option<Vec<&[u8]>> {
     Some(frames)
 }
 
-/// Whether the bytes begin with a whole frame.
+/// Returns whether the bytes begin with a whole frame.
 pub fn is_whole(bytes: &[u8]) -> bool {
     bytes.split_first_chunk().is_some_and(|(length, rest)| rest.len() >= u32::from_be_bytes(*length) as usize)
 }

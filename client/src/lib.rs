@@ -1,7 +1,7 @@
-//! What a database says to a storage segment and hears of it: facts, requests, answers, frames, and connections to a node.
+//! Facts, requests, answers, frames and connections: what a database needs to use a storage segment.
 //!
-//! It needs the standard library alone, and no archive. [`Calls`] has the calls of a segment, whatever carries them: a [`Connection`]
-//! here, and the `Node` of `embedding/`, which has its segment inside the process.
+//! It depends on the standard library alone and links no archive. [`Calls`] has the calls of a segment. A [`Connection`] carries them over
+//! a socket; the `Node` of `embedding/` carries them to a segment inside the process.
 //!
 //! ```no_run
 //! use yieldcleat_client::{Calls, Connection, Limits, Patch, Record};

@@ -1,27 +1,27 @@
-//! The bytes of requests, as a frame has them, and which of them a server has to keep.
+//! The encoding of requests in frames, and the effect of each, which determines what a server must store.
 
 use crate::frames;
 use std::io;
 
-/// What a request does to what a node has to come back with after a crash.
+/// The effect of a request on the state that a node must have again after a crash.
 #[derive(Debug, Clone, Copy, PartialEq, Eq)]
 pub enum Effect {
-    /// None, whatever its answer is. A fold, a discard and a tidy change no answer that depends on facts; a snapshot that is kept for
-    /// `piece` may be made again.
+    /// No effect, whatever the answer. `fold`, `discard` and `tidy` change no answer that depends on facts, and a snapshot for `piece` can
+    /// be made again.
     None,
-    /// It changes the facts, the roster or the staging, exactly where this is its answer. Asked again in the same order, such requests
-    /// bring a new node to the same facts and the same staging.
+    /// A change of the facts, the roster or the staging, exactly if this is the answer. Sent again in the same order, such requests give a
+    /// new node the same facts and the same staging.
     Changes { answer: &'static [u8] },
-    /// It changes the guard, exactly where its answer begins with this word: the generation, the accepted truncation or the membership.
+    /// A change of the guard (generation, accepted truncation or membership), exactly if the answer begins with this word.
     Guards { word: &'static [u8] },
-    /// That of the requests that stand in it.
+    /// The effects of the requests inside it.
     Many,
 }
 
 const READS: [&[u8]; 13] =
     [b"front", b"gap", b"state", b"read", b"next", b"ask", b"answer", b"within", b"fold", b"discard", b"tidy", b"freeze", b"piece"];
 
-/// The requests that change something, each with the answer that says so.
+/// The requests that change the segment, each with the answer that reports a change.
 const CHANGES: [(&[u8], &[u8]); 7] = [
     (b"open", b"opened"),
     (b"take", b"changed"),
@@ -32,15 +32,15 @@ const CHANGES: [(&[u8], &[u8]); 7] = [
     (b"unite", b"united"),
 ];
 
-/// The requests that change a guard, each with the first word of the answer that says so.
+/// The requests that change a guard, each with the first word of the answer that reports a change.
 const GUARDS: [(&[u8], &[u8]); 3] = [(b"fence", b"fenced"), (b"propose", b"accepted"), (b"admit", b"admitted")];
 
-/// The first word of a request.
+/// Returns the first word of a request.
 pub fn word(request: &[u8]) -> &[u8] {
     request.split(|byte| *byte == b' ').next().unwrap_or_default()
 }
 
-/// The effect of a request, by its first word; nothing for a word that this package does not know, so that a server can refuse it.
+/// Returns the effect of a request, by its first word; `None` for a word that this package does not know, so that a server can refuse it.
 pub fn effect(request: &[u8]) -> Option<Effect> {
     let (heading, asked) = heading(request);
     let of_guard = if heading.is_empty() { effect_on_guard(word(asked)) } else { None };
@@ -54,7 +54,7 @@ fn effect_on_segment(word: &[u8]) -> Option<Effect> {
     CHANGES.iter().find(|it| it.0 == word).map(|it| Effect::Changes { answer: it.1 })
 }
 
-/// The effect of what no engine asks under its generation.
+/// Returns the effect of a request that cannot be sent under a generation.
 fn effect_on_guard(word: &[u8]) -> Option<Effect> {
     match word {
         b"many" => Some(Effect::Many),
@@ -63,8 +63,8 @@ fn effect_on_guard(word: &[u8]) -> Option<Effect> {
     }
 }
 
-/// What comes before a request that an engine asks under its generation, `as G B ` and so before its answer, and the request itself.
-/// Nothing comes before any other request.
+/// Splits a request into its heading and the rest. A request under a generation has the heading `as G B `, as has its answer; any other
+/// request has an empty one.
 pub fn heading(request: &[u8]) -> (&[u8], &[u8]) {
     let mut spaces = request.iter().enumerate().filter(|(_, byte)| **byte == b' ').map(|(place, _)| place);
     match (request.starts_with(b"as "), spaces.nth(2)) {
@@ -73,7 +73,8 @@ pub fn heading(request: &[u8]) -> (&[u8], &[u8]) {
     }
 }
 
-/// Whether a request with this answer has changed what a node has to come back with after a crash. It is none of the kind `many`.
+/// Returns whether a request with this answer has changed what a node must have again after a crash. Always false for a `many`: check the
+/// requests inside it.
 pub fn has_changed(request: &[u8], answer: &[u8]) -> bool {
     match effect(request) {
         Some(Effect::Changes { answer: wanted }) => answer.strip_prefix(heading(request).0) == Some(wanted),
@@ -82,7 +83,7 @@ pub fn has_changed(request: &[u8], answer: &[u8]) -> bool {
     }
 }
 
-/// An empty segment of so many readers, 1 to 15, in place of the segment.
+/// Replaces the segment with an empty one of 1 to 15 readers.
 pub fn open(readers: u8) -> Vec<u8> {
     format!("open {readers}").into_bytes()
 }
@@ -93,55 +94,55 @@ fn behind(word: &str, parts: &[&[u8]]) -> Vec<u8> {
     request
 }
 
-/// A fact has come.
+/// Delivers a fact.
 pub fn take(fact: &[u8]) -> Vec<u8> {
     behind("take ", &[fact])
 }
 
-/// What the segment has beyond a summary.
+/// Requests the delta for a summary.
 pub fn answer(summary: &[u8]) -> Vec<u8> {
     behind("answer ", &[summary])
 }
 
-/// The same, if the delta has at most so many bytes.
+/// Requests the delta for a summary, if it has at most `most` bytes.
 pub fn within(summary: &[u8], most: u32) -> Vec<u8> {
     behind(&format!("within {most} "), &[summary])
 }
 
-/// A summary of this node, and the delta that answers it.
+/// Delivers the delta for a summary of this node.
 pub fn absorb(summary: &[u8], delta: &[u8]) -> Vec<u8> {
     behind(&format!("absorb {} ", summary.len()), &[summary, delta])
 }
 
-/// The image of a page brought to the anchor.
+/// Folds a page up to the anchor.
 pub fn fold(page: u16) -> Vec<u8> {
     format!("fold {page}").into_bytes()
 }
 
-/// A staging for so many pieces of the snapshot of that name.
+/// Begins a staging for the `total` pieces of the snapshot of that name.
 pub fn stage(name: u64, total: u32) -> Vec<u8> {
     format!("stage {name} {total}").into_bytes()
 }
 
-/// A piece of the staged snapshot has come.
+/// Adds a piece of the staged snapshot.
 pub fn add(piece: &[u8]) -> Vec<u8> {
     behind("add ", &[piece])
 }
 
-/// The staged segment in place of the segment.
+/// Replaces the segment with the staged one.
 pub fn finish() -> Vec<u8> {
     b"finish".to_vec()
 }
 
-/// The staged segment joined into the segment.
+/// Joins the staged segment into the segment.
 pub fn unite() -> Vec<u8> {
     b"unite".to_vec()
 }
 
-/// All of these requests in one: each is carried out as if it had come alone, and the answer is the frames of their answers
-/// (`frames::inside`). One that is of this kind itself is none of them.
+/// Encodes many requests as one. Each is carried out as if it were sent alone, and the answer consists of the frames of their answers
+/// (`frames::inside`). A `many` inside a `many` is a bad request.
 ///
-/// Its error is a request of 2^32 bytes or more.
+/// Errors: a request of 2^32 bytes or more.
 pub fn many<'a>(requests: impl IntoIterator<Item = &'a [u8]>) -> io::Result<Vec<u8>> {
     let mut request = b"many ".to_vec();
     requests.into_iter().try_for_each(|it| frames::append(&mut request, &[it]))?;

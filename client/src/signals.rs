@@ -1,14 +1,14 @@
-//! Signals, for packages that run an archive of proved code on a thread. The standard library has no call for them, so this file calls
-//! the system's library; beside it only `unix` does.
+//! Signals, for packages that run an archive of proved code on a thread. The standard library has no call for them, so this file calls the
+//! C library. `unix` is the only other source file of the package that does.
 
 use std::ptr;
 
-/// Room for a set of signals, as the system's library has it on Linux: 1,024 bits.
+/// A signal set as the C library defines it on Linux: 1,024 bits.
 #[repr(C)]
 struct Set([u64; 16]);
 
 const BLOCK: i32 = 0;
-/// SIGILL, SIGBUS, SIGFPE and SIGSEGV. What happens where a thread raises one that it blocks is not defined.
+/// SIGILL, SIGBUS, SIGFPE and SIGSEGV. If a thread raises one of these while it blocks it, the behavior is undefined.
 const FAULTS: [i32; 4] = [4, 7, 8, 11];
 
 extern "C" {
@@ -17,11 +17,11 @@ extern "C" {
     fn pthread_sigmask(how: i32, set: *const Set, old: *mut Set) -> i32;
 }
 
-/// Blocks all signals of the calling thread but those of its own faults. No handler runs in it from then on, and so none interrupts a read
-/// or a write, which an archive takes for the end of its input or its output. What the thread writes to nobody fails, and ends no process.
+/// Blocks all signals of the calling thread, except those of its own faults. No handler runs in the thread, so none interrupts a read or a
+/// write, which an archive would take for the end of its input or output. A write without a reader fails and does not end the process.
 pub fn block() {
     let mut set = Set([0; 16]);
-    // SAFETY: the set is valid for writes and larger than the system's, and no old mask is asked for.
+    // SAFETY: the set is valid for writes and larger than the system's, and no old mask is requested.
     let failed = unsafe {
         sigfillset(&mut set);
         for fault in FAULTS {
@@ -56,7 +56,7 @@ mod tests {
 
     #[test]
     fn a_thread_that_blocks_them_runs_no_handler() {
-        // SAFETY: the handler only sets a flag, and each signal is raised in the thread that calls.
+        // SAFETY: the handler only sets a flag, and each signal is raised in the calling thread.
         unsafe { signal(SIGUSR1, note as extern "C" fn(i32) as usize) };
         let raised = || unsafe { raise(SIGUSR1) };
         let blocked = move || {
@@ -75,7 +75,7 @@ mod tests {
             drop(reader);
             writer.write(b"x").map_err(|error| error.kind())
         };
-        // SAFETY: it sets no handler. A host in C has this, and a program in Rust does not.
+        // SAFETY: it sets no handler. A host in C has this disposition, and a program in Rust does not.
         unsafe { signal(SIGPIPE, DEFAULT) };
         assert_eq!(thread::spawn(written).join().unwrap(), Err(ErrorKind::BrokenPipe));
     }

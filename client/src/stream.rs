@@ -7,7 +7,7 @@ use std::net::{Shutdown, TcpStream, ToSocketAddrs};
 use std::os::unix::net::UnixStream;
 use std::time::Duration;
 
-/// A connected socket, which both sides read and write.
+/// A connected socket. Handles of it may read and write at the same time.
 #[derive(Debug)]
 pub enum Stream {
     Unix(UnixStream),
@@ -15,7 +15,7 @@ pub enum Stream {
 }
 
 impl Stream {
-    /// Connects to an address. A connection that is not made within the time is given up, over TCP for each address of the host's name.
+    /// Connects to an address. `patience` limits the connection attempt, over TCP the one to each address of the host's name.
     pub fn connect(address: &Address, patience: Duration) -> io::Result<Stream> {
         match address {
             Address::Unix(path) => connect_within(path, patience).map(Stream::Unix),
@@ -23,7 +23,7 @@ impl Stream {
         }
     }
 
-    /// Another handle of the same socket.
+    /// Returns another handle of the same socket.
     pub fn try_clone(&self) -> io::Result<Stream> {
         match self {
             Stream::Unix(stream) => stream.try_clone().map(Stream::Unix),
@@ -31,7 +31,7 @@ impl Stream {
         }
     }
 
-    /// How long a read may wait for a byte, and a write for room; without a time both wait for ever.
+    /// Sets how long a read may wait for a byte, and a write for room; `None` means without limit.
     pub fn set_timeouts(&self, read: Option<Duration>, write: Option<Duration>) -> io::Result<()> {
         match self {
             Stream::Unix(stream) => stream.set_read_timeout(read).and_then(|()| stream.set_write_timeout(write)),
@@ -39,7 +39,7 @@ impl Stream {
         }
     }
 
-    /// Writes as many of the bytes as there is room for.
+    /// Writes some of the bytes and returns their number, like `Write::write`.
     pub(crate) fn write_some(&self, bytes: &[u8]) -> io::Result<usize> {
         match self {
             Stream::Unix(stream) => (&*stream).write(bytes),
@@ -47,7 +47,7 @@ impl Stream {
         }
     }
 
-    /// Ends the connection for both sides, also for threads that read or write it.
+    /// Ends the connection for both sides, and for threads that read or write it.
     pub fn shutdown(&self) -> io::Result<()> {
         match self {
             Stream::Unix(stream) => stream.shutdown(Shutdown::Both),
@@ -56,7 +56,7 @@ impl Stream {
     }
 }
 
-/// The first of the host's addresses that answers.
+/// Connects to the first of the host's addresses that answers.
 fn connect_tcp(text: &str, patience: Duration) -> io::Result<TcpStream> {
     let mut last = io::Error::from(io::ErrorKind::AddrNotAvailable);
     for address in text.to_socket_addrs()? {

@@ -1,5 +1,5 @@
-//! Connections to Unix sockets that are given up after a time. The standard library's call waits for as long as a server takes no connections
-//! and too many wait; so this one file calls the system's library.
+//! Connections to Unix sockets with a timeout. The standard library's call blocks while the server's queue of pending connections is full,
+//! so this file calls the C library.
 
 use std::io::{self, ErrorKind};
 use std::os::fd::{AsRawFd, FromRawFd};
@@ -9,10 +9,10 @@ use std::path::Path;
 use std::time::{Duration, Instant};
 
 const UNIX: u16 = 1;
-/// A stream, which is closed where the process executes another program.
+/// A stream socket, which closes when the process executes another program.
 const STREAM: i32 = 0o2000001;
 
-/// A name of a Unix socket, as Linux has it: its path ends with a zero.
+/// The name of a Unix socket as the C library defines it on Linux: a zero byte ends the path.
 #[repr(C)]
 struct Name {
     family: u16,
@@ -35,19 +35,20 @@ impl Name {
     }
 }
 
-/// Connects to a socket within a time.
+/// Connects to a socket. `patience` is the timeout, at least a millisecond.
 ///
-/// Its error is `TimedOut` where the server does not take the connection until then.
+/// Errors: `TimedOut` if the server's queue of pending connections stays full, `InvalidInput` for a path that is not a name, and those of
+/// the system.
 pub fn connect_within(path: &Path, patience: Duration) -> io::Result<UnixStream> {
     let (name, patience, begun) = (Name::of(path)?, patience.max(Duration::from_millis(1)), Instant::now());
-    // SAFETY: it takes numbers alone.
+    // SAFETY: all arguments are numbers.
     let descriptor = unsafe { socket(UNIX.into(), STREAM, 0) };
     if descriptor < 0 {
         return Err(io::Error::last_os_error());
     }
-    // SAFETY: the descriptor is open, and nobody else has it.
+    // SAFETY: the descriptor is open, and nothing else owns it.
     let stream = unsafe { UnixStream::from_raw_fd(descriptor) };
-    // A connection waits as a write does.
+    // The timeout for writes also limits `connect`.
     stream.set_write_timeout(Some(patience))?;
     // SAFETY: the name is valid for reads of its length, and the descriptor stays open.
     while unsafe { connect(stream.as_raw_fd(), &name, size_of::<Name>() as u32) } != 0 {

@@ -1,4 +1,4 @@
-//! A thread that signals interrupt again and again gives a silent node up all the same.
+//! A call to a silent node times out although signals interrupt its thread again and again.
 
 use std::io::Read;
 use std::os::unix::net::UnixStream;
@@ -17,14 +17,14 @@ extern "C" {
 
 extern "C" fn nothing(_signal: i32) {}
 
-/// Runs a call in a thread that gets a signal every few milliseconds, and says how long it took; nothing where it does not end.
+/// Runs a call in a thread that receives a signal every 20 milliseconds. Returns its result and duration; `None` if it takes 5 seconds.
 fn interrupted<T: Send>(call: impl FnOnce() -> T + Send) -> Option<(T, Duration)> {
     let (target, is_over) = (AtomicUsize::new(0), AtomicBool::new(false));
     // SAFETY: the handler does nothing, so it may run at any moment.
     unsafe { signal(SIGUSR1, nothing as extern "C" fn(i32) as usize) };
     thread::scope(|scope| {
         let calling = scope.spawn(|| {
-            // SAFETY: it only says which thread this is.
+            // SAFETY: it only returns the identifier of the calling thread.
             target.store(unsafe { pthread_self() }, Ordering::SeqCst);
             let (begun, result) = (Instant::now(), call());
             let time = begun.elapsed();
@@ -38,7 +38,7 @@ fn interrupted<T: Send>(call: impl FnOnce() -> T + Send) -> Option<(T, Duration)
         while !is_over.load(Ordering::SeqCst) && begun.elapsed() < Duration::from_secs(5) {
             thread::sleep(Duration::from_millis(20));
             if let thread @ 1.. = target.load(Ordering::SeqCst) {
-                // SAFETY: the thread goes on until the target is taken back.
+                // SAFETY: the thread does not end before the target is 0 again.
                 unsafe { pthread_kill(thread, SIGUSR1) };
             }
         }
