@@ -120,7 +120,7 @@ enum yieldcleat_fault yieldcleat_volume_header(struct yieldcleat_volume *volume,
 enum yieldcleat_fault yieldcleat_volume_read(struct yieldcleat_volume *volume, uint64_t point, struct yieldcleat_range range, void *bytes);
 
 /* Stages changes of a page for the next commit: first zeros in place of the page where `from_zeros`, then 0 to YIELDCLEAT_PATCHES
- * patches in their order, which write at most 8,184 bytes beside the fills. Copies what it needs; sends nothing. Pages may come in any
+ * patches in their order, which write at most 8,184 bytes in addition to fills. Copies what it needs; sends nothing. Pages may come in any
  * order and more than once. Fault: FENCED. */
 enum yieldcleat_fault yieldcleat_volume_stage(struct yieldcleat_volume *volume, uint32_t page, bool from_zeros,
                                               const struct yieldcleat_patch *patches, size_t count);
@@ -139,7 +139,8 @@ enum yieldcleat_fault yieldcleat_volume_commit(struct yieldcleat_volume *volume,
 enum yieldcleat_fault yieldcleat_volume_wait(struct yieldcleat_volume *volume, uint64_t point, uint32_t milliseconds);
 
 /* Raises the least readable point to the last commit point at or below this one, for all handles: nodes drop what only lower points need.
- * A writer's call. A point that is not above the present one changes nothing. Faults: ABOVE (the point is not durable), NO_QUORUM, FENCED. */
+ * A writer's call. A point that is not above the present one changes nothing. Faults: ABOVE (the point is not durable), NO_QUORUM,
+ * FENCED. */
 enum yieldcleat_fault yieldcleat_volume_advance(struct yieldcleat_volume *volume, uint64_t point);
 
 /* The state of the volume, as far as this handle knows without asking a node. On a writer that has ended, so that all its calls fail, it

@@ -1,4 +1,4 @@
-//! The thread that steps the machine: calls and answers come in one queue, and each step's requests go to the nodes' links.
+//! The thread that steps the machine. Calls and answers arrive in one queue, and each step's requests go to the links of the nodes.
 
 use crate::errors::VolumeError;
 use crate::link::{Heard, LONG};
@@ -24,7 +24,7 @@ pub enum Call {
 }
 
 impl Call {
-    /// Until when it waits for an opening; an opening itself does not.
+    /// Returns until when the call waits for an opening. `None` for an opening or a creation, which does not wait.
     fn deadline(&self) -> Option<Instant> {
         match self {
             Call::Commit { deadline, .. } | Call::Advance { deadline, .. } => Some(*deadline),
@@ -34,7 +34,7 @@ impl Call {
 
     /// Answers a call that is not carried out.
     fn refuse(self, error: VolumeError) {
-        // A caller that has given up does not listen.
+        // A caller may have stopped waiting.
         let _ = match self {
             Call::Create { done } | Call::Open { done, .. } | Call::Advance { done, .. } => done.send(Err(error)).is_ok(),
             Call::Commit { done, .. } => done.send(Err(error)).is_ok(),
@@ -48,17 +48,17 @@ pub enum Input {
     Close,
 }
 
-/// How long an opening goes on when a node is gone that had answered it, and does not come back as the same member. It may be one that the
-/// opening waits for: then another one begins.
+/// How long an opening continues after it has lost a node that had answered, unless the node comes back as the same member. The opening may
+/// be waiting for that node: then another one begins.
 const WITHOUT: Duration = Duration::from_millis(500);
 
-/// The bytes that the end of a mini-transaction sends beside its header, about.
+/// About how many bytes the end of a mini-transaction sends in addition to its header.
 const COMMIT: usize = 80;
 
-/// For what an opening pauses: the machine is not told the answers that would end the pause.
+/// The reason of a pause of an opening. The machine does not get the answers that would end the pause.
 #[derive(Clone, Copy, PartialEq, Eq)]
 enum Pause {
-    /// Further nodes that are connected may answer, so that an opening learns of fresh ones.
+    /// Other connected nodes may answer, so that an opening learns of fresh ones.
     Fence,
     /// Fresh nodes may become members. Once the next epoch begins, gossip may bring it to them, and then they are refused.
     Admission,
@@ -80,12 +80,12 @@ impl Pause {
     }
 }
 
-/// Until when answers are held back.
+/// A pause, with the time until which answers are held back.
 #[derive(Clone, Copy)]
 struct Grace {
     pause: Pause,
     end: Instant,
-    /// The same for nodes that are to be admitted: an opening which is for them alone waits longer.
+    /// The end for nodes that are to be admitted: an opening that is only for them waits longer.
     last: Instant,
 }
 
@@ -96,14 +96,14 @@ impl Grace {
     }
 }
 
-/// An answer that the machine has not been told.
+/// An answer that the machine has not got yet.
 struct Held {
     node: u8,
     request: Vec<u8>,
     answer: Vec<u8>,
 }
 
-/// What one step has led to, beside requests.
+/// The result of one step, except its requests.
 #[derive(Default)]
 struct Outcome {
     committed: Option<u64>,
@@ -116,19 +116,20 @@ pub struct Driver<M> {
     machine: M,
     peers: Vec<Peer>,
     progress: Arc<Progress>,
-    /// That of the last opening.
+    /// The generation of the last opening.
     generation: u64,
-    /// Who waits for an opening or a creation.
+    /// The caller that waits for an opening or a creation.
     opening: Option<Sender<Result<(), VolumeError>>>,
-    /// Until when answers are held back, and these answers.
+    /// The pause, if there is one.
     grace: Option<Grace>,
+    /// The answers that are held back.
     held: Vec<Held>,
-    /// Whether the machine has gone on with what a quorum has, as far as it spreads that.
+    /// Whether the machine has continued with what a quorum has, while it spreads that.
     has_proposed: bool,
-    /// When an opening that has lost a node is given up.
+    /// When an opening that has lost a node is abandoned.
     given_up: Option<Instant>,
     reopening: Reopening,
-    /// Calls that wait until the volume is open again, in their order.
+    /// Calls that wait until the volume is open again, in order.
     deferred: VecDeque<Call>,
     options: Options,
     most_pending: usize,
@@ -182,7 +183,7 @@ impl<M: Machine> Driver<M> {
                 let peer = &mut self.peers[usize::from(node)];
                 *peer = Peer { queue: Some(queue), was_tried: true, is_lost: peer.is_lost, ..Peer::new() };
                 if peer.is_lost {
-                    // It may be the member that has answered before.
+                    // It may be the member that had answered.
                     peer.ask(engines::STATUS.to_vec());
                 }
                 self.report_reached();
@@ -217,11 +218,11 @@ impl<M: Machine> Driver<M> {
             return self.progress.fail(VolumeError::Fenced { generation: self.generation });
         }
         if request == engines::STATUS && self.progress.place().is_some() {
-            // An open machine asks for none. A node whose answer is no status does not count.
+            // An open machine requests none. A node whose answer is not a status does not count.
             return engines::membership(&answer).map_or((), |status| self.reopening.hear(node, status));
         }
         if is_earlier {
-            // To the machine it is lost: the theorems are of openings that hear answers to their own requests alone.
+            // The machine treats it as lost: the theorems are about openings that get answers to their own requests only.
             return;
         }
         let fenced = answer.starts_with(b"fenced ").then(|| engines::fenced(&answer)).and_then(Result::ok);
@@ -234,7 +235,7 @@ impl<M: Machine> Driver<M> {
         }
     }
 
-    /// Tells the machine what was held back, when no node has to answer any more or the time is up.
+    /// Passes the answers that were held back to the machine, once the pause waits for no node or its time has passed.
     fn release_held(&mut self) {
         if self.grace.is_some_and(|grace| grace.is_over(Instant::now(), &self.peers)) {
             self.grace = None;
@@ -258,7 +259,8 @@ impl<M: Machine> Driver<M> {
         self.grace = Some(Grace { pause, end: now + grace, last: now + last });
     }
 
-    /// Ends an opening that has lost a node and has not gone on without it: the machine waits for each node of the quorum that it has fenced.
+    /// Ends an opening that has lost a node and has not continued without it: the machine waits for each node of the quorum that it has
+    /// fenced.
     fn give_up_opening(&mut self) {
         if self.given_up.is_some_and(|end| Instant::now() >= end) {
             let have = self.peers.iter().filter(|peer| peer.is_answering).count() as u8;
@@ -276,7 +278,7 @@ impl<M: Machine> Driver<M> {
         });
     }
 
-    /// A step that no caller waits for. Without memory it counts as not having come, as if a message were lost.
+    /// Makes a step that no caller waits for. If memory runs out, the event has no effect, like a lost message.
     fn notice(&mut self, event: Event<'_>) {
         let Ok(outcome) = self.step(event) else {
             return;
@@ -295,7 +297,7 @@ impl<M: Machine> Driver<M> {
     fn end_opening(&mut self, ended: Result<(), VolumeError>) {
         self.given_up = None;
         if let Some(done) = self.opening.take() {
-            // A caller that has given up does not listen.
+            // The caller may have stopped waiting.
             let _ = done.send(ended);
         } else if self.reopening.is_shut() {
             match ended {
@@ -306,12 +308,12 @@ impl<M: Machine> Driver<M> {
         }
     }
 
-    /// Whether an opening goes on.
+    /// Returns whether an opening is in progress.
     fn is_opening(&self) -> bool {
         self.opening.is_some() || self.reopening.is_opening()
     }
 
-    /// Steps the machine, and sends what it asks.
+    /// Steps the machine, and sends its requests.
     fn step(&mut self, event: Event<'_>) -> Result<Outcome, VolumeError> {
         let is_long = matches!(event, Event::Answered { answer, .. } if answer.len() > LONG);
         let actions = self.machine.step(event).map_err(|_| VolumeError::Memory)?;
@@ -321,7 +323,7 @@ impl<M: Machine> Driver<M> {
         let mut outcome = Outcome::default();
         for action in actions {
             match action {
-                // To the machine it is lost, as it would be at the node, and gossip brings what is in it.
+                // The machine treats it as lost, as it would be at the node; gossip brings its contents.
                 Action::Ask { request, .. } if is_too_long(&request) => {}
                 // The node has what it is to absorb, and may be admitted at once.
                 Action::Ask { node, request } if request.starts_with(b"absorb ") && self.reopening.is_helped(node) => {}
@@ -340,11 +342,11 @@ impl<M: Machine> Driver<M> {
         Ok(outcome)
     }
 
-    /// Queues what the machine asks of a node, unless an opening holds it back.
+    /// Queues a request of the machine to a node, unless an opening holds it back.
     fn ask(&mut self, node: u8, request: Vec<u8>) {
         let is_opening = self.is_opening();
         if is_question(&request) {
-            // The machine has what it asked for, whoever has not answered that again.
+            // The machine has what it asked for, so the nodes that have not answered it again are not waited for.
             self.peers.iter_mut().for_each(|peer| peer.awaits_pull = false);
         }
         let Some(peer) = self.peers.get_mut(usize::from(node)) else {
@@ -357,8 +359,8 @@ impl<M: Machine> Driver<M> {
         }
     }
 
-    /// Sends what was held back to nodes that are behind others, where the machine has gone on; and to all, where it has not although all have
-    /// reported their fronts, or one of them takes long.
+    /// Handles the requests that were held back. If the machine has continued, they go to the nodes that lag others, and the rest are
+    /// dropped. Otherwise they go to all nodes, once all have reported their fronts or one of them takes long.
     fn spread(&mut self) {
         if !self.peers.iter().any(|peer| peer.spread.is_holding()) {
             return;
@@ -378,8 +380,8 @@ impl<M: Machine> Driver<M> {
         }
     }
 
-    /// Reports that the volume is open. Where it was open before, nothing was in flight, so a commit that this engine has not made is of
-    /// another one, which had the volume in between.
+    /// Reports that the volume is open. If it was open before, nothing was in flight, so a commit that this engine has not made belongs to
+    /// another one, which had the volume open in between.
     fn opened(&self, epoch: u16, commit_point: u64, header: Vec<u8>) {
         match self.progress.place() {
             Some(place) if place.committed != commit_point => {
@@ -393,14 +395,14 @@ impl<M: Machine> Driver<M> {
         match call {
             Call::Create { done } => self.begin(Event::Create, done),
             Call::Open { generation, done } => {
-                // The caller has given up the attempts before, whatever has come of them.
+                // The caller has abandoned earlier attempts, whatever their results.
                 self.progress.begin();
                 self.claim(generation);
                 self.begin(Event::Open { generation }, done);
             }
             Call::Commit { writes, header, done, .. } => {
                 self.cut_off_slow();
-                // A caller that has given up does not listen.
+                // The caller may have stopped waiting.
                 let _ = done.send(self.commit(&writes, &header));
             }
             Call::Advance { reader, point, done, .. } => {
@@ -411,14 +413,15 @@ impl<M: Machine> Driver<M> {
         }
     }
 
-    /// Cuts off each node that does not keep up with what the calls before have sent it: its link connects again, and gossip brings the rest.
-    /// All that one call sends comes after that: a long mini-transaction is no reason, and neither is what a new connection is sent again.
+    /// Disconnects each node with more than `most_pending` bytes of unanswered requests: its link connects again, and gossip brings the
+    /// rest. A call does this before it sends its own requests, so a node has until the next call to answer a long mini-transaction, or all
+    /// that a new connection receives again.
     fn cut_off_slow(&mut self) {
         let most = self.most_pending;
         self.peers.iter_mut().filter(|peer| peer.pending > most).for_each(|peer| peer.queue = None);
     }
 
-    /// Readies an opening under a generation.
+    /// Prepares an opening under a generation.
     fn claim(&mut self, generation: u64) {
         self.generation = generation;
         self.progress.claim(generation);
@@ -428,12 +431,12 @@ impl<M: Machine> Driver<M> {
         self.pause(Pause::Fence);
     }
 
-    /// Whether calls wait until the volume is open again.
+    /// Returns whether calls wait until the volume is open again.
     fn holds(&self) -> bool {
         self.reopening.holds() && self.progress.place().is_some()
     }
 
-    /// Opens an open volume again, where a node that answers does not count.
+    /// Opens an open volume again if a node that answers does not count.
     fn reopen(&mut self) {
         let is_at_rest = self.reopening.is_at_rest() && self.peers.iter().all(|peer| peer.outside.is_none());
         if is_at_rest || self.opening.is_some() {
@@ -457,7 +460,7 @@ impl<M: Machine> Driver<M> {
         Seen { outside, connected, claimed: self.generation, epoch, durable, committed, is_waiting }
     }
 
-    /// Begins an opening that no caller waits for. Without memory the machine is as before.
+    /// Begins an opening that no caller waits for. If memory runs out, the machine is as before.
     fn open_again(&mut self) {
         let before = self.generation;
         let generation = before.saturating_add(1);
@@ -479,7 +482,7 @@ impl<M: Machine> Driver<M> {
         }
     }
 
-    /// Carries out the calls that have waited, once the volume is open; those that may wait no longer are refused.
+    /// Carries out the calls that have waited, once the volume is open; refuses those whose deadline has passed.
     fn go_on(&mut self) {
         if self.deferred.is_empty() {
             return;
@@ -506,8 +509,8 @@ impl<M: Machine> Driver<M> {
         }
     }
 
-    /// Writes a mini-transaction, whose pages and header the caller has checked. One that the machine ends halfway ends the volume, since
-    /// the next commit would make its beginning durable.
+    /// Writes a mini-transaction, whose pages and header the caller has checked. One that fails halfway ends the volume, because the next
+    /// commit would make its beginning durable.
     fn commit(&mut self, writes: &[PageWrite], header: &[u8]) -> Result<u64, VolumeError> {
         self.progress.standing()?;
         let mut bytes = COMMIT + header.len();
@@ -534,13 +537,13 @@ impl<M: Machine> Driver<M> {
         }
     }
 
-    /// Asks nodes again that are silent while a commit or an opening waits for them: gossip may have brought them what they lacked. Nodes whose
-    /// answers are held back are not silent.
+    /// Sends requests again to nodes that are silent while a commit or an opening waits for them: gossip may have brought them what they
+    /// lacked. Nodes whose answers are held back are not silent.
     fn remind_idle(&mut self) {
         if self.grace.is_some() || (!self.is_opening() && !self.progress.is_waiting()) {
             return;
         }
-        // While one node answers what it has, the others are idle. The machine would ask each of them for all that it has.
+        // While one node answers what it has, the others are idle. The machine would ask each of them for everything that it has.
         if self.is_opening() && self.peers.iter().any(|peer| peer.awaits_pull) {
             return;
         }
@@ -554,7 +557,7 @@ impl<M: Machine> Driver<M> {
         }
     }
 
-    /// Asks nodes for their status that are silent while the volume is open: one may have been started again without its files.
+    /// Asks nodes that are silent while the volume is open for their status: one may have been started again without its files.
     fn look_at_idle(&mut self) {
         if self.is_opening() || self.progress.place().is_none() {
             return;
@@ -565,12 +568,12 @@ impl<M: Machine> Driver<M> {
     }
 }
 
-/// Whether no frame holds a request, so that a node would drop it: to absorb more than 64 MiB, which an opening may ask.
+/// Returns whether a request exceeds a frame, so that a node would drop it: an opening may send more than 64 MiB to absorb.
 fn is_too_long(request: &[u8]) -> bool {
     request.len() > frames::LONGEST as usize
 }
 
-/// The commit point of a step that was not refused.
+/// Returns the commit point of a step that was not refused.
 fn accepted(outcome: Outcome) -> Result<Option<u64>, VolumeError> {
     outcome.refused.map_or(Ok(outcome.committed), |fault| Err(fault.into()))
 }
@@ -582,7 +585,7 @@ mod tests {
     use std::sync::{mpsc, Mutex};
     use yieldcleat_client::Address;
 
-    /// Asks node 0 to be fenced, and keeps the answers that it hears.
+    /// Sends a fence to node 0, and keeps the answers that it receives.
     struct Listening(Arc<Mutex<Vec<Vec<u8>>>>);
 
     impl Machine for Listening {
@@ -615,7 +618,7 @@ mod tests {
         assert_eq!(*heard.lock().unwrap(), [b"fresh 2"]);
     }
 
-    /// Opens at once, and refuses what is asked while it opens again.
+    /// A machine that opens at once, and refuses commits while it opens again.
     #[derive(Default)]
     struct Twice {
         is_shut: bool,
@@ -651,7 +654,7 @@ mod tests {
         assert_eq!(progress.standing(), Err(VolumeError::Closed));
     }
 
-    /// Opens with the second opening, and by the first answer of a node.
+    /// A machine that opens under generation 4 or at the answer `ready`, and is fenced at any other answer.
     struct Late;
 
     impl Machine for Late {
@@ -680,7 +683,7 @@ mod tests {
         }
     }
 
-    /// Asks a node to absorb what a frame just holds, and what no frame holds, as a member and as a fresh node.
+    /// Sends a node absorb requests that just fit a frame and that do not, as to a member and as to a fresh node.
     struct Spreading;
 
     const LONGEST: usize = frames::LONGEST as usize;
@@ -716,7 +719,7 @@ mod tests {
         let inputs_of = [Input::Heard(Heard::Up { node: 0, queue }), open, Input::Close];
         inputs_of.into_iter().for_each(|input| says.send(input).unwrap());
         driver.run(&inputs);
-        // The long one is held back until it is known that no front comes before it.
+        // The long one is held back until it is known that no front arrives before it.
         let (front, admit) = (b"as 3 7 front".to_vec(), b"admit 3 8 0 5".to_vec());
         let wanted = [front.clone(), admit, absorb("as 3 7 ", LONGEST), front];
         let lengths = |requests: &[Vec<u8>]| requests.iter().map(Vec::len).collect::<Vec<_>>();

@@ -7,13 +7,13 @@ use std::fmt;
 /// How many nodes there are for a write quorum.
 #[derive(Debug, Clone, Copy, PartialEq, Eq)]
 pub struct Quorum {
-    /// The nodes that answer and count.
+    /// The number of nodes that answer and count.
     pub have: usize,
-    /// Nodes that answer and do not count before the volume is opened again: they have lost their files.
+    /// The number of nodes that answer but do not count before the volume is opened again, because they have lost their files.
     pub uncounted: usize,
-    /// How many a quorum takes.
+    /// The size of a write quorum.
     pub need: u8,
-    /// The nodes of the volume.
+    /// The number of nodes of the volume.
     pub nodes: usize,
 }
 
@@ -38,33 +38,34 @@ impl fmt::Display for Quorum {
 #[derive(Debug, Clone, PartialEq, Eq)]
 pub enum VolumeError {
     Options(BadOptions),
-    /// The machine refuses the call, which has changed nothing.
+    /// The machine refused the call, or what the nodes store is not a volume. The call has changed nothing, except that an opening may have
+    /// fenced nodes, and that a mini-transaction refused halfway ends the volume.
     Refused(Fault),
-    /// Another engine has opened the volume, under this generation. Nothing that this handle commits from now on is durable.
+    /// Another engine has opened the volume under this generation. No later commit of this handle becomes durable.
     Fenced {
         generation: u64,
     },
-    /// The nodes are all fresh: nobody has created the volume.
+    /// The nodes are all fresh: the volume was never created.
     Empty,
-    /// In the time allowed no quorum answered as it must: the volume is not open.
+    /// Within the time allowed no quorum answered as it must: the volume is not open.
     NotOpened(Quorum),
-    /// Enough nodes answer, and for some time they have not proved a durable commit: an engine opens the volume, or has died within an
-    /// opening. The next opening for writing ends that.
+    /// Enough nodes answer, but for some time they have not proved a durable commit: an engine is opening the volume, or died while it did.
+    /// The next opening for writing ends this.
     Unproved(Quorum),
-    /// In the time allowed no quorum said that this engine has not been fenced.
+    /// Within the time allowed no quorum confirmed that this engine is not fenced.
     NotAsked(Quorum),
-    /// In the time allowed the commit point did not become durable. The mini-transaction is in doubt until the volume is opened again; it is
-    /// stored as a whole, or not at all.
+    /// Within the time allowed the commit point did not become durable. The mini-transaction is in doubt until the volume is opened again:
+    /// it is stored as a whole, or not at all.
     InDoubt {
         commit_point: u64,
         quorum: Quorum,
     },
-    /// In the time allowed there was no room for another mini-transaction, or no quorum answered; it was not sent.
+    /// Within the time allowed there was no room for another mini-transaction, or no quorum answered. It was not sent.
     Busy(Quorum),
-    /// In the time allowed the volume was not opened again, which it is where a node has to be admitted; the call was not sent, and the
-    /// volume goes on trying.
+    /// Within the time allowed the volume was not opened again, which it must be to admit a node. The call was not sent, and the volume
+    /// continues to try.
     NotReopened(Quorum),
-    /// No node has the page at the point within the time allowed.
+    /// Within the time allowed no node returned the page at the point.
     NotRead {
         page: u16,
         point: u64,
@@ -73,13 +74,13 @@ pub enum VolumeError {
     Below {
         min: u64,
     },
-    /// The point is above the newest durable one that the reader has learnt, so it may belong to an engine that lost its epoch.
+    /// The point is above the newest durable one that the reader knows, so it may belong to an engine that lost its epoch.
     Above {
         newest: u64,
     },
     /// An argument is out of its range.
     Argument(&'static str),
-    /// The machine lacks memory. The call has changed nothing.
+    /// The machine ran out of memory. The call has changed nothing, except that a mini-transaction that fails halfway ends the volume.
     Memory,
     /// A thread could not be started.
     Thread(std::io::ErrorKind),

@@ -1,9 +1,9 @@
-//! A machine behind a pair of streams: an event is a frame, and its answer one frame with a frame for each action.
+//! A machine at the other end of a pair of streams. An event is a frame, and its answer is one frame with a frame inside for each action.
 //!
 //! | Event | Frame |
 //! |---|---|
 //! | create, open, advance, failed | `create`, `open G`, `advance R P`, `failed N` |
-//! | write | `write ` and the bytes of a record of the page with number 1, no backlinks and epoch 0, whose patches are those |
+//! | write | `write ` and the bytes of a record with the page and the patches, LSN 1, epoch 0 and no backlinks |
 //! | commit | `commit ` and the header |
 //! | answered | `answered N ` and the answer |
 //!
@@ -15,13 +15,13 @@
 //! | committed, durable | `committed C`, `durable C` |
 //! | refused | `fenced G`, `no quorum H N`, `not open`, `ahead C`, `full`, `not fresh`, `reserved`, `long header`, `damaged`, `shape` |
 //!
-//! The answer `memory` says that the event counts as not having come.
+//! The answer `memory` means that the event had no effect, as if it had not arrived.
 
 use crate::machine::{Action, Event, Fault, Machine, OutOfMemory};
 use std::io::{Read, Write};
 use yieldcleat_client::{frames, Record};
 
-/// The bytes of an event's frame; nothing for a write that has no shape.
+/// Encodes an event. `None` for a write that breaks a shape rule.
 pub fn event_bytes(event: &Event<'_>) -> Option<Vec<u8>> {
     let behind = |word: &str, bytes: &[u8]| [word.as_bytes(), bytes].concat();
     Some(match event {
@@ -39,7 +39,7 @@ pub fn event_bytes(event: &Event<'_>) -> Option<Vec<u8>> {
     })
 }
 
-/// The actions in the bytes of an answer; nothing where they are no such answer.
+/// Decodes the actions of an answer. `None` if the bytes are not an answer.
 pub fn actions_of(answer: &[u8]) -> Option<Result<Vec<Action>, OutOfMemory>> {
     if answer == b"memory" {
         return Some(Err(OutOfMemory));
@@ -47,7 +47,7 @@ pub fn actions_of(answer: &[u8]) -> Option<Result<Vec<Action>, OutOfMemory>> {
     frames::inside(answer)?.into_iter().map(action_of).collect::<Option<_>>().map(Ok)
 }
 
-/// The word before the first space, and what follows it.
+/// Splits bytes at the first space.
 fn split(bytes: &[u8]) -> (&[u8], &[u8]) {
     match bytes.iter().position(|byte| *byte == b' ') {
         Some(end) => (&bytes[..end], &bytes[end + 1..]),
@@ -95,7 +95,7 @@ fn fault_of(text: &str) -> Option<Fault> {
     })
 }
 
-/// A machine that reads events from one stream and writes their answers to another: the archive's, over a socket, or a process.
+/// A machine that reads events from one stream and writes its answers to another: that of the archive, over a socket, or a process.
 pub struct Framed<R, W> {
     answers: R,
     events: W,
@@ -109,7 +109,7 @@ impl<R: Read + Send, W: Write + Send> Framed<R, W> {
 }
 
 impl<R: Read + Send, W: Write + Send> Machine for Framed<R, W> {
-    /// A machine that has ended answers `Damaged`: nothing more can be decided.
+    /// Sends an event and reads its answer. If the machine has ended, the answer is `Damaged`: nothing more can be decided.
     fn step(&mut self, event: Event<'_>) -> Result<Vec<Action>, OutOfMemory> {
         let Some(bytes) = event_bytes(&event) else {
             return Ok(vec![Action::Refused(Fault::Shape)]);

@@ -1,11 +1,11 @@
-//! The newest durable commit point that a handle knows, and of which volume it is.
+//! The newest durable commit point that a handle knows, and the volume that it belongs to.
 
 use std::collections::BTreeSet;
 
 /// What a handle knows of a volume.
 ///
-/// A place may have another volume later, once all nodes have lost their files. The births of members distinguish volumes: nodes of a new
-/// volume are fresh, so no birth belongs to members of two volumes.
+/// A place may have another volume later, once all nodes have lost their files. The births of members distinguish volumes: the nodes of a
+/// new volume are fresh, so no birth belongs to members of two volumes.
 #[derive(Debug, Clone, Default, PartialEq, Eq)]
 pub struct Known {
     births: BTreeSet<u64>,
@@ -13,22 +13,22 @@ pub struct Known {
 }
 
 impl Known {
-    /// A durable commit point with its epoch, and the births of members that the volume has or had.
+    /// Makes this of a durable commit point with its epoch, and the births of present or former members of the volume.
     pub fn of(newest: (u16, u64), births: impl IntoIterator<Item = u64>) -> Known {
         Known { births: births.into_iter().collect(), newest }
     }
 
-    /// The epoch and the point.
+    /// Returns the epoch and the commit point.
     pub fn newest(&self) -> (u16, u64) {
         self.newest
     }
 
-    /// Whether both are for certain of one volume.
+    /// Returns whether both are certain to be of one volume.
     pub fn meets(&self, other: &Known) -> bool {
         !self.births.is_disjoint(&other.births)
     }
 
-    /// Adds what was learnt just now. What is known of another volume than that is forgotten.
+    /// Adds what was learned just now. If that is of another volume, it replaces what is known.
     pub fn learn(&mut self, found: &Known) {
         if !self.meets(found) {
             *self = found.clone();

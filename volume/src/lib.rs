@@ -1,8 +1,9 @@
-//! A volume of N storage nodes: one engine writes mini-transactions to it, and each is durable when a write quorum of the nodes has it.
+//! A volume of N storage nodes. One engine writes mini-transactions to it, and each is durable once a write quorum of the nodes stores it.
 //!
-//! [`Volume`] is the engine's handle, for many threads, and [`Reader`] that of whoever reads beside it. What is decided - who may write, what the last commit is, what is durable - a
-//! [`Machine`] decides, one step for each event; it has no clock, no socket and no thread. This package gives it those: a thread for each
-//! node, which connects, sends and reads, and one that steps the machine. Nothing here is proved.
+//! [`Volume`] is the engine's handle, for many threads; [`Reader`] is the handle of a process that only reads. A [`Machine`] decides who
+//! may write, what the last commit is and what is durable, one step for each event; it has no clock, socket or thread. This package
+//! provides them: a thread for each node, which connects, sends and reads, and a thread that steps the machine. Nothing in this package is
+//! proved.
 
 #![deny(unsafe_code)]
 

@@ -1,4 +1,4 @@
-//! The connection to one node, in a thread of its own: it connects, sends what is queued, and hands the answers on.
+//! The connection to one node, on a thread of its own, which connects, sends queued requests, and passes the answers on.
 
 use crate::options::Options;
 use crate::progress::Progress;
@@ -9,22 +9,22 @@ use std::thread::{self, JoinHandle};
 use std::time::{Duration, Instant};
 use yieldcleat_client::{frames, requests, Address, Connection, Error, Limits, Stream};
 
-/// The most requests of one frame.
+/// The greatest number of requests in one frame.
 const MOST: usize = 256;
-/// The bytes after which no other request is added to a frame. One of more bytes is not added either: a node would drop a frame that it makes
-/// too long.
+/// The number of bytes after which no request is added to a frame. A larger request is not added either: a node would drop a frame that it
+/// makes too long.
 const ENOUGH: usize = 1 << 18;
-/// A request or an answer of more bytes is long: an opening that moves one is at work.
+/// A request or an answer of more bytes is long: an opening that moves one is making progress.
 pub const LONG: usize = 1 << 16;
 
-/// What a link says.
+/// A report of a link.
 pub enum Heard {
-    /// The node is connected. Requests go into this queue; those of the queue before are lost, unless they were answered.
+    /// The node is connected. Requests go into this queue; unanswered ones of the queue before are lost.
     Up {
         node: u8,
         queue: Sender<Vec<u8>>,
     },
-    /// The node is not connected: the connection has ended, or none could be made at first.
+    /// The node is not connected: the connection has ended, or the first attempt to connect failed.
     Down {
         node: u8,
     },
@@ -40,27 +40,27 @@ pub enum Heard {
 struct Shared {
     /// The socket, so that another thread can end it.
     stream: Option<Stream>,
-    /// Whether the thread waits for a connection, which no other thread can end: a node may leave it unanswered.
+    /// Whether the thread is waiting for a connection. No other thread can end that: a node may not respond to the attempt.
     is_connecting: bool,
     is_stopped: bool,
 }
 
 impl Shared {
-    /// Notes that a connection is begun; nothing where the link is to end.
+    /// Notes that the thread begins to connect. `None` if the link must end.
     fn begin(&mut self) -> Option<()> {
         (self.stream, self.is_connecting) = (None, !self.is_stopped);
         self.is_connecting.then_some(())
     }
 
-    /// Notes the socket of the connection, where it was made; nothing where the link is to end.
+    /// Notes the socket of the connection, if there is one. `None` if the link must end.
     fn end(&mut self, stream: Option<Stream>) -> Option<()> {
         (self.stream, self.is_connecting) = (stream, false);
         (!self.is_stopped).then_some(())
     }
 }
 
-/// A thread with the connection to one node. Dropping it ends the thread, and waits for that unless the thread is connecting: then it ends by
-/// itself, and sends the node nothing. It borrows nothing, so it may be the last one to go.
+/// A thread with the connection to one node. Dropping it ends the thread and waits for that, unless the thread is connecting: then it ends
+/// by itself, and sends the node nothing. The thread borrows nothing, so it may outlive all else.
 pub struct Link {
     shared: Arc<Mutex<Shared>>,
     thread: Option<JoinHandle<()>>,
@@ -71,7 +71,8 @@ fn lock(shared: &Mutex<Shared>) -> MutexGuard<'_, Shared> {
 }
 
 impl Link {
-    /// Starts the thread for a node; what it hears goes to `heard`, until that refuses, and what it moves is noted.
+    /// Starts the thread for a node. It passes its reports to `heard` until that returns `None`, and notes in `progress` when long messages
+    /// move.
     pub fn start<H>(node: u8, options: &Options, progress: &Arc<Progress>, heard: H) -> io::Result<Link>
     where
         H: Fn(Heard) -> Option<()> + Send + 'static,
@@ -97,7 +98,7 @@ impl Link {
         let mut shared = lock(&self.shared);
         shared.is_stopped = true;
         if let Some(stream) = &shared.stream {
-            // An error says that the connection has ended already.
+            // An error means that the connection has ended already.
             let _ = stream.shutdown();
         }
         drop(shared);
@@ -111,7 +112,7 @@ impl Drop for Link {
         // After `stop` the thread begins no connection.
         let is_connecting = lock(&self.shared).is_connecting;
         if let Some(thread) = self.thread.take().filter(|_| !is_connecting) {
-            // A link that has panicked has said so; the others go on.
+            // A link that panicked has printed that; the others continue.
             let _ = thread.join();
         }
     }
@@ -137,20 +138,20 @@ impl<H: Fn(Heard) -> Option<()>> Worker<H> {
                 return;
             }
             if answered == 0 {
-                // It takes connections and no requests, or has too many connections.
+                // The node accepts connections and answers no requests, or has too many connections.
                 self.pause(self.retry);
             }
         }
     }
 
-    /// Waits, unless the link is to end.
+    /// Waits, unless the link must end.
     fn pause(&self, time: Duration) {
         if !lock(&self.shared).is_stopped {
             thread::park_timeout(time);
         }
     }
 
-    /// Connects, however long it takes; nothing where the link is to end.
+    /// Connects, however long that takes. `None` if the link must end.
     fn connect(&self) -> Option<Connection> {
         let (begun, mut has_failed) = (Instant::now(), false);
         loop {
@@ -161,12 +162,12 @@ impl<H: Fn(Heard) -> Option<()>> Worker<H> {
                 (self.heard)(Heard::Down { node: self.node })?;
                 has_failed = true;
             }
-            // A node that is away for long is tried less often.
+            // The pause grows while a node cannot be reached.
             self.pause(self.retry.max(begun.elapsed() / 8).min(self.retry * 10));
         }
     }
 
-    /// Connects once. The result is nothing where the link is to end, and no connection where none was made.
+    /// Tries to connect once. `None` if the link must end, `Some(None)` if the attempt failed.
     fn try_connect(&self) -> Option<Option<Connection>> {
         lock(&self.shared).begin()?;
         let connected = Stream::connect(&self.address, self.limits.connect).and_then(|stream| Ok((stream.try_clone()?, stream)));
@@ -175,8 +176,8 @@ impl<H: Fn(Heard) -> Option<()>> Worker<H> {
         Some(stream.and_then(|stream| Connection::over(stream, self.limits).ok()))
     }
 
-    /// Sends what is queued until the connection fails or the queue is dropped, and returns how many requests were answered; nothing where
-    /// nobody listens.
+    /// Sends queued requests until the connection fails or the queue is dropped, and returns how many were answered. `None` if the receiver
+    /// of the reports has ended.
     fn serve(&self, mut connection: Connection) -> Option<usize> {
         let (mut answered, mut next, (queue, queued)) = (0, None, mpsc::channel());
         (self.heard)(Heard::Up { node: self.node, queue })?;
@@ -194,7 +195,7 @@ impl<H: Fn(Heard) -> Option<()>> Worker<H> {
         Some(answered)
     }
 
-    /// The answer to each request.
+    /// Sends requests in one frame, and returns the answer to each.
     fn ask(&self, connection: &mut Connection, batch: &[Vec<u8>]) -> Result<Vec<Vec<u8>>, Error> {
         if let [request] = batch {
             return self.ask_one(connection, request).map(|answer| vec![answer]);
@@ -203,19 +204,20 @@ impl<H: Fn(Heard) -> Option<()>> Worker<H> {
         let answer = self.ask_one(connection, &request)?;
         match frames::inside(&answer) {
             Some(answers) if answers.len() == batch.len() => self.again_alone(connection, batch, answers),
-            // The node says it of the whole frame: that its disk is full, say.
+            // The node answered the whole frame, for example that its disk is full.
             _ => Ok(vec![answer; batch.len()]),
         }
     }
 
-    /// The answers, where those that were too long beside the others are asked for again by themselves. Such requests have changed nothing.
+    /// Returns the answers, after it has sent again, alone, each request whose answer was too long beside the others. Such requests have
+    /// changed no facts.
     fn again_alone(&self, connection: &mut Connection, batch: &[Vec<u8>], answers: Vec<&[u8]>) -> Result<Vec<Vec<u8>>, Error> {
         let is_long = |answer: &[u8]| answer == b"long" || (answer.starts_with(b"as ") && answer.len() < 64 && answer.ends_with(b" long"));
         let each = batch.iter().zip(answers);
         each.map(|(request, answer)| if is_long(answer) { self.ask_one(connection, request) } else { Ok(answer.to_vec()) }).collect()
     }
 
-    /// The answer to one frame.
+    /// Sends one frame and returns its answer.
     fn ask_one(&self, connection: &mut Connection, request: &[u8]) -> Result<Vec<u8>, Error> {
         connection.send(&[request])?;
         if request.len() > LONG {
@@ -229,14 +231,14 @@ impl<H: Fn(Heard) -> Option<()>> Worker<H> {
             }
         })?;
         match answer {
-            // The node has turned the connection away, and answers nothing.
+            // The node has too many connections, and answers no request on this one.
             b"busy" => Err(Error::Busy),
             _ => Ok(answer.to_vec()),
         }
     }
 }
 
-/// The requests of the next frame: what is queued, as far as one frame holds it; and one that is to have the frame after it alone.
+/// Gathers the requests of the next frame from the queue, and a large request that must have the frame after it alone.
 fn gather(first: Vec<u8>, queued: &Receiver<Vec<u8>>) -> (Vec<Vec<u8>>, Option<Vec<u8>>) {
     let (mut bytes, mut batch) = (first.len(), vec![first]);
     while batch.len() < MOST && bytes < ENOUGH {

@@ -1,41 +1,41 @@
-//! The events of a volume, and the actions with which a machine that decides for it answers them.
+//! The events of a volume, and the actions that a deciding machine returns for them.
 
 use std::fmt;
 use yieldcleat_client::Patch;
 
-/// What happens to a volume. Nodes have the numbers from 0.
+/// An event of a volume. Nodes are numbered from 0.
 #[derive(Debug, Clone, PartialEq, Eq)]
 pub enum Event<'a> {
-    /// Make a new volume of nodes that are all fresh.
+    /// Create a volume of nodes that are all fresh.
     Create,
-    /// Open the volume under a generation, which is above that of each engine before.
+    /// Open the volume under a generation, which must be above that of each earlier engine.
     Open { generation: u64 },
-    /// Patch a page above page 0, in its first 4,088 bytes. With `init` the page is all zeros before.
+    /// Patch a page above page 0, within its first 4,088 bytes. With `init` the page is all zeros before the patches.
     Write { page: u16, init: bool, patches: &'a [Patch] },
     /// End the mini-transaction, with up to 1,024 bytes of the engine's own.
     Commit { header: &'a [u8] },
-    /// A reader reads nothing below a point any more.
+    /// Advance a reader: it reads nothing below the point.
     Advance { reader: u8, point: u64 },
-    /// A node has answered a request: the bytes of both frames.
+    /// A node answered a request: the contents of both frames.
     Answered { node: u8, request: &'a [u8], answer: &'a [u8] },
-    /// There is another connection to a node. Whether it has executed what was asked over the one before is unknown.
+    /// There is a new connection to a node. Whether it has executed the requests of the connection before is unknown.
     Failed { node: u8 },
 }
 
-/// What follows from an event.
+/// A consequence of an event.
 #[derive(Debug, Clone, PartialEq, Eq)]
 pub enum Action {
-    /// Send a request, the bytes of its frame. Requests to one node are sent in this order.
+    /// Send a request, the contents of its frame. Requests to one node must be sent in this order.
     Ask { node: u8, request: Vec<u8> },
     /// All nodes are members of a new volume, which an engine may open.
     Created,
-    /// The volume is open. All up to the commit point is durable, and the header is that of its last commit.
+    /// The volume is open. Everything up to the commit point is durable, and the header is that of its last commit.
     Opened { epoch: u16, commit_point: u64, header: Vec<u8> },
     /// The mini-transaction that the event ends has this commit point. It is not durable yet.
     Committed { commit_point: u64 },
-    /// All up to the commit point is durable.
+    /// Everything up to the commit point is durable.
     Durable { commit_point: u64 },
-    /// The event is refused, or an opening or a creation has ended without success.
+    /// The event is refused, or an opening or a creation has failed.
     Refused(Fault),
 }
 
@@ -46,7 +46,7 @@ pub enum Fault {
     Fenced {
         generation: u64,
     },
-    /// Of the nodes, `have` can be part of a quorum, which takes `need`.
+    /// Only `have` nodes can be part of a quorum, which needs `need`.
     NoQuorum {
         have: u8,
         need: u8,
@@ -56,17 +56,17 @@ pub enum Fault {
     Ahead {
         durable: u64,
     },
-    /// No number or no epoch is left.
+    /// No LSN or no epoch is left.
     Full,
     /// The nodes are not all fresh.
     NotFresh,
-    /// Page 0 and the last 8 bytes of each page are the volume's own.
+    /// Page 0 and the last 8 bytes of each page are reserved for the volume.
     Reserved,
     /// The header has more than 1,024 bytes.
     LongHeader,
-    /// What the nodes have is not the log of one volume.
+    /// The nodes do not store the log of one volume.
     Damaged,
-    /// A record or an advance of no shape.
+    /// A record or an advance breaks a shape rule.
     Shape,
 }
 
@@ -87,12 +87,12 @@ impl fmt::Display for Fault {
     }
 }
 
-/// The machine lacks memory; the event counts as not having come.
+/// The machine ran out of memory. The event has no effect, as if it had not arrived.
 #[derive(Debug, Clone, Copy, PartialEq, Eq)]
 pub struct OutOfMemory;
 
-/// The engine's decisions.
+/// The decisions of an engine.
 pub trait Machine: Send {
-    /// What follows from the next event.
+    /// Returns the consequences of the next event.
     fn step(&mut self, event: Event<'_>) -> Result<Vec<Action>, OutOfMemory>;
 }

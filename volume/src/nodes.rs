@@ -1,4 +1,4 @@
-//! One connection to each node for short questions, which threads of a panel and readers of pages share.
+//! One connection to each node for short requests, which the threads of a panel and readers of pages share.
 
 use crate::options::Options;
 use std::sync::atomic::{AtomicBool, Ordering};
@@ -6,18 +6,18 @@ use std::sync::{Mutex, MutexGuard, PoisonError, TryLockError};
 use std::time::{Duration, Instant};
 use yieldcleat_client::{Address, Calls, Connection, Limits};
 
-/// The most bytes of an answer to a short question: it is a page at most.
+/// The greatest number of bytes of an answer to a short request, which has a page at most.
 const LONGEST: u32 = 1 << 16;
 
-/// A node, and the connection to it where there is one.
+/// A node, and the connection to it if there is one.
 struct Place {
     address: Address,
     connection: Mutex<Option<Connection>>,
-    /// Whether it answered when it was asked last.
+    /// Whether it answered its last request.
     is_answering: AtomicBool,
 }
 
-/// The nodes of a volume, by their numbers from 0.
+/// The nodes of a volume, numbered from 0.
 pub struct Nodes {
     places: Vec<Place>,
     limits: Limits,
@@ -27,7 +27,7 @@ impl Nodes {
     pub fn new(options: &Options) -> Nodes {
         let place =
             |address: &Address| Place { address: address.clone(), connection: Mutex::new(None), is_answering: AtomicBool::new(false) };
-        // A node that is silent for that long is passed over for another one.
+        // Another node is used instead of one that does not answer for this long.
         let limits = Limits { answer: options.limits.answer / 5, longest: LONGEST, ..options.limits };
         Nodes { places: options.nodes.iter().map(place).collect(), limits }
     }
@@ -36,18 +36,18 @@ impl Nodes {
         self.places.len()
     }
 
-    /// How many nodes answered when they were asked last.
+    /// Returns the number of nodes that answered their last request.
     pub fn answering(&self) -> usize {
         self.places.iter().filter(|place| place.is_answering.load(Ordering::Relaxed)).count()
     }
 
-    /// Asks a node as soon as nobody else does, over a new connection where there is none; nothing where it does not answer.
+    /// Asks a node, once no other thread uses its connection, over a new one if there is none. `None` if the node does not answer.
     pub fn ask<T>(&self, node: usize, question: impl FnOnce(&mut Connection) -> Option<T>) -> Option<T> {
         let place = self.places[node].connection.lock().unwrap_or_else(PoisonError::into_inner);
         self.ask_in(node, place, self.limits.connect + 2 * self.limits.answer, question)
     }
 
-    /// Asks a node one request, unless somebody else asks it just now; nothing then, or where it does not answer before the deadline.
+    /// Sends a node one request. `None` if another thread is using the connection, or if the node does not answer before the deadline.
     pub fn try_ask(&self, node: usize, request: &[u8], deadline: Instant) -> Option<Vec<u8>> {
         let patience = deadline.checked_duration_since(Instant::now()).filter(|left| !left.is_zero())?;
         let place = match self.places[node].connection.try_lock() {
@@ -71,7 +71,7 @@ impl Nodes {
             *place = Connection::open(&self.places[node].address, limits).ok();
         }
         let answer = place.as_mut().and_then(|connection| {
-            // A node that answers slowly is passed over like one that is silent.
+            // Another node is also used instead of one that answers slowly.
             connection.end_at(Some(end.min(Instant::now() + 2 * self.limits.answer))).ok()?;
             question(connection)
         });

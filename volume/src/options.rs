@@ -1,49 +1,50 @@
-//! How a volume is reached, and for how long its calls wait.
+//! The nodes of a volume, and the time limits of its calls.
 
 use std::fmt;
 use std::time::Duration;
 use yieldcleat_client::{Address, Limits};
 
-/// The most nodes of a volume.
+/// The greatest number of nodes of a volume.
 const MOST_NODES: usize = 15;
-/// The longest time that anything waits: a clock cannot count to the end of any longer one.
+/// The longest time limit. A clock cannot count to the end of much longer ones, such as `Duration::MAX`.
 pub(crate) const LONGEST_TIME: Duration = Duration::from_secs(365 * 24 * 3600);
-/// A node may have all pages, and an opening asks for all that it has.
+/// A node may have all pages, and an opening requests everything that it has.
 const LONGEST_ANSWER: u32 = 1 << 29;
 
-/// The nodes of a volume, and how long calls wait.
+/// The nodes of a volume, and the time limits of its calls.
 #[derive(Debug, Clone, PartialEq, Eq)]
 pub struct Options {
-    /// Where each node listens, by its number from 0. It is the same list in each process that uses the volume.
+    /// The address of each node, by its number from 0. The list must be the same in each process that uses the volume.
     pub nodes: Vec<Address>,
-    /// How many nodes make a write quorum: more than half of them.
+    /// The number of nodes of a write quorum: more than half of them.
     pub quorum: u8,
-    /// How long opening, a commit and a read may take.
+    /// How long an opening, a commit and a read may take.
     pub patience: Duration,
-    /// How long a connection waits for one answer before it counts as lost. The links of a writer wait for half of `patience` where that is
-    /// longer: an opening asks for whole volumes.
+    /// The limits of a connection; one whose answer takes longer is lost. Short requests and page reads wait for a fifth of `answer` for
+    /// the next bytes, and for two fifths in all. The links of a writer wait for half of `patience` if that is longer, because an opening
+    /// requests whole volumes.
     pub limits: Limits,
-    /// The pause before a node that cannot be reached is tried again.
+    /// The pause before another attempt to connect to a node.
     pub retry: Duration,
-    /// How long nodes are left alone while a commit waits for them; then they are asked again.
+    /// How long nodes may be silent while a commit waits for them, before they are asked again.
     pub remind: Duration,
-    /// How long an opening waits for further nodes when a quorum is there: it may admit a fresh node only if that has answered before.
+    /// How long an opening waits for further nodes once it has a quorum: it can admit a fresh node only if that has answered before.
     pub grace: Duration,
-    /// How long a node that has lost its files is left alone, so that gossip brings it the log, before an open volume is opened again to
-    /// admit it; also the least time between two such openings.
+    /// How long a node that has lost its files is left to gossip, which brings it the log, before an open volume is opened again to admit
+    /// it; also the least time between two such openings.
     pub admission: Duration,
-    /// The most bytes of mini-transactions that are not durable. A commit beyond that waits.
+    /// The number of bytes of mini-transactions that may be in flight before they are durable. A commit beyond that waits.
     pub in_flight: usize,
 }
 
-/// Why options are no volume.
+/// Why options do not describe a volume.
 #[derive(Debug, Clone, Copy, PartialEq, Eq)]
 pub enum BadOptions {
-    /// There are 1 to 15 nodes.
+    /// The number of nodes is not 1 to 15.
     Nodes { count: usize },
-    /// A quorum is more than half of the nodes, and at most all.
+    /// The quorum is not more than half of the nodes, or is more than all.
     Quorum { quorum: u8, nodes: usize },
-    /// Two nodes, by their numbers from 0, have one address: a quorum could be fewer disks than it counts.
+    /// Two nodes, by their numbers from 0, have the same address: a quorum could be fewer disks than it counts.
     Twice { first: usize, second: usize },
 }
 
@@ -60,7 +61,7 @@ impl fmt::Display for BadOptions {
 impl std::error::Error for BadOptions {}
 
 impl Options {
-    /// These nodes, with a quorum of two thirds of them (four of six) and usual times.
+    /// Makes options for these nodes, with a quorum of two thirds of them (four of six) and default times.
     pub fn new(nodes: Vec<Address>) -> Options {
         let quorum = (nodes.len() * 2).div_ceil(3).max(nodes.len() / 2 + 1);
         Options {
@@ -76,7 +77,7 @@ impl Options {
         }
     }
 
-    /// The same with times that a clock can count.
+    /// Returns these options with each time cut to `LONGEST_TIME`.
     pub(crate) fn bounded(mut self) -> Options {
         let Limits { connect, answer, .. } = &mut self.limits;
         let times = [&mut self.patience, connect, answer, &mut self.retry, &mut self.remind, &mut self.grace, &mut self.admission];
@@ -84,12 +85,12 @@ impl Options {
         self
     }
 
-    /// The limits of a writer's links.
+    /// Returns the limits of a writer's links.
     pub(crate) fn of_links(&self) -> Limits {
         Limits { answer: self.limits.answer.max(self.patience / 2), ..self.limits }
     }
 
-    /// Whether they are those of a volume.
+    /// Checks that these options describe a volume.
     pub fn check(&self) -> Result<(), BadOptions> {
         let (nodes, quorum) = (self.nodes.len(), self.quorum);
         if nodes == 0 || nodes > MOST_NODES {

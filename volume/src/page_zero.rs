@@ -1,9 +1,9 @@
-//! What the volume writes into page 0 at each commit: who committed, in which epoch, and the engine's own header. Its last 8 bytes are the
-//! commit point, as each page's are the number of its last record.
+//! The part of page 0 that the volume writes at each commit: the generation and epoch that committed, and the engine's own header. The last
+//! 8 bytes are the commit point, as those of each page are the LSN of its last record.
 
 use yieldcleat_client::PAGE_LEN;
 
-/// The most bytes of a header.
+/// The greatest number of bytes of a header.
 pub const MOST_HEADER: usize = 1024;
 const HEADER: usize = 12;
 const NUMBER: usize = PAGE_LEN - 8;
@@ -11,7 +11,7 @@ const NUMBER: usize = PAGE_LEN - 8;
 /// Page 0 at some point.
 #[derive(Debug, Clone, PartialEq, Eq)]
 pub struct PageZero {
-    /// Of the engine that committed last; 0 before the first commit.
+    /// The generation of the engine that committed last; 0 before the first commit.
     pub generation: u64,
     pub epoch: u16,
     pub commit_point: u64,
@@ -23,7 +23,7 @@ fn number(bytes: &[u8]) -> u64 {
 }
 
 impl PageZero {
-    /// Reads a whole page; nothing where no volume has written it.
+    /// Decodes a whole page. `None` if no volume has written it.
     pub fn read(page: &[u8]) -> Option<PageZero> {
         if page.len() != PAGE_LEN {
             return None;

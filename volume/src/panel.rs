@@ -1,4 +1,4 @@
-//! A question to all nodes at once: a thread for each node, so that one which is slow or away delays nobody.
+//! A question to all nodes at once, with a thread for each node, so that a slow or unreachable node delays no other.
 
 use crate::nodes::Nodes;
 use std::mem;
@@ -8,17 +8,17 @@ use std::thread;
 use std::time::Instant;
 use yieldcleat_client::Connection;
 
-/// What a panel asks a node. It has the connection to the node, and may be of several requests.
+/// The question of a panel. It uses the connection to a node, and may send several requests.
 pub type Question<T> = fn(&mut Connection) -> Option<T>;
 
-/// Who waits for the next answer of a node.
+/// A caller that waits for the next answer of a node.
 struct Waiting<T> {
-    /// Gone where the one who has asked has given up.
+    /// Cannot be upgraded once the caller has stopped waiting.
     asker: Weak<()>,
     answers: Sender<(usize, Option<T>)>,
 }
 
-/// What a thread does next: one question that answers all who wait, since it begins after each of them has asked.
+/// The next work of a thread: the question is sent once for all callers that wait, because it is sent after each of them has called.
 struct Slot<T> {
     waiting: Vec<Waiting<T>>,
     is_stopped: bool,
@@ -43,7 +43,7 @@ impl<T> Desk<T> {
         self.changed.notify_one();
     }
 
-    /// Those who wait, once there are any; nothing where the thread is to end.
+    /// Returns the callers that wait, once there are any. `None` if the thread must end.
     fn next(&self) -> Option<Vec<Waiting<T>>> {
         let is_idle = |slot: &mut Slot<T>| !slot.is_stopped && slot.waiting.is_empty();
         let mut slot = self.changed.wait_while(self.lock(), is_idle).unwrap_or_else(PoisonError::into_inner);
@@ -51,27 +51,29 @@ impl<T> Desk<T> {
     }
 }
 
-/// The threads, which end by themselves once it is dropped: each at the latest when the node that it waits for counts as silent.
+/// The threads. They end after this is dropped, each at the latest when the answer that it waits for times out.
 pub struct Panel<T> {
     desks: Vec<Arc<Desk<T>>>,
 }
 
-/// What nodes answer, in the order in which they do.
+/// The answers of the nodes to one question, as they arrive.
 pub struct Answers<T> {
     answers: Receiver<(usize, Option<T>)>,
-    /// Says that somebody listens.
+    /// Shows that the caller is waiting.
     _asker: Arc<()>,
 }
 
 impl<T> Answers<T> {
-    /// The next node that answers, or does not; nothing where all have, or the time is up.
+    /// Returns the next node, with its answer or `None` if it does not answer. `None` if all nodes are done, or at the deadline.
     pub fn next(&self, deadline: Instant) -> Option<(usize, Option<T>)> {
         self.answers.recv_timeout(deadline.saturating_duration_since(Instant::now())).ok()
     }
 }
 
 impl<T: Clone + Send + 'static> Panel<T> {
-    /// Its error is that of a thread which could not be started.
+    /// Starts the threads, for this question.
+    ///
+    /// Errors: that of a thread that could not be started.
     pub fn start(nodes: &Arc<Nodes>, question: Question<T>) -> std::io::Result<Panel<T>> {
         let mut panel = Panel { desks: Vec::new() };
         for node in 0..nodes.count() {
@@ -80,7 +82,7 @@ impl<T: Clone + Send + 'static> Panel<T> {
             let work = move || {
                 while let Some(waiting) = desk.next() {
                     let answer = nodes.ask(node, question);
-                    // Who has asked may have given up.
+                    // A caller may have stopped waiting.
                     waiting.into_iter().for_each(|it| drop(it.answers.send((node, answer.clone()))));
                 }
             };

@@ -1,4 +1,4 @@
-//! A node as the driver sees it.
+//! The state of a node in the driver.
 
 use crate::reopening::Outside;
 use crate::spreading::Spread;
@@ -6,25 +6,25 @@ use std::sync::mpsc::Sender;
 use std::time::Instant;
 use yieldcleat_client::{engines, Declined, Error};
 
-/// How the request to become a member begins.
+/// The beginning of a request to become a member.
 const ADMIT: &[u8] = b"admit ";
 
 pub struct Peer {
-    /// Nothing where the node is not connected.
+    /// The queue of requests; `None` while the node is not connected.
     pub queue: Option<Sender<Vec<u8>>>,
     /// Whether its link has been connected, or has failed to connect.
     pub was_tried: bool,
-    /// Whether it has answered since it was connected.
+    /// Whether it has answered on this connection.
     pub is_answering: bool,
-    /// Whether it has answered an opening over a connection that has ended, and has not said since that it is the member it was.
+    /// Whether its connection ended during an opening after it had answered, and it has not reported since that it serves the generation.
     pub is_lost: bool,
-    /// How many bytes of requests are not answered.
+    /// The number of bytes of unanswered requests.
     pub pending: usize,
-    /// How many of these an earlier opening has asked.
+    /// The number of these bytes that an earlier opening sent.
     pub earlier: usize,
-    /// When it was asked or heard last.
+    /// When it last got a request or answered one.
     pub active: Instant,
-    /// Why it does not count, as far as it has said.
+    /// Why it does not count, if it has reported that.
     pub outside: Option<Outside>,
     /// Whether it was connected when an open volume was opened again, and has not answered the fence.
     pub awaits_fence: bool,
@@ -32,7 +32,7 @@ pub struct Peer {
     pub awaits_admission: bool,
     /// Whether it was asked what it has, and has not answered.
     pub awaits_pull: bool,
-    /// What an opening holds back from it.
+    /// The requests that an opening holds back from it.
     pub spread: Spread,
 }
 
@@ -61,25 +61,25 @@ impl Peer {
         if let Some(queue) = &self.queue {
             self.awaits_admission |= request.starts_with(ADMIT);
             self.awaits_pull |= is_pull(&request);
-            // A link that has ended says so next.
+            // A link that has ended reports that next.
             let _ = queue.send(request);
         }
     }
 
-    /// Begins another opening, which does not wait for what was asked before.
+    /// Begins another opening, which does not wait for answers to earlier requests.
     pub fn begin_opening(&mut self) {
         (self.earlier, self.is_lost) = (self.pending, false);
         (self.awaits_admission, self.awaits_pull, self.spread) = (false, false, Spread::default());
     }
 
-    /// Whether an earlier opening has asked the request that is answered now. Requests are answered in their order.
+    /// Returns whether an earlier opening sent the request that is answered now. Requests are answered in order.
     pub fn is_earlier(&mut self, request: &[u8]) -> bool {
         let is_earlier = self.earlier > 0;
         self.earlier = self.earlier.saturating_sub(request.len());
         is_earlier
     }
 
-    /// Notes an answer to the engine of a generation. The result says whether it changes how many nodes answer or count.
+    /// Notes an answer to the engine of a generation. Returns whether this changes how many nodes answer or count.
     pub fn hear(&mut self, request: &[u8], answer: &[u8], generation: u64) -> bool {
         self.pending = self.pending.saturating_sub(request.len());
         self.active = Instant::now();
@@ -99,7 +99,7 @@ impl Peer {
         before != (self.is_answering, self.outside)
     }
 
-    /// Whether this answer says that another engine has the generation which this one asks for: the node has it, and no answer was lost.
+    /// Returns whether this answer shows that another engine has the generation of this fence: the node has it, and no answer was lost.
     pub fn is_of_another(&mut self, request: &[u8], answer: &[u8], generation: u64) -> bool {
         if !self.awaits_fence || request != engines::fence(generation) {
             return false;
@@ -109,19 +109,19 @@ impl Peer {
     }
 }
 
-/// Whether this asks a node what it has beyond a summary: `as G B answer SUMMARY`.
+/// Returns whether this requests what a node has beyond a summary: `as G B answer SUMMARY`.
 fn is_pull(request: &[u8]) -> bool {
     let mut words = request.splitn(4, |byte| *byte == b' ');
     words.next() == Some(b"as") && words.nth(2).is_some_and(|word| word.starts_with(b"answer "))
 }
 
-/// Whether a node says that it serves a generation.
+/// Returns whether a node reports that it serves a generation.
 fn is_of_member(answer: &[u8], generation: u64) -> bool {
     let is_own = |word| answer.starts_with(format!("{word} {generation} ").as_bytes());
     is_own("as") || is_own("accepted") || engines::membership(answer).is_ok_and(|it| it.is_member && it.generation == generation)
 }
 
-/// The birth of a node that says that it is no member.
+/// Returns the birth of a node that reports that it is not a member.
 fn fresh_birth(answer: &[u8]) -> Option<u64> {
     if answer.starts_with(b"status ") {
         return engines::membership(answer).ok().filter(|it| !it.is_member).map(|it| it.birth);
@@ -132,7 +132,7 @@ fn fresh_birth(answer: &[u8]) -> Option<u64> {
     }
 }
 
-/// Whether a node that is asked to serve a generation has it.
+/// Returns whether a node that is asked to serve a generation has it already.
 fn is_own_fence(request: &[u8], answer: &[u8], generation: u64) -> bool {
     answer.starts_with(b"stale ") && request == engines::fence(generation) && answer == format!("stale {generation}").as_bytes()
 }

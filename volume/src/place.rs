@@ -1,20 +1,20 @@
-//! The file that names the nodes of a volume.
+//! The file that lists the nodes of a volume.
 
 use crate::options::{BadOptions, Options};
 use std::path::Path;
 use std::{fmt, fs, io};
 use yieldcleat_client::{Address, BadAddress};
 
-/// Why a file names no volume.
+/// Why a file does not describe a volume.
 #[derive(Debug)]
 pub enum BadPlace {
     Io(io::Error),
-    /// A line that is no address, no `quorum W` and no comment.
+    /// A line that is not an address, `quorum W` or a comment.
     Line {
         line: usize,
         why: BadAddress,
     },
-    /// A quorum that is no number.
+    /// A quorum that is not a number.
     Quorum {
         line: usize,
     },
@@ -35,8 +35,8 @@ impl fmt::Display for BadPlace {
 impl std::error::Error for BadPlace {}
 
 impl Options {
-    /// The volume that a file names: in each line the address of a node, in the order of their numbers. A line `quorum W` sets the write
-    /// quorum; empty lines and those that begin with `#` say nothing.
+    /// Reads the volume that a file describes. Each line is the address of a node, in the order of their numbers. A line `quorum W` sets
+    /// the write quorum; empty lines and lines that begin with `#` are ignored.
     pub fn at(place: &Path) -> Result<Options, BadPlace> {
         Options::of_text(&fs::read_to_string(place).map_err(BadPlace::Io)?)
     }

@@ -1,4 +1,4 @@
-//! How far a volume is, for threads that wait.
+//! The progress of a volume, for threads that wait.
 
 use crate::errors::{Quorum, VolumeError};
 use crate::known::Known;
@@ -7,25 +7,27 @@ use std::collections::BTreeSet;
 use std::sync::{Condvar, Mutex, MutexGuard, PoisonError};
 use std::time::Instant;
 
-/// How far an open volume is.
+/// The state of an open volume.
 #[derive(Debug, Clone, PartialEq, Eq)]
 pub struct Standing {
     pub generation: u64,
     pub epoch: u16,
-    /// The commit point with which the volume was opened, and the header of its commit.
+    /// The commit point at which the volume was opened.
     pub opened_at: u64,
+    /// The header of that commit.
     pub header: Vec<u8>,
     /// All commits up to this point are durable.
     pub durable: u64,
     /// The commit point of the last mini-transaction.
     pub committed: u64,
-    /// How many nodes answer.
+    /// The number of nodes that answer.
     pub answering: usize,
-    /// How many of these count in no quorum yet: they have lost their files, and the volume opens again by itself to admit them.
+    /// The number of these nodes that do not count for a quorum yet: they have lost their files, and the volume opens again by itself to
+    /// admit them.
     pub uncounted: usize,
 }
 
-/// Where an open volume is, for whoever decides about it often.
+/// The points of an open volume, for code that needs them often.
 #[derive(Debug, Clone, Copy, PartialEq, Eq)]
 pub struct Place {
     pub epoch: u16,
@@ -38,15 +40,15 @@ pub struct Place {
 /// How many nodes the links have reached.
 #[derive(Debug, Clone, Copy, Default)]
 pub struct Reached {
-    /// Those that are or were connected, or to which a first connection failed.
+    /// The number of nodes that are or were connected, or to which a first connection failed.
     pub tried: usize,
     pub connected: usize,
     pub answering: usize,
-    /// Of those that answer: they count in no quorum yet.
+    /// The number of nodes that do not count for a quorum yet.
     pub uncounted: usize,
 }
 
-/// The bytes of a mini-transaction that is not durable.
+/// The size of a mini-transaction that is not durable.
 #[derive(Debug, Clone, Copy)]
 struct InFlight {
     commit_point: u64,
@@ -59,7 +61,7 @@ struct State {
     /// The greatest generation that nodes were asked to serve.
     claimed: u64,
     reached: Reached,
-    /// Of the nodes that have answered as members.
+    /// The births of the nodes that have answered as members.
     births: BTreeSet<u64>,
     in_flight: Vec<InFlight>,
     failed: Option<VolumeError>,
@@ -71,12 +73,12 @@ impl State {
     }
 }
 
-/// What the driver reports and callers wait for.
+/// The state that the driver reports and callers wait for.
 #[derive(Default)]
 pub struct Progress {
     state: Mutex<State>,
     changed: Condvar,
-    /// When a part of a long request or answer went by last.
+    /// When a part of a long request or answer last moved.
     moved: Mutex<Option<Instant>>,
 }
 
@@ -91,7 +93,7 @@ impl Progress {
         changed
     }
 
-    /// Waits until `holds` says something, or until the deadline.
+    /// Waits until `holds` returns a value, or until the deadline.
     fn wait<T>(&self, deadline: Instant, mut holds: impl FnMut(&State) -> Option<T>) -> Option<T> {
         let mut state = self.lock();
         loop {
@@ -103,9 +105,9 @@ impl Progress {
         }
     }
 
-    // What the driver reports
+    // Reports of the driver
 
-    /// The volume is to be opened for a caller who has no handle yet: no earlier attempt counts.
+    /// Forgets earlier attempts to open the volume, for a caller that has no handle yet.
     pub fn begin(&self) {
         self.change(|state| {
             (state.standing, state.failed) = (None, None);
@@ -135,12 +137,12 @@ impl Progress {
         });
     }
 
-    /// A part of a long request or answer has gone by.
+    /// Notes that a part of a long request or answer has moved.
     pub fn note_moved(&self) {
         *self.moved.lock().unwrap_or_else(PoisonError::into_inner) = Some(Instant::now());
     }
 
-    /// A member has this birth.
+    /// Notes the birth of a member.
     pub fn met(&self, birth: u64) {
         self.lock().births.insert(birth);
     }
@@ -163,18 +165,18 @@ impl Progress {
         });
     }
 
-    /// Ends the volume: each caller that waits, and each later one, gets this error. The first one stays.
+    /// Ends the volume with an error, which `standing` and each wait that is not fulfilled return. The first error is kept.
     pub fn fail(&self, error: VolumeError) {
         self.change(|state| {
             state.failed.get_or_insert(error);
         });
     }
 
-    // What callers ask
+    // Queries of callers
 
-    /// How far the volume is.
+    /// Returns the state of the volume.
     ///
-    /// Errors: the one that has ended it; `Closed` where it is not open.
+    /// Errors: the one that has ended the volume; `Closed` if it is not open.
     pub fn standing(&self) -> Result<Standing, VolumeError> {
         let state = self.lock();
         match (&state.failed, &state.standing) {
@@ -184,24 +186,24 @@ impl Progress {
         }
     }
 
-    /// The last durable commit point; zeros where the volume was never open.
+    /// Returns the last durable commit point; zeros if the volume was never open.
     pub fn known(&self) -> Known {
         let state = self.lock();
         let newest = state.standing.as_ref().map_or((0, 0), |standing| (standing.epoch, standing.durable));
         Known::of(newest, state.births.iter().copied())
     }
 
-    /// When a part of a long request or answer went by last.
+    /// Returns when a part of a long request or answer last moved.
     pub fn moved(&self) -> Option<Instant> {
         *self.moved.lock().unwrap_or_else(PoisonError::into_inner)
     }
 
-    /// The greatest generation that nodes were asked to serve. It is there before a node can show it.
+    /// Returns the greatest generation that nodes were asked to serve. It is set before a node can report it.
     pub fn claimed(&self) -> u64 {
         self.lock().claimed
     }
 
-    /// Where the volume is; nothing where it is not open, or has ended.
+    /// Returns the points of the volume. `None` if it is not open, or has ended.
     pub fn place(&self) -> Option<Place> {
         let state = self.lock();
         let standing = state.standing.as_ref().filter(|_| state.failed.is_none())?;
@@ -214,27 +216,27 @@ impl Progress {
         Quorum { uncounted: state.reached.uncounted, ..Quorum::of(state.counted(), options) }
     }
 
-    /// Waits until each node is connected, or cannot be reached at once while a quorum is connected, or until the deadline.
+    /// Waits until each node is connected, or has failed to connect while a quorum is connected, or until the deadline.
     pub fn wait_connected(&self, options: &Options, deadline: Instant) {
         let (all, quorum) = (options.nodes.len(), usize::from(options.quorum));
         let is_enough = |Reached { tried, connected, .. }| tried >= all && connected >= quorum;
         self.wait(deadline, |state| is_enough(state.reached).then_some(()));
     }
 
-    /// The last commit point up to a point that is not durable.
+    /// Returns the last commit point up to `up_to` that is not durable.
     pub fn last_waiting(&self, up_to: u64) -> Option<u64> {
         self.lock().in_flight.iter().map(|it| it.commit_point).filter(|point| *point <= up_to).max()
     }
 
-    /// Whether a mini-transaction is not durable.
+    /// Returns whether a mini-transaction is not durable.
     pub fn is_waiting(&self) -> bool {
         let state = self.lock();
         state.failed.is_none() && !state.in_flight.is_empty()
     }
 
-    /// Waits until the commit point is durable. The result is nothing where it is not before the deadline.
+    /// Waits until the commit point is durable. `None` if it is not before the deadline.
     ///
-    /// Its error is the one that has ended the volume.
+    /// Errors: the one that has ended the volume.
     pub fn wait_durable(&self, commit_point: u64, deadline: Instant) -> Option<Result<(), VolumeError>> {
         self.wait(deadline, |state| {
             let durable = state.standing.as_ref().map_or(0, |standing| standing.durable);
@@ -245,9 +247,9 @@ impl Progress {
         })
     }
 
-    /// Waits until less bytes than allowed are not durable, and a quorum answers. The result is nothing where that is not before the deadline.
+    /// Waits until fewer bytes than the limit are in flight and a quorum answers. `None` if that does not happen before the deadline.
     ///
-    /// Its error is the one that has ended the volume.
+    /// Errors: the one that has ended the volume.
     pub fn wait_room(&self, options: &Options, deadline: Instant) -> Option<Result<(), VolumeError>> {
         let has_room = |state: &State| state.in_flight.iter().map(|it| it.bytes).sum::<usize>() < options.in_flight;
         self.wait(deadline, |state| match &state.failed {

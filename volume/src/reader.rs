@@ -1,4 +1,4 @@
-//! A handle that reads a volume and fences nobody.
+//! A handle that reads a volume and fences no engine.
 
 use crate::errors::{Quorum, VolumeError};
 use crate::known::Known;
@@ -14,7 +14,7 @@ use std::thread;
 use std::time::{Duration, Instant};
 use yieldcleat_client::Membership;
 
-/// A volume that this process reads. Its calls may come from many threads.
+/// A volume that this process reads. Many threads may call it.
 pub struct Reader {
     options: Options,
     nodes: Arc<Nodes>,
@@ -25,7 +25,7 @@ pub struct Reader {
     generation: AtomicU64,
 }
 
-/// What a round of questions has brought.
+/// The answers of one round of questions.
 #[derive(Default)]
 struct Round {
     shown: Vec<Shown>,
@@ -34,7 +34,7 @@ struct Round {
     fresh: usize,
 }
 
-/// What all rounds of one call have brought: the least bound of the newest epoch, and the greatest durable point in it.
+/// The results of all rounds of one call: the least bound of the newest epoch, and the greatest durable point in it.
 #[derive(Default)]
 struct Search {
     epoch: u16,
@@ -43,7 +43,7 @@ struct Search {
 }
 
 impl Search {
-    /// Adds what nodes show together. The result is a durable point that nothing durable was above when the call began.
+    /// Adds what nodes show together. Returns a durable point that no durable point was above when the call began.
     fn add(&mut self, found: Together) -> Option<(u16, u64)> {
         if found.epoch > self.epoch {
             *self = Search { epoch: found.epoch, ..Search::default() };
@@ -57,16 +57,16 @@ impl Search {
     }
 }
 
-/// How long enough nodes may prove no commit: that long another engine may take to open the volume.
+/// How long enough nodes may fail to prove a commit: another engine may take that long to open the volume.
 const UNPROVED: Duration = Duration::from_secs(2);
 
-/// The pauses between two rounds: commits may be on their way to the nodes that lack them.
+/// The first and the longest pause between two rounds: commits may be on their way to the nodes that lack them.
 const PAUSES: [Duration; 2] = [Duration::from_millis(1), Duration::from_millis(50)];
 
 impl Reader {
-    /// Reads the volume of these nodes.
+    /// Opens a reader of the volume of these nodes.
     ///
-    /// Errors: `Options`, `Thread`.
+    /// Errors: `Options` and `Thread`.
     pub fn open(options: Options) -> Result<Reader, VolumeError> {
         options.check().map_err(VolumeError::Options)?;
         let options = options.bounded();
@@ -76,9 +76,9 @@ impl Reader {
         Ok(Reader { readers: Readers::new(&nodes), options, nodes, panel, known, generation })
     }
 
-    /// The newest durable commit point: at or above each one of this volume that a handle has seen durable before.
+    /// Returns the newest durable commit point: at or above each one of this volume that any handle has seen durable before the call.
     ///
-    /// Errors: `NotOpened`, where too few nodes answer within the time allowed; `Unproved`; `Empty`.
+    /// Errors: `NotOpened` if too few nodes answer within the time allowed; `Unproved`; `Empty`.
     pub fn newest(&self) -> Result<u64, VolumeError> {
         let begun = Instant::now();
         let deadline = begun + self.options.patience;
@@ -124,7 +124,7 @@ impl Reader {
                 return (round, Some(found));
             }
             if round.answered >= usize::from(self.options.quorum) {
-                // The others may be away: another round may prove more.
+                // The others may be unreachable: another round may prove more.
                 end = end.min(Instant::now() + self.options.remind);
             }
         }
@@ -135,12 +135,12 @@ impl Reader {
         self.known.lock().unwrap_or_else(PoisonError::into_inner)
     }
 
-    /// The newest durable commit point, as far as this handle knows without asking a node.
+    /// Returns the newest durable commit point that this handle knows, without a request.
     pub fn known(&self) -> u64 {
         self.lock().newest().1
     }
 
-    /// What somebody else knows, which counts where it is of this volume. The result is the newest durable commit point that is known then.
+    /// Adds what another handle knows, if it is of this volume. Returns the newest durable commit point that is known then.
     pub fn learn(&self, found: &Known) -> u64 {
         let mut known = self.lock();
         if known.meets(found) {
@@ -149,34 +149,35 @@ impl Reader {
         known.newest().1
     }
 
-    /// The greatest generation of a member that was seen.
+    /// Returns the greatest generation of a member that was seen.
     pub fn generation(&self) -> u64 {
         self.generation.load(Ordering::Relaxed)
     }
 
-    /// How many nodes answered when they were asked last.
+    /// Returns the number of nodes that answered their last request.
     pub fn answering(&self) -> usize {
         self.nodes.answering()
     }
 
-    /// Page 0 at a point.
+    /// Reads page 0 at a point.
     ///
-    /// Errors: those of `read`, and `Damaged` where no volume wrote it.
+    /// Errors: those of `read`, and `Refused` with `Damaged` if no volume wrote page 0.
     pub fn page_zero(&self, point: u64) -> Result<PageZero, VolumeError> {
         let at = self.at(point)?;
         self.readers.page_zero(|| Ok(at), Instant::now() + self.options.patience)
     }
 
-    /// `length` bytes of a page from `offset` on, at a durable commit point up to the newest one that `newest` or `learn` has returned.
+    /// Reads `length` bytes of a page from `offset` on, at a durable commit point up to the newest one that `newest` or `learn` has
+    /// returned.
     ///
-    /// Errors: `Argument`, `Above`, `Below`, `NotRead`.
+    /// Errors: `Argument`, `Above`, `Below` and `NotRead`.
     pub fn read(&self, page: u16, point: u64, offset: u16, length: u16) -> Result<Vec<u8>, VolumeError> {
         let range = Range { at: self.at(point)?, page, offset, length };
         range.check()?;
         self.readers.read(|| Ok(range), Instant::now() + self.options.patience)
     }
 
-    /// A node of an earlier epoch than that of the point may have dead records in its place, so the epoch must be known.
+    /// Adds the epoch to a point: a node of an earlier epoch may have dead records in its place.
     fn at(&self, point: u64) -> Result<At, VolumeError> {
         let (epoch, newest) = self.lock().newest();
         if point > newest {

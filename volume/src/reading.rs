@@ -1,4 +1,4 @@
-//! Pages at points, from whichever node has them.
+//! Reads of pages at points, from any node that has them.
 
 use crate::errors::VolumeError;
 use crate::machine::Fault;
@@ -10,7 +10,7 @@ use std::thread;
 use std::time::{Duration, Instant};
 use yieldcleat_client::{answers, frames, requests, Error, ReadFault, PAGE_LEN};
 
-/// Which bytes of which page at which point.
+/// A range of bytes of a page at a point.
 #[derive(Debug, Clone, Copy, PartialEq, Eq)]
 pub struct Range {
     pub at: At,
@@ -19,7 +19,7 @@ pub struct Range {
     pub length: u16,
 }
 
-/// A point of an epoch. One that is durable is the same in each later epoch, and others may be annulled there.
+/// A point of an epoch. A durable point is the same in each later epoch; another one may be annulled there.
 #[derive(Debug, Clone, Copy, PartialEq, Eq)]
 pub struct At {
     pub epoch: u16,
@@ -28,7 +28,7 @@ pub struct At {
 }
 
 impl Range {
-    /// Whether it is within a page.
+    /// Checks that the range is within a page.
     pub fn check(&self) -> Result<(), VolumeError> {
         match self.length > 0 && usize::from(self.offset) + usize::from(self.length) <= PAGE_LEN {
             true => Ok(()),
@@ -37,24 +37,24 @@ impl Range {
     }
 }
 
-/// Reads pages, first of all from the node that answered last.
+/// Reads pages, first from the node that answered last.
 pub struct Readers {
     nodes: Arc<Nodes>,
     preferred: AtomicUsize,
 }
 
-/// What a node says to a read.
+/// The answer of a node to a read.
 enum Read {
     Bytes(Vec<u8>),
     Below(u64),
-    /// The node is behind, busy or away.
+    /// The node lags, is busy, or does not answer.
     Nothing,
 }
 
-/// The least time for the answer of one node.
+/// The least time that one node gets to answer, unless the deadline is before.
 const LEAST: Duration = Duration::from_millis(50);
 
-/// The pauses between two rounds over all nodes: records may be on their way to them.
+/// The first and the longest pause between two rounds over all nodes: records may be on their way to them.
 const PAUSES: [Duration; 2] = [Duration::from_millis(1), Duration::from_millis(20)];
 
 impl Readers {
@@ -62,10 +62,10 @@ impl Readers {
         Readers { nodes: nodes.clone(), preferred: AtomicUsize::new(0) }
     }
 
-    /// Reads from the first node that has it, and tries all of them until the deadline. What is read is asked for before each round over the
-    /// nodes: they may have the point in a later epoch meanwhile.
+    /// Reads from the first node that has the page at the point, and tries all nodes until the deadline. Calls `range` before each round
+    /// over the nodes, which may have the point in a later epoch meanwhile.
     ///
-    /// Errors: `Below`, `NotRead`, and those of what is asked for.
+    /// Errors: `Below`, `NotRead`, and those of `range`.
     pub fn read(&self, range: impl Fn() -> Result<Range, VolumeError>, deadline: Instant) -> Result<Vec<u8>, VolumeError> {
         let mut pause = PAUSES[0];
         loop {
@@ -82,16 +82,16 @@ impl Readers {
         }
     }
 
-    /// Page 0 at a point.
+    /// Reads page 0 at a point.
     ///
-    /// Errors: those of `read`, and `Damaged` where no volume wrote it.
+    /// Errors: those of `read`, and `Refused` with `Damaged` if no volume wrote page 0.
     pub fn page_zero(&self, at: impl Fn() -> Result<At, VolumeError>, deadline: Instant) -> Result<PageZero, VolumeError> {
         let whole = || Ok(Range { at: at()?, page: 0, offset: 0, length: PAGE_LEN as u16 });
         PageZero::read(&self.read(whole, deadline)?).ok_or(VolumeError::Refused(Fault::Damaged))
     }
 
-    /// Asks each node once, until one has it or the time is up; nothing where none has. No node may take more than half of the time that is left,
-    /// so that another one can answer in place of one that is silent.
+    /// Asks each node once, until one has the page at the point, or until the deadline. `None` if no node has it. A node may take half of
+    /// the time left, or `LEAST` if that is more, so that another one can answer instead of one that is silent.
     fn read_once(&self, range: Range, deadline: Instant) -> Option<Result<Vec<u8>, VolumeError>> {
         let (first, count) = (self.preferred.load(Ordering::Relaxed), self.nodes.count());
         for node in (first..first + count).map(|place| place % count) {
@@ -110,7 +110,7 @@ impl Readers {
         None
     }
 
-    /// The front comes first in the same frame: a node of another epoch may have records at the point that are annulled.
+    /// Requests the front before the read, in one frame: a node of another epoch may have annulled records at the point.
     fn read_at(&self, node: usize, range: Range, end: Instant) -> Read {
         let Range { at: At { epoch, point, is_durable }, page, offset, length } = range;
         let read = format!("read {page} {point} {offset} {length}");
@@ -123,7 +123,7 @@ impl Readers {
         let is_fit = |shown: u16| shown == epoch || (is_durable && shown > epoch);
         match frames::inside(&answer).as_deref() {
             Some([front, shown]) if answers::front(front).is_ok_and(|front| is_fit(front.epoch)) => match answers::bytes(shown, "page ") {
-                // Another length is no answer to this request.
+                // Bytes of another length are not an answer to this request.
                 Ok(bytes) if bytes.len() == usize::from(length) => Read::Bytes(bytes),
                 Err(Error::Read(ReadFault::Below { min })) => Read::Below(min),
                 _ => Read::Nothing,

@@ -1,5 +1,5 @@
-//! When an open volume is opened again: a node that has lost its files counts in no quorum before an opening admits it, and a writer may stay
-//! open for months.
+//! The decision when an open volume is opened again. A node that has lost its files does not count for a quorum before an opening admits
+//! it, and a writer may stay open for months.
 
 use crate::options::Options;
 use crate::standing::Statuses;
@@ -9,13 +9,13 @@ use yieldcleat_client::Membership;
 /// Why a node that answers does not count before the next opening.
 #[derive(Debug, Clone, Copy, PartialEq, Eq)]
 pub enum Outside {
-    /// It is no member, and this is its birth.
+    /// It is not a member, and has this birth.
     Fresh(u64),
-    /// It is a member of the engine's own generation, and the answer that named its birth was lost.
+    /// It is a member of the engine's own generation, but the answer that named its birth was lost.
     Unheard(u64),
 }
 
-/// What the driver sees when it asks what is next.
+/// The state of the driver when it asks for the next step.
 #[derive(Debug, Clone, Default)]
 pub struct Seen {
     /// The nodes that answer and do not count.
@@ -30,15 +30,15 @@ pub struct Seen {
     pub is_waiting: bool,
 }
 
-/// What the driver does next.
+/// The next step of the driver.
 #[derive(Debug, Clone, Copy, PartialEq, Eq)]
 pub enum Next {
     Nothing,
-    /// Ask each node that is connected for its status.
+    /// Ask each connected node for its status.
     Ask,
     /// Open the volume under the next generation.
     Open,
-    /// Another engine has opened the volume, or is about to: this one ends.
+    /// End: another engine has opened the volume, or is about to.
     Fenced {
         generation: u64,
     },
@@ -46,7 +46,7 @@ pub enum Next {
 
 enum Stage {
     Resting,
-    /// The nodes are asked for their status, until a moment.
+    /// The nodes are asked for their status, until a deadline.
     Asking {
         statuses: Statuses,
         until: Instant,
@@ -58,38 +58,39 @@ enum Stage {
     },
 }
 
-/// When a node outside was seen first, and what was durable then.
+/// When a node that does not count was first seen, and what was durable then.
 #[derive(Clone, Copy)]
 struct Noticed {
     at: Instant,
     durable: u64,
 }
 
-/// A node that gossip does not bring up to date within so many pauses gets all from the engine, if a frame holds that.
+/// After this many pauses, a node that gossip does not bring up to date gets everything from the engine, if a frame has room for it.
 const UNHELPED: u32 = 10;
-/// The longest pause where nodes were not admitted by the attempts before: an opening spends epochs.
+/// The longest pause if earlier attempts did not admit the nodes, because an opening uses up epochs.
 const LONGEST_WAIT: Duration = Duration::from_secs(3600);
-/// The longest attempt. It takes longer the more the volume has, and another one would begin from nothing; one that has lost a node is given
-/// up before.
+/// The longest attempt. It takes longer the more the volume has, and another one would begin from nothing. An attempt that has lost a node
+/// is abandoned before, unless the node comes back as the same member.
 const ATTEMPT: Duration = Duration::from_secs(60);
-/// From here on, epochs are left for openings after a crash.
+/// From this epoch on, the epochs left are for openings after a crash.
 const LAST_EPOCH: u16 = 65_000;
 
-/// Decides when the volume is opened again. It has no clock and asks nobody; the driver does what it says.
+/// Decides when the volume is opened again. It has no clock and sends nothing: the driver carries out its decisions.
 pub struct Reopening {
     options: Options,
     stage: Stage,
-    /// Nothing happens before.
+    /// The earliest time of the next decision.
     next: Instant,
     noticed: Option<Noticed>,
-    /// Since when commits wait.
+    /// The time from which on commits wait.
     held: Option<Instant>,
-    /// Whether the machine was asked to open the volume again and has not said that it is open.
+    /// Whether the machine was asked to open the volume again and has not reported that it is open.
     is_shut: bool,
     /// The fresh nodes that have the log.
     helped: Vec<usize>,
-    /// The nodes outside at the last attempt, and the pause before another one where there are no others.
+    /// The nodes that did not count at the last attempt.
     tried: Vec<Outside>,
+    /// The pause before another attempt if there are no other such nodes.
     wait: Duration,
     /// The pause after an attempt that fails.
     retry: Duration,
@@ -111,12 +112,12 @@ impl Reopening {
         }
     }
 
-    /// Whether commits wait.
+    /// Returns whether commits wait.
     pub fn holds(&self) -> bool {
         self.held.is_some()
     }
 
-    /// Whether the volume is to be opened again and is not open: commits wait, and attempts go on until one succeeds.
+    /// Returns whether the volume must be opened again and is not open: commits wait, and attempts follow until one succeeds.
     pub fn is_shut(&self) -> bool {
         self.is_shut
     }
@@ -125,31 +126,31 @@ impl Reopening {
         matches!(self.stage, Stage::Opening { .. })
     }
 
-    /// Whether a fresh node has what the engine sends it before it is admitted. It need not be sent then: no node that lacks any of it is
-    /// admitted.
+    /// Returns whether a fresh node has what the engine sends it before it is admitted. It need not be sent again: a node that lacks any of
+    /// it is not admitted.
     pub fn is_helped(&self, node: u8) -> bool {
         self.is_opening() && self.helped.contains(&node.into())
     }
 
-    /// Whether there is nothing to decide while no node is outside.
+    /// Returns whether there is nothing to decide while all nodes that answer count.
     pub fn is_at_rest(&self) -> bool {
         matches!(self.stage, Stage::Resting) && !self.is_shut && self.noticed.is_none()
     }
 
-    /// A node says what it is.
+    /// Notes the status of a node.
     pub fn hear(&mut self, node: u8, status: Membership) {
         if let Stage::Asking { statuses, .. } = &mut self.stage {
             statuses.add(node.into(), status);
         }
     }
 
-    /// Has commits wait.
+    /// Makes commits wait.
     #[cfg(test)]
     pub fn hold(&mut self, now: Instant) {
         self.held = Some(now);
     }
 
-    /// What is to be done now.
+    /// Returns the next step.
     pub fn next(&mut self, now: Instant, seen: &Seen) -> Next {
         match &self.stage {
             Stage::Resting => match self.is_due(now, seen) {
@@ -163,7 +164,7 @@ impl Reopening {
         }
     }
 
-    /// Whether the answers that have come are enough, or have to be.
+    /// Returns whether the answers so far are enough, or must be.
     fn have_answered(&self, statuses: &Statuses, until: Instant, now: Instant, seen: &Seen) -> bool {
         let is_late = now >= until + self.options.patience / 8;
         statuses.count() >= seen.connected || is_late || (now >= until && statuses.have_members(self.options.quorum))
@@ -181,7 +182,7 @@ impl Reopening {
         now >= self.next && now >= noticed.at + self.pause(seen)
     }
 
-    /// How long nodes outside are left alone.
+    /// Returns how long nodes that do not count are left to gossip.
     fn pause(&self, seen: &Seen) -> Duration {
         match seen.outside.iter().all(|it| self.tried.contains(it)) {
             true => self.wait,
@@ -195,7 +196,7 @@ impl Reopening {
         Next::Ask
     }
 
-    /// What the statuses of the nodes lead to.
+    /// Decides by the statuses of the nodes.
     fn judge(&mut self, now: Instant, seen: &Seen) -> Next {
         let Stage::Asking { statuses, .. } = std::mem::replace(&mut self.stage, Stage::Resting) else {
             return Next::Nothing;
@@ -205,7 +206,7 @@ impl Reopening {
         }
         let quorum = self.options.quorum;
         if self.is_shut {
-            // Members of an earlier generation are those that the attempts before have not reached.
+            // Members of an earlier generation are those that earlier attempts have not reached.
             return match statuses.have_members(quorum) {
                 true => self.open(now, seen, &statuses),
                 false => self.failed(now),
@@ -232,7 +233,7 @@ impl Reopening {
         }
     }
 
-    /// Whether commits may be held: gossip has brought the fresh nodes what was durable when they were seen first, or does not.
+    /// Returns whether commits may be held: gossip has brought the fresh nodes what was durable when they were first seen, or does not.
     fn may_hold(&self, now: Instant, seen: &Seen, statuses: &Statuses) -> bool {
         self.noticed.is_some_and(|noticed| statuses.fresh_have(seen.epoch, noticed.durable)) || self.is_overdue(now, seen)
     }
@@ -241,7 +242,7 @@ impl Reopening {
         self.noticed.is_some_and(|noticed| now >= noticed.at + self.pause(seen) + self.options.admission * UNHELPED)
     }
 
-    /// Asks again, once nothing is in flight.
+    /// Asks the nodes again, once nothing is in flight.
     fn drain(&mut self, now: Instant, seen: &Seen) -> Next {
         if seen.is_waiting && self.held.is_some_and(|held| now >= held + self.options.admission) {
             return self.released(now);
@@ -266,12 +267,12 @@ impl Reopening {
         Next::Open
     }
 
-    /// The machine has taken the attempt: its last opening has ended.
+    /// Notes that the machine has begun the attempt, so its last opening has ended.
     pub fn begin(&mut self) {
         self.is_shut = true;
     }
 
-    /// The machine has not taken the attempt, and is as before it.
+    /// Notes that the machine has not begun the attempt, and is as before it.
     pub fn refuse(&mut self, now: Instant) {
         match self.is_shut {
             true => self.fail(now),
@@ -279,7 +280,7 @@ impl Reopening {
         }
     }
 
-    /// An attempt has failed; another one follows.
+    /// Notes that an attempt has failed; another one follows.
     pub fn fail(&mut self, now: Instant) {
         (self.stage, self.next) = (Stage::Resting, now + self.retry);
         self.retry = (self.retry * 2).min(self.options.admission);
@@ -290,7 +291,7 @@ impl Reopening {
         Next::Nothing
     }
 
-    /// Commits go on, and the nodes are asked again after a while.
+    /// Lets commits continue; the nodes are asked again after a while.
     fn release(&mut self, now: Instant) {
         (self.stage, self.held, self.next) = (Stage::Resting, None, now + self.options.admission);
     }
@@ -300,7 +301,7 @@ impl Reopening {
         Next::Nothing
     }
 
-    /// The volume is open again.
+    /// Notes that the volume is open again.
     pub fn succeed(&mut self, now: Instant) {
         let (tried, wait) = (std::mem::take(&mut self.tried), self.wait);
         *self = Reopening { tried, wait, next: now + self.options.admission, ..Reopening::new(&self.options, now) };
@@ -314,7 +315,7 @@ mod tests {
 
     const PAUSE: Duration = Duration::from_secs(2);
 
-    /// A volume of three nodes in epoch 1, of which the third one is fresh, and the clock.
+    /// A volume of three nodes in epoch 1, with the third one fresh, and the clock.
     struct Case {
         reopening: Reopening,
         now: Instant,
@@ -340,7 +341,7 @@ mod tests {
             self.next()
         }
 
-        /// The nodes say what they are: generations of members, and how far the fresh one is.
+        /// Reports the statuses of the nodes: the generations of members, and the complete point of the fresh one.
         fn hear(&mut self, members: &[u64], complete: u64) -> Next {
             let front = Front { epoch: 1, complete, min: 0 };
             let fresh = Membership { generation: 0, birth: 9, is_member: false, front, accepted: None };
@@ -351,7 +352,7 @@ mod tests {
             self.next()
         }
 
-        /// It is opened again, up to where the machine has taken the attempt.
+        /// Opens the volume again, up to where the machine has begun the attempt.
         fn open(&mut self) {
             assert_eq!((self.next(), self.after(PAUSE), self.hear(&[5, 5], 40)), (Next::Nothing, Next::Ask, Next::Ask));
             assert!(self.reopening.holds());
@@ -379,7 +380,7 @@ mod tests {
         assert_eq!(case.hear(&[5, 5], 39), Next::Nothing);
         assert!(!case.reopening.holds());
         assert_eq!((case.after(PAUSE / 2), case.after(PAUSE / 2)), (Next::Nothing, Next::Ask));
-        // What was durable at first is there, and what is in flight comes first.
+        // What was durable at first is there; commits in flight are waited for.
         (case.seen.durable, case.seen.committed, case.seen.is_waiting) = (50, 52, true);
         assert_eq!(case.hear(&[5, 5], 40), Next::Nothing);
         assert!(case.reopening.holds());
@@ -465,7 +466,7 @@ mod tests {
             pauses.push((case.now - begun).as_secs());
         }
         assert_eq!(pauses, [2, 4, 8, 16]);
-        // Another one does not wait for that.
+        // Another node does not wait for that.
         case.seen.outside.push(Outside::Fresh(10));
         assert_eq!((case.next(), case.after(PAUSE)), (Next::Nothing, Next::Ask));
     }

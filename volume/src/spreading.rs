@@ -1,9 +1,9 @@
-//! What an opening sends nodes of what they lack.
+//! What an opening sends to nodes that lack something.
 //!
-//! The machine sends each node what the node's summary does not show, and hears a front after that. It goes on with a quorum that has what the
-//! opening keeps. A node that has discarded less than others is sent all pages, although it has their records. So long absorbs are held back
-//! until fronts have come. Where the machine goes on, those for nodes that have as much as any other are dropped, like messages that are
-//! lost. Otherwise they follow.
+//! The machine sends each node what the node's summary lacks, and requests a front afterwards. It continues with a quorum that has what the
+//! opening keeps. A node that has discarded less than others is sent all pages, although it has their records. So long absorbs are held
+//! back until the fronts have arrived. If the machine continues then, those for nodes that have as much as any other are dropped, like lost
+//! messages. Otherwise they are sent.
 
 use crate::link::LONG;
 use std::time::{Duration, Instant};
@@ -12,40 +12,40 @@ use yieldcleat_client::answers;
 /// An epoch, and the complete point in it.
 pub type Reached = (u16, u64);
 
-/// A request to absorb that is held back, and since when.
+/// An absorb request that is held back, and since when.
 #[derive(Debug)]
 struct Held {
     request: Vec<u8>,
     since: Instant,
 }
 
-/// A node, as far as an opening spreads what it has gathered.
+/// The state of a node while an opening spreads what it has gathered.
 #[derive(Debug, Default)]
 pub struct Spread {
     held: Option<Held>,
     /// Whether the node was asked for its summary, and has not reported its front.
     awaits_front: bool,
-    /// The front that it has reported then.
+    /// The front that it reported after that.
     front: Option<Reached>,
 }
 
-/// What is inside a request or an answer under a generation and a birth.
+/// Returns the request or answer inside one under a generation and a birth.
 fn inside(bytes: &[u8]) -> Option<&[u8]> {
     bytes.strip_prefix(b"as ")?.splitn(3, |byte| *byte == b' ').nth(2)
 }
 
-/// Whether the machine asks this once a quorum has what the opening keeps.
+/// Returns whether the machine sends this once a quorum has what the opening keeps.
 pub fn is_proposal(request: &[u8]) -> bool {
     request.starts_with(b"propose ")
 }
 
-/// Whether the machine asks this when it begins to spread.
+/// Returns whether the machine sends this when it begins to spread.
 pub fn is_question(request: &[u8]) -> bool {
     inside(request) == Some(b"ask")
 }
 
 impl Spread {
-    /// Notes a request of an opening. The result is the request, unless it is held back.
+    /// Notes a request of an opening, and returns it unless it is held back.
     pub fn ask(&mut self, request: Vec<u8>, now: Instant) -> Option<Vec<u8>> {
         if is_question(&request) {
             *self = Spread { awaits_front: true, ..Spread::default() };
@@ -77,17 +77,17 @@ impl Spread {
         self.front
     }
 
-    /// Whether a request has been held back for so long.
+    /// Returns whether a request has been held back for `pause`.
     pub fn is_overdue(&self, now: Instant, pause: Duration) -> bool {
         self.held.as_ref().is_some_and(|held| now >= held.since + pause)
     }
 
-    /// Drops what was held back.
+    /// Drops the request that is held back.
     pub fn drop_held(&mut self) {
         self.held = None;
     }
 
-    /// What was held back, and a request for the front that is to follow it.
+    /// Returns the request that is held back, and a request for the front after it.
     pub fn release(&mut self) -> Option<[Vec<u8>; 2]> {
         let absorb = self.held.take()?.request;
         let heading = absorb.len() - inside(&absorb)?.len();

@@ -1,4 +1,4 @@
-//! Whether an engine has been fenced, as the nodes say.
+//! The statuses of the nodes, which show whether an engine has been fenced.
 
 use crate::known::Known;
 use crate::panel::Panel;
@@ -6,7 +6,7 @@ use std::collections::BTreeMap;
 use std::time::Instant;
 use yieldcleat_client::{engines, Calls, Connection, Membership};
 
-/// What nodes say of themselves; a node that does not answer says nothing.
+/// The statuses of the nodes that have answered.
 #[derive(Debug, Clone, PartialEq, Eq)]
 pub struct Statuses {
     /// The last answer of each node.
@@ -14,12 +14,12 @@ pub struct Statuses {
     nodes: usize,
 }
 
-/// What a node says of itself.
+/// Asks a node for its status.
 pub fn status(connection: &mut Connection) -> Option<Membership> {
     engines::membership(connection.ask(engines::STATUS).ok()?).ok()
 }
 
-/// Asks all nodes for their status. How long it waits for the next one depends on those that have answered.
+/// Asks all nodes for their status. `until` returns until when to wait for the next answer, given those before.
 pub fn ask_standing(panel: &Panel<Membership>, nodes: usize, until: impl Fn(&Statuses) -> Instant) -> Statuses {
     let (answers, mut statuses) = (panel.ask(), Statuses::none(nodes));
     while let Some((node, answer)) = answers.next(until(&statuses)) {
@@ -29,7 +29,7 @@ pub fn ask_standing(panel: &Panel<Membership>, nodes: usize, until: impl Fn(&Sta
 }
 
 impl Statuses {
-    /// Those of so many nodes, none of which has answered.
+    /// Makes the statuses of this many nodes without an answer.
     pub fn none(nodes: usize) -> Statuses {
         Statuses { answered: BTreeMap::new(), nodes }
     }
@@ -38,22 +38,22 @@ impl Statuses {
         self.answered.insert(node, status);
     }
 
-    /// How many nodes have answered.
+    /// Returns the number of nodes that have answered.
     pub fn count(&self) -> usize {
         self.answered.len()
     }
 
-    /// Whether all nodes have answered, and none of them is a member.
+    /// Returns whether all nodes have answered, and none is a member.
     pub fn are_all_fresh(&self) -> bool {
         self.count() == self.nodes && self.answered.values().all(|it| !it.is_member)
     }
 
-    /// The greatest generation of a member; 0 without any.
+    /// Returns the greatest generation of a member; 0 without members.
     pub fn generation(&self) -> u64 {
         self.members().map(|it| it.generation).max().unwrap_or(0)
     }
 
-    /// Whether a quorum is of members that another volume has than this.
+    /// Returns whether members make a quorum, and none of them has a birth of this volume.
     pub fn are_of_another(&self, own: &Known, quorum: u8) -> bool {
         let found = Known::of((0, 0), self.members().map(|it| it.birth));
         self.members().count() >= usize::from(quorum) && !found.meets(own)
@@ -63,34 +63,35 @@ impl Statuses {
         self.answered.values().filter(|it| it.is_member)
     }
 
-    /// A generation above this one, where a member has one.
+    /// Returns the greatest generation of a member, if it is above this one.
     pub fn later_than(&self, generation: u64) -> Option<u64> {
         Some(self.generation()).filter(|found| *found > generation)
     }
 
-    /// Whether members of this generation make a quorum, and no member has a later one.
+    /// Returns whether members of this generation make a quorum, and no member has a later generation.
     pub fn are_of(&self, generation: u64, quorum: u8) -> bool {
         self.later_than(generation).is_none() && self.members().filter(|it| it.generation == generation).count() >= usize::from(quorum)
     }
 
-    /// Whether members make a quorum, of whatever generations.
+    /// Returns whether members make a quorum, of whatever generations.
     pub fn have_members(&self, quorum: u8) -> bool {
         self.members().count() >= usize::from(quorum)
     }
 
-    /// Whether each node that is no member has all of this epoch up to a point.
+    /// Returns whether each node that is not a member is in this epoch and complete up to the point.
     pub fn fresh_have(&self, epoch: u16, point: u64) -> bool {
         let mut fresh = self.answered.values().filter(|it| !it.is_member);
         fresh.all(|it| it.front.epoch == epoch && it.front.complete >= point)
     }
 
-    /// The nodes that are no members and have all of this epoch up to a point.
+    /// Returns the nodes that are not members, are in this epoch and are complete up to the point.
     pub fn fresh_with(&self, epoch: u16, point: u64) -> impl Iterator<Item = usize> + '_ {
         let fresh = self.answered.iter().filter(|it| !it.1.is_member);
         fresh.filter(move |it| it.1.front.epoch == epoch && it.1.front.complete >= point).map(|it| *it.0)
     }
 
-    /// All points of this epoch that anybody has seen durable are at or below it: it counts nodes that say nothing as if they had all.
+    /// Returns a bound on all points of this epoch that any process has seen durable. It counts nodes that have not answered as if they had
+    /// everything.
     pub fn bound(&self, epoch: u16, quorum: u8) -> u64 {
         let mut points: Vec<_> = self.members().map(|it| if it.front.epoch == epoch { it.front.complete } else { 0 }).collect();
         points.sort_unstable_by(|one, other| other.cmp(one));

@@ -18,31 +18,31 @@ use std::thread::{self, JoinHandle};
 use std::time::{Duration, Instant};
 use yieldcleat_client::{Membership, Patch, PAGE_LEN};
 
-/// The last bytes of each page, which are the volume's own.
+/// The number of bytes at the end of each page that are reserved for the volume.
 const RESERVED: usize = 8;
 const MOST_PATCHES: usize = 64;
 const MOST_WRITTEN: usize = 8192 - RESERVED;
 
-/// What a mini-transaction does to one page.
+/// The change that a mini-transaction makes to one page.
 #[derive(Debug, Clone, PartialEq, Eq)]
 pub struct PageWrite {
-    /// From 1.
+    /// The page, from 1.
     pub page: u16,
     /// Whether the page is all zeros before the patches.
     pub init: bool,
-    /// At most 63 within the page's first 4,088 bytes, whose writes have at most 8,184 bytes together.
+    /// At most 63 patches within the page's first 4,088 bytes; the writes among them have at most 8,184 bytes together.
     pub patches: Vec<Patch>,
 }
 
 impl PageWrite {
-    /// How many bytes it sends, about.
+    /// Returns about how many bytes it sends.
     pub(crate) fn bytes(&self) -> usize {
         40 + self.patches.iter().map(|patch| 5 + written(patch)).sum::<usize>()
     }
 
-    /// Whether it is within these bounds.
+    /// Checks that it is within these bounds.
     ///
-    /// Error: `Argument`.
+    /// Errors: `Argument`.
     pub fn check(&self) -> Result<(), VolumeError> {
         let is_inside = |patch: &Patch| {
             let (offset, length) = match patch {
@@ -66,26 +66,28 @@ fn written(patch: &Patch) -> usize {
     }
 }
 
-/// A volume that this process writes to. Its calls may come from many threads. Dropping it closes it: what is not durable then is in doubt.
+/// A volume that this process writes to. Many threads may call it. Dropping it closes it: commits that are not durable then are in doubt.
 ///
-/// A node that has lost its files counts in no quorum before an opening admits it. So the volume opens itself again under a later generation
-/// once such a node has the log, or does not get it from its peers (`Options::admission`), and nothing is in flight: commit points stay
-/// what they are, and calls that come meanwhile wait. Where another engine has opened the volume, it ends as `Fenced` in place of that.
+/// A node that has lost its files does not count for a quorum before an opening admits it. So the volume opens itself again under a later
+/// generation once nothing is in flight and such a node has the log, or does not get it from its peers (`Options::admission`). Commit
+/// points stay as they are, and calls in the meantime wait. If another engine has opened the volume, it ends as `Fenced` instead.
 pub struct Volume {
     options: Options,
     inputs: Sender<Input>,
     progress: Arc<Progress>,
     readers: Readers,
     panel: Panel<Membership>,
-    /// Ended before the driver.
+    /// Dropped before the driver ends.
     links: Vec<Link>,
     driver: Option<JoinHandle<()>>,
 }
 
 impl Volume {
-    /// Makes a new volume of nodes that are all fresh, and opens it.
+    /// Creates a volume of nodes that are all fresh, and opens it.
     ///
-    /// Errors: those of `open`, and `Refused` with `NotFresh`. Nothing was promised then: start all nodes afresh.
+    /// Errors: those of `open`, and `Refused` with `NotFresh` if a node is a member, has facts or got another birth meanwhile: another
+    /// engine may have created a volume of the nodes. After another error the creation may be incomplete and nothing is promised: start all
+    /// nodes again without their files.
     pub fn create<M: Machine + 'static>(machine: M, options: Options) -> Result<Volume, VolumeError> {
         let (volume, deadline) = Volume::start(machine, options)?;
         match volume.call(|done| Call::Create { done }, deadline) {
@@ -98,7 +100,7 @@ impl Volume {
 
     /// Opens the volume for writing, and fences each engine that has it open.
     ///
-    /// Errors: `Options`, `Thread`, `Empty`, `NotOpened`, `Refused`.
+    /// Errors: `Options`, `Thread`, `Empty`, `NotOpened`, `Refused` and `Memory`.
     pub fn open<M: Machine + 'static>(machine: M, options: Options) -> Result<Volume, VolumeError> {
         let (volume, deadline) = Volume::start(machine, options)?;
         let statuses = volume.statuses(deadline);
@@ -127,25 +129,25 @@ impl Volume {
             let link = Link::start(node as u8, &volume.options, &volume.progress, move |heard| inputs.send(Input::Heard(heard)).ok());
             volume.links.push(link.map_err(thread)?);
         }
-        // A connection that is new while an opening runs counts as one that has broken.
+        // A new connection while an opening runs counts as a broken one.
         volume.progress.wait_connected(&volume.options, deadline.min(Instant::now() + volume.options.grace));
         Ok((volume, deadline))
     }
 
-    /// What the nodes say of themselves: all of them, or after a while those that have answered.
+    /// Asks the nodes for their status, and returns that of all of them, or after a while of those that have answered.
     fn statuses(&self, deadline: Instant) -> Statuses {
         let end = deadline.min(Instant::now() + self.options.grace);
         ask_standing(&self.panel, self.options.nodes.len(), |statuses| if statuses.count() == 0 { deadline } else { end })
     }
 
-    /// Whether all nodes are fresh, where none of them counts: one may have answered too late to be seen before.
+    /// Returns whether all nodes are fresh, if none of them counts: one may have answered too late to be seen before.
     fn is_empty(&self, deadline: Instant) -> bool {
         let nodes = self.options.nodes.len();
         let do_none_count = self.progress.quorum(&self.options).uncounted == nodes;
         do_none_count && ask_standing(&self.panel, nodes, |_| deadline).are_all_fresh()
     }
 
-    /// Opens under ever greater generations above one that nodes have shown, until it succeeds or the time is up.
+    /// Opens under increasing generations, above one that nodes have reported, until it succeeds or the deadline passes.
     fn open_until(&self, shown: u64, deadline: Instant) -> Result<(), VolumeError> {
         let (mut generation, mut attempt) = (shown.saturating_add(1), self.options.patience / 8);
         loop {
@@ -155,19 +157,19 @@ impl Volume {
                 Some(Err(VolumeError::Refused(Fault::NoQuorum { .. }))) if self.is_empty(deadline) => return Err(VolumeError::Empty),
                 Some(Err(VolumeError::Refused(Fault::NoQuorum { .. }))) => generation = generation.saturating_add(1),
                 Some(Err(error)) => return Err(error),
-                // It may wait for a node whose answer was lost and that does not repeat it. The next one has more time.
+                // It may wait for a node whose answer was lost and that does not repeat it. The next attempt has more time.
                 None => (generation, attempt) = (generation.saturating_add(1), attempt * 2),
             }
             if Instant::now() >= deadline {
                 return Err(self.not_opened());
             }
-            // Two engines that open at the same time fence each other; they must not go on in step.
+            // Two engines that open at the same time fence each other, so they must not retry at the same pace.
             thread::sleep(self.options.retry.mul_f64(0.5 + jitter()));
         }
     }
 
-    /// Opens under a generation; nothing where no result comes, and for so long no long answer either. Another attempt would begin from nothing,
-    /// behind what nodes still send.
+    /// Opens under a generation. `None` if there is no result within `attempt`, and no long answer has moved for that time either. Another
+    /// attempt would begin from nothing, after what the nodes are still sending.
     fn open_once(&self, generation: u64, attempt: Duration, deadline: Instant) -> Option<Result<(), VolumeError>> {
         let (done, result) = mpsc::channel();
         if self.inputs.send(Input::Call(Call::Open { generation, done })).is_err() {
@@ -190,7 +192,7 @@ impl Volume {
         VolumeError::NotOpened(self.progress.quorum(&self.options))
     }
 
-    /// Sends a call to the driver, and waits for its result; nothing where it does not come before the deadline.
+    /// Sends a call to the driver and waits for its result. `None` at the deadline.
     fn call<T>(&self, call: impl FnOnce(Sender<Result<T, VolumeError>>) -> Call, deadline: Instant) -> Option<Result<T, VolumeError>> {
         let (done, result) = mpsc::channel();
         if self.inputs.send(Input::Call(call(done))).is_err() {
@@ -199,23 +201,23 @@ impl Volume {
         result.recv_timeout(deadline.saturating_duration_since(Instant::now())).ok()
     }
 
-    /// How far the volume is.
+    /// Returns the state of the volume.
     ///
     /// Errors: the one that has ended it.
     pub fn standing(&self) -> Result<Standing, VolumeError> {
         self.progress.standing()
     }
 
-    /// The last commit point that this handle knows to be durable; also where the volume has ended.
+    /// Returns the last commit point that this handle knows to be durable, even if the volume has ended.
     pub fn known(&self) -> Known {
         self.progress.known()
     }
 
-    /// The newest durable commit point, which is one of this handle's own or the one that it opened at: a quorum says that no other engine has
-    /// fenced it. All commits that anybody has seen durable before are at or below it.
+    /// Returns the newest durable commit point: one of this handle's own, or the one at which it opened, after a quorum has confirmed that
+    /// no other engine has fenced it. All commits that any process has seen durable before the call are at or below it.
     ///
-    /// Errors: `NotAsked` after the time allowed; `Fenced`, also where the nodes have another volume; `Empty` where all have lost their files; and
-    /// what else has ended this volume.
+    /// Errors: `NotAsked` after the time allowed; `InDoubt` if a commit that others may have seen durable is not durable by then; `Fenced`,
+    /// also if the nodes have another volume; `Empty` if all have lost their files; and any other error that has ended this volume.
     pub fn newest(&self) -> Result<u64, VolumeError> {
         let (mut own, deadline) = (self.standing()?, Instant::now() + self.options.patience);
         let mut have = 0;
@@ -233,7 +235,7 @@ impl Volume {
                 return Err(VolumeError::Empty);
             }
             let other = statuses.are_of_another(&self.known(), self.options.quorum).then(|| statuses.generation());
-            // This engine itself may be about to open the volume again.
+            // This engine itself may be opening the volume again.
             if let Some(generation) = statuses.later_than(self.progress.claimed()).or(other) {
                 self.progress.fail(VolumeError::Fenced { generation });
                 return Err(VolumeError::Fenced { generation });
@@ -251,12 +253,12 @@ impl Volume {
         Err(VolumeError::NotAsked(Quorum::of(have, &self.options)))
     }
 
-    /// Writes a mini-transaction with up to 1,024 bytes of the engine's own, and returns its commit point. It is sent, and not yet
-    /// durable: `wait` says when it is. Where too much is not durable, no quorum answers, or the volume is being opened again, it waits
+    /// Writes a mini-transaction with up to 1,024 bytes of the engine's own, and returns its commit point. It is sent and not yet durable:
+    /// `wait` returns when it is. While too much is in flight, no quorum answers, or the volume is being opened again, the call waits
     /// first.
     ///
-    /// Errors: `Argument`; `Busy` and `NotReopened` after the time allowed, where nothing was written; `Fenced` and what else has ended the
-    /// volume.
+    /// Errors: `Argument`; `Busy` and `NotReopened` after the time allowed, when nothing was written; `Refused` and `Memory`, which end the
+    /// volume unless they are about the first page of `writes`; `Fenced` and any other error that has ended the volume.
     pub fn write(&self, writes: Vec<PageWrite>, header: Vec<u8>) -> Result<u64, VolumeError> {
         writes.iter().try_for_each(PageWrite::check)?;
         if header.len() > MOST_HEADER {
@@ -267,7 +269,7 @@ impl Volume {
             Some(room) => room?,
             None => return Err(VolumeError::Busy(self.progress.quorum(&self.options))),
         }
-        // The driver waits for no node, so it answers. Where it does not, the mini-transaction may be sent, and nothing may follow it.
+        // The driver waits for no node, so it answers. If it does not, the mini-transaction may have been sent, and nothing may follow it.
         let written = self.call(|done| Call::Commit { writes, header, deadline, done }, deadline + self.options.patience);
         written.unwrap_or_else(|| {
             self.progress.fail(VolumeError::Closed);
@@ -277,7 +279,8 @@ impl Volume {
 
     /// Waits until a commit point is durable.
     ///
-    /// Errors: `InDoubt` after the time allowed, and then it may be waited for again; `Fenced` and what else has ended the volume.
+    /// Errors: `InDoubt` after the time allowed, after which it may be called again; `Fenced` and any other error that has ended the
+    /// volume.
     pub fn wait(&self, commit_point: u64, patience: Duration) -> Result<(), VolumeError> {
         let in_doubt = || VolumeError::InDoubt { commit_point, quorum: self.progress.quorum(&self.options) };
         self.progress.wait_durable(commit_point, Instant::now() + patience.min(LONGEST_TIME)).unwrap_or_else(|| Err(in_doubt()))
@@ -292,36 +295,37 @@ impl Volume {
         Ok(commit_point)
     }
 
-    /// `length` bytes of a page from `offset` on, at a commit point, which need not be durable yet.
+    /// Reads `length` bytes of a page from `offset` on, at a commit point, which need not be durable yet.
     ///
-    /// Errors: `Argument`, `Below`, `NotRead`, and what has ended the volume.
+    /// Errors: `Argument`, `Below`, `NotRead`, and the error that has ended the volume.
     pub fn read(&self, page: u16, point: u64, offset: u16, length: u16) -> Result<Vec<u8>, VolumeError> {
         let range = || Ok(Range { at: self.at(point)?, page, offset, length });
         range()?.check()?;
         self.readers.read(range, Instant::now() + self.options.patience).map_err(|error| self.ended_by(error))
     }
 
-    /// Page 0 at such a point: who committed it, and the header.
+    /// Reads page 0 at a commit point: the generation and epoch that committed it, and the header.
     ///
-    /// Errors: those of `read`.
+    /// Errors: those of `read`, and `Refused` with `Damaged` if no volume wrote page 0.
     pub fn page_zero(&self, point: u64) -> Result<PageZero, VolumeError> {
         self.readers.page_zero(|| self.at(point), Instant::now() + self.options.patience).map_err(|error| self.ended_by(error))
     }
 
-    /// Where a point is now: nodes have a durable one in a later epoch once the volume is opened again.
+    /// Adds the present epoch to a point: nodes have a durable point in a later epoch once the volume is opened again.
     fn at(&self, point: u64) -> Result<At, VolumeError> {
         let standing = self.progress.standing()?;
         Ok(At { epoch: standing.epoch, point, is_durable: point <= standing.durable })
     }
 
-    /// Why a call has failed: what has ended the volume meanwhile, or else this.
+    /// Returns the error that has ended the volume meanwhile, or else this one.
     fn ended_by(&self, error: VolumeError) -> VolumeError {
         self.progress.standing().err().unwrap_or(error)
     }
 
-    /// Says that a reader, from 1, reads nothing below a durable commit point any more.
+    /// Advances a reader, from 1, to a durable commit point: it reads nothing below that point.
     ///
-    /// Errors: `Refused` with `Ahead`, `NotReopened`, and what has ended the volume.
+    /// Errors: `Refused`, with `Ahead` for a point that is not durable; `NotReopened` after the time allowed; `Memory`; `Closed`. The call
+    /// does not check for an error that has ended the volume.
     pub fn advance(&self, reader: u8, point: u64) -> Result<(), VolumeError> {
         let deadline = Instant::now() + self.options.patience;
         let advanced = self.call(|done| Call::Advance { reader, point, deadline, done }, deadline + self.options.patience);
@@ -331,9 +335,9 @@ impl Volume {
 
 impl Drop for Volume {
     fn drop(&mut self) {
-        // A driver that has ended needs no word.
+        // If the driver has ended, it needs no message.
         let _ = self.inputs.send(Input::Close);
-        // All of them first, so that none waits for another one to end.
+        // All of them are stopped first, so that none waits for another to end.
         self.links.iter().for_each(Link::stop);
         self.links.clear();
         if let Some(driver) = self.driver.take() {
@@ -342,7 +346,7 @@ impl Drop for Volume {
     }
 }
 
-/// A number from 0 to 1 that differs between processes.
+/// Returns a number from 0 to 1 that differs between processes.
 fn jitter() -> f64 {
     use std::collections::hash_map::RandomState;
     use std::hash::{BuildHasher, Hasher};

@@ -182,7 +182,7 @@ fn a_mini_transaction_longer_than_what_may_be_in_flight() {
     let volume = three.open(Options { in_flight: 4000, ..three.options() }).unwrap();
     let long = |byte| (1..=20).map(|page| PageWrite { page, init: false, patches: vec![Patch::write(0, &[byte; 4000])] }).collect();
     assert_eq!(volume.commit(long(1), Vec::new()), Ok(21));
-    // Connections that are new get all of it again.
+    // New connections receive all of it again.
     let point = volume.write(long(2), Vec::new()).unwrap();
     three.nodes.iter().for_each(|node| node.set(State::cut_off));
     assert_eq!(volume.wait(point, Duration::from_secs(5)), Ok(()));

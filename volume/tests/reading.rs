@@ -1,4 +1,4 @@
-//! Reads from nodes that are silent, or answer something else than they were asked.
+//! Reads from nodes that are silent, slow, or answer with another length than the requested one.
 
 use std::io::Write;
 use std::net::{TcpListener, TcpStream};
@@ -9,18 +9,18 @@ use yieldcleat_volume::{Options, Reader, VolumeError};
 
 const POINT: u64 = 10;
 
-/// What a node does with a read of page 1; it answers all else.
+/// How a node answers a read of page 1; it answers all other requests.
 #[derive(Clone, Copy)]
 enum Manner {
     Answers,
     IsSilent,
-    /// A byte comes now and then.
+    /// It sends one byte every 100 milliseconds.
     Dribbles,
-    /// So many bytes come, whatever was asked.
+    /// It sends a page of this many bytes, whatever the request.
     Sends(usize),
 }
 
-/// A page of the bytes 7; page 0 is that of a commit at the point, by generation 3 in epoch 1.
+/// The answer with a page of the bytes 7; page 0 is that of a commit at `POINT`, by generation 3 in epoch 1.
 fn page(number: &str, length: usize) -> Vec<u8> {
     let mut page = vec![7; length];
     if number == "0" {
@@ -79,7 +79,7 @@ fn start(manner: Manner) -> Address {
     address
 }
 
-/// A reader of such nodes that knows the point.
+/// Opens a reader of such nodes, which then knows `POINT`.
 fn reader(manners: &[Manner], patience: Duration) -> Reader {
     let nodes = manners.iter().map(|manner| start(*manner)).collect();
     let reader = Reader::open(Options { patience, ..Options::new(nodes) }).unwrap();

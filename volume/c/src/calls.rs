@@ -1,4 +1,5 @@
-//! The calls of the header. Their safety is that of the header: what it says of pointers is what each block here depends on.
+//! The calls of the header. Each is safe under the conditions of the header: each unsafe block here depends on what the header requires of
+//! pointers.
 
 use crate::faults::{last, Details, Failure, Fault};
 use crate::handles::{Handle, Report, PAGE_BYTES};
@@ -9,7 +10,7 @@ use std::path::Path;
 use yieldcleat_client::Patch;
 use yieldcleat_volume::MOST_HEADER;
 
-/// In place of a point: a reader that follows the commits.
+/// The value in place of a point for a reader that follows the commits.
 const FOLLOW: u64 = u64::MAX;
 const MOST_PATCHES: usize = 63;
 
@@ -37,7 +38,7 @@ pub struct RawRange {
     length: u32,
 }
 
-/// Runs a call, and keeps why it fails. A panic does not unwind into C.
+/// Runs a call, and keeps the details if it fails. A panic does not unwind into C.
 fn run(call: impl FnOnce() -> Result<(), Failure>) -> Fault {
     match catch_unwind(AssertUnwindSafe(call)) {
         Ok(Ok(())) => Fault::Ok,
@@ -46,51 +47,51 @@ fn run(call: impl FnOnce() -> Result<(), Failure>) -> Fault {
     }
 }
 
-/// The handle behind a pointer.
+/// Returns the handle at a pointer.
 ///
 /// # Safety
-/// It is null, or a handle that an opening has made and that is not closed.
+/// The pointer must be null, or a handle that an opening has returned and that is not closed.
 unsafe fn handle<'a>(volume: *const Handle) -> Result<&'a Handle, Failure> {
-    // SAFETY: the caller's.
+    // SAFETY: the caller meets the condition.
     unsafe { volume.as_ref() }.ok_or_else(|| Failure::misuse("no handle"))
 }
 
-/// A place for a result.
+/// Returns the place for a result.
 ///
 /// # Safety
-/// It is null, or may be written.
+/// The pointer must be null, or valid for a write.
 unsafe fn place<'a, T>(place: *mut T) -> Result<&'a mut T, Failure> {
-    // SAFETY: the caller's.
+    // SAFETY: the caller meets the condition.
     unsafe { place.as_mut() }.ok_or_else(|| Failure::misuse("no place for the result"))
 }
 
-/// Bytes of the caller.
+/// Returns bytes of the caller.
 ///
 /// # Safety
-/// There are so many bytes, or none.
+/// The pointer must be null, or to `length` bytes; it may be any if `length` is 0.
 unsafe fn bytes<'a>(from: *const u8, length: usize) -> Result<&'a [u8], Failure> {
     match (from.is_null(), length) {
         (_, 0) => Ok(&[]),
         (true, _) => Err(Failure::misuse("no bytes")),
-        // SAFETY: the caller's.
+        // SAFETY: the caller meets the condition.
         (false, _) => Ok(unsafe { std::slice::from_raw_parts(from, length) }),
     }
 }
 
-/// A path of the caller.
+/// Returns a path of the caller.
 ///
 /// # Safety
-/// It is null, or ends with a zero.
+/// The pointer must be null, or to a text that ends with a zero byte.
 unsafe fn path<'a>(text: *const c_char) -> Result<&'a Path, Failure> {
     if text.is_null() {
         return Err(Failure::misuse("no place"));
     }
-    // SAFETY: the caller's.
+    // SAFETY: the caller meets the condition.
     Ok(Path::new(OsStr::from_bytes(unsafe { CStr::from_ptr(text) }.to_bytes())))
 }
 
 /// # Safety
-/// As the header says.
+/// The pointers must be as the header requires.
 #[no_mangle]
 pub unsafe extern "C" fn yieldcleat_volume_open_writer(
     text: *const c_char,
@@ -98,7 +99,7 @@ pub unsafe extern "C" fn yieldcleat_volume_open_writer(
     volume: *mut *mut Handle,
 ) -> Fault {
     run(|| {
-        // SAFETY: the header's.
+        // SAFETY: the caller meets the conditions of the header.
         let (text, options, volume) = unsafe { (path(text)?, options.as_ref(), place(volume)?) };
         let (milliseconds, may_create) = options.map_or((0, false), |options| (options.milliseconds, options.may_create));
         *volume = Box::into_raw(Box::new(Handle::open_writer(text, milliseconds, may_create)?));
@@ -107,7 +108,7 @@ pub unsafe extern "C" fn yieldcleat_volume_open_writer(
 }
 
 /// # Safety
-/// As the header says.
+/// The pointers must be as the header requires.
 #[no_mangle]
 pub unsafe extern "C" fn yieldcleat_volume_open_reader(
     text: *const c_char,
@@ -116,7 +117,7 @@ pub unsafe extern "C" fn yieldcleat_volume_open_reader(
     volume: *mut *mut Handle,
 ) -> Fault {
     run(|| {
-        // SAFETY: the header's.
+        // SAFETY: the caller meets the conditions of the header.
         let (text, options, volume) = unsafe { (path(text)?, options.as_ref(), place(volume)?) };
         let point = (point != FOLLOW).then_some(point);
         let milliseconds = options.map_or(0, |options| options.milliseconds);
@@ -126,22 +127,22 @@ pub unsafe extern "C" fn yieldcleat_volume_open_reader(
 }
 
 /// # Safety
-/// As the header says.
+/// The pointers must be as the header requires.
 #[no_mangle]
 pub unsafe extern "C" fn yieldcleat_volume_close(volume: *mut Handle) {
     if !volume.is_null() {
         // A panic does not unwind into C.
-        // SAFETY: an opening has made it by `Box::into_raw`, and it is closed once.
+        // SAFETY: an opening has made it by `Box::into_raw`, and it is closed only once.
         let _ = catch_unwind(AssertUnwindSafe(|| drop(unsafe { Box::from_raw(volume) })));
     }
 }
 
 /// # Safety
-/// As the header says.
+/// The pointers must be as the header requires.
 #[no_mangle]
 pub unsafe extern "C" fn yieldcleat_volume_newest(volume: *mut Handle, point: *mut u64) -> Fault {
     run(|| {
-        // SAFETY: the header's.
+        // SAFETY: the caller meets the conditions of the header.
         let (volume, point) = unsafe { (handle(volume)?, place(point)?) };
         *point = volume.newest()?;
         Ok(())
@@ -149,7 +150,7 @@ pub unsafe extern "C" fn yieldcleat_volume_newest(volume: *mut Handle, point: *m
 }
 
 /// # Safety
-/// As the header says.
+/// The pointers must be as the header requires.
 #[no_mangle]
 pub unsafe extern "C" fn yieldcleat_volume_header(
     volume: *mut Handle,
@@ -159,7 +160,7 @@ pub unsafe extern "C" fn yieldcleat_volume_header(
     length: *mut usize,
 ) -> Fault {
     run(|| {
-        // SAFETY: the header's.
+        // SAFETY: the caller meets the conditions of the header.
         let (volume, commit_point, length) = unsafe { (handle(volume)?, place(commit_point)?, place(length)?) };
         let page = volume.page_zero(point)?;
         if header.is_null() {
@@ -173,12 +174,12 @@ pub unsafe extern "C" fn yieldcleat_volume_header(
 }
 
 /// # Safety
-/// As the header says.
+/// The pointers must be as the header requires.
 #[no_mangle]
 pub unsafe extern "C" fn yieldcleat_volume_read(volume: *mut Handle, point: u64, range: RawRange, into: *mut c_void) -> Fault {
     run(|| {
         let RawRange { page, offset, length } = range;
-        // SAFETY: the header's.
+        // SAFETY: the caller meets the conditions of the header.
         let volume = unsafe { handle(volume)? };
         let found = volume.read(point, page, offset, length)?;
         if into.is_null() || found.len() != length as usize || length > PAGE_BYTES {
@@ -191,7 +192,7 @@ pub unsafe extern "C" fn yieldcleat_volume_read(volume: *mut Handle, point: u64,
 }
 
 /// # Safety
-/// As the header says.
+/// The pointers must be as the header requires.
 #[no_mangle]
 pub unsafe extern "C" fn yieldcleat_volume_stage(
     volume: *mut Handle,
@@ -201,27 +202,27 @@ pub unsafe extern "C" fn yieldcleat_volume_stage(
     count: usize,
 ) -> Fault {
     run(|| {
-        // SAFETY: the header's.
+        // SAFETY: the caller meets the conditions of the header.
         let volume = unsafe { handle(volume)? };
         if count > MOST_PATCHES || (patches.is_null() && count > 0) {
             return Err(Failure::misuse("0 to 63 patches"));
         }
-        // SAFETY: there are so many patches.
+        // SAFETY: there are `count` patches.
         let raw = if count == 0 { &[][..] } else { unsafe { std::slice::from_raw_parts(patches, count) } };
         let patches: Result<Vec<_>, _> = raw.iter().map(|raw| unsafe { patch(raw) }).collect();
         volume.stage(page, from_zeros, patches?)
     })
 }
 
-/// A patch of the caller.
+/// Converts a patch of the caller.
 ///
 /// # Safety
-/// As the header says of its bytes.
+/// The bytes must be as the header requires.
 unsafe fn patch(raw: &RawPatch) -> Result<Patch, Failure> {
     if raw.length == 0 || u32::from(raw.offset) + u32::from(raw.length) > PAGE_BYTES {
         return Err(Failure::misuse("a patch outside the page"));
     }
-    // SAFETY: the caller's.
+    // SAFETY: the caller meets the condition.
     let bytes = unsafe { bytes(raw.bytes, if raw.is_fill { 1 } else { raw.length.into() })? };
     Ok(match raw.is_fill {
         true => Patch::Fill { offset: raw.offset, count: raw.length, byte: bytes[0] },
@@ -230,65 +231,65 @@ unsafe fn patch(raw: &RawPatch) -> Result<Patch, Failure> {
 }
 
 /// # Safety
-/// As the header says.
+/// The pointers must be as the header requires.
 #[no_mangle]
 pub unsafe extern "C" fn yieldcleat_volume_discard(volume: *mut Handle) {
-    // SAFETY: the header's.
+    // SAFETY: the caller meets the conditions of the header.
     if let Ok(volume) = unsafe { handle(volume) } {
         volume.discard();
     }
 }
 
 /// # Safety
-/// As the header says.
+/// The pointers must be as the header requires.
 #[no_mangle]
 pub unsafe extern "C" fn yieldcleat_volume_commit(volume: *mut Handle, header: *const c_void, length: usize, point: *mut u64) -> Fault {
     run(|| {
-        // SAFETY: the header's.
+        // SAFETY: the caller meets the conditions of the header.
         let volume = unsafe { handle(volume)? };
-        // SAFETY: the header's.
+        // SAFETY: the caller meets the conditions of the header.
         let arguments = unsafe { place(point).and_then(|point| Ok((point, commit_header(header, length)?))) };
-        // Nothing is staged afterwards, whatever is wrong.
+        // Wrong arguments also discard what is staged.
         let (point, header) = arguments.inspect_err(|_| volume.discard())?;
         *point = volume.commit(header)?;
         Ok(())
     })
 }
 
-/// The header of a commit.
+/// Returns the header of a commit.
 ///
 /// # Safety
-/// There are so many bytes, or none.
+/// The pointer must be null, or to `length` bytes; it may be any if `length` is 0.
 unsafe fn commit_header(header: *const c_void, length: usize) -> Result<Vec<u8>, Failure> {
     if length > MOST_HEADER {
         return Err(Failure::misuse("a header of more than 1,024 bytes"));
     }
-    // SAFETY: the caller's.
+    // SAFETY: the caller meets the condition.
     Ok(unsafe { bytes(header.cast(), length)? }.to_vec())
 }
 
 /// # Safety
-/// As the header says.
+/// The pointers must be as the header requires.
 #[no_mangle]
 pub unsafe extern "C" fn yieldcleat_volume_wait(volume: *mut Handle, point: u64, milliseconds: u32) -> Fault {
-    // SAFETY: the header's.
+    // SAFETY: the caller meets the conditions of the header.
     run(|| unsafe { handle(volume)? }.wait(point, milliseconds))
 }
 
 /// # Safety
-/// As the header says.
+/// The pointers must be as the header requires.
 #[no_mangle]
 pub unsafe extern "C" fn yieldcleat_volume_advance(volume: *mut Handle, point: u64) -> Fault {
-    // SAFETY: the header's.
+    // SAFETY: the caller meets the conditions of the header.
     run(|| unsafe { handle(volume)? }.advance(point))
 }
 
 /// # Safety
-/// As the header says.
+/// The pointers must be as the header requires.
 #[no_mangle]
 pub unsafe extern "C" fn yieldcleat_volume_status(volume: *mut Handle, status: *mut Report) -> Fault {
     run(|| {
-        // SAFETY: the header's.
+        // SAFETY: the caller meets the conditions of the header.
         let (volume, status) = unsafe { (handle(volume)?, place(status)?) };
         *status = volume.report()?;
         Ok(())
@@ -296,10 +297,10 @@ pub unsafe extern "C" fn yieldcleat_volume_status(volume: *mut Handle, status: *
 }
 
 /// # Safety
-/// As the header says.
+/// The pointers must be as the header requires.
 #[no_mangle]
 pub unsafe extern "C" fn yieldcleat_volume_last_error(error: *mut Details) {
-    // SAFETY: the header's.
+    // SAFETY: the caller meets the conditions of the header.
     if let Some(error) = unsafe { error.as_mut() } {
         *error = last();
     }

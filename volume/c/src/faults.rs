@@ -1,4 +1,4 @@
-//! Why a call fails, as C has it.
+//! The errors of calls, as C gets them.
 
 use std::cell::RefCell;
 use std::ffi::c_char;
@@ -7,7 +7,7 @@ use yieldcleat_volume::{BadPlace, Fault as Refusal, Quorum, VolumeError};
 
 const MESSAGE_BYTES: usize = 256;
 
-/// The numbers of `enum yieldcleat_fault`.
+/// The values of `enum yieldcleat_fault`.
 #[repr(C)]
 #[derive(Debug, Clone, Copy, PartialEq, Eq)]
 pub enum Fault {
@@ -39,7 +39,7 @@ impl Details {
     const NONE: Details = Details { fault: Fault::Ok, have: 0, need: 0, point: 0, message: [0; MESSAGE_BYTES] };
 }
 
-/// Why a call fails.
+/// Why a call failed.
 #[derive(Debug)]
 pub struct Failure {
     fault: Fault,
@@ -58,7 +58,7 @@ impl Failure {
         Failure::new(Fault::Misuse, message.into())
     }
 
-    /// The point is above the newest one.
+    /// Makes the error for a point above the newest one.
     pub fn above(point: u64, newest: u64) -> Failure {
         Failure { point: newest, ..Failure::new(Fault::Above, format!("the point {point} is above the newest one, {newest}")) }
     }
@@ -67,12 +67,12 @@ impl Failure {
         Failure::new(Fault::Io, "an internal error".into())
     }
 
-    /// The least readable point, where that is why the call fails.
+    /// Returns the least readable point, if the call failed because of it.
     pub fn least(&self) -> Option<u64> {
         (self.fault == Fault::Below).then_some(self.point)
     }
 
-    /// Keeps the details for this thread, and returns the number.
+    /// Keeps the details for this thread, and returns the fault.
     pub fn tell(&self) -> Fault {
         let mut details = Details { fault: self.fault, have: self.have, need: self.need, point: self.point, ..Details::NONE };
         for (place, byte) in details.message[..MESSAGE_BYTES - 1].iter_mut().zip(self.message.bytes()) {
@@ -87,7 +87,7 @@ thread_local! {
     static LAST: RefCell<Details> = const { RefCell::new(Details::NONE) };
 }
 
-/// The details of the last call on this thread that failed.
+/// Returns the details of the last failed call on this thread.
 pub fn last() -> Details {
     LAST.with(|last| *last.borrow())
 }
@@ -107,7 +107,7 @@ impl From<VolumeError> for Failure {
                 Failure { have: have.into(), need: need.into(), ..of(Fault::NoQuorum) }
             }
             VolumeError::InDoubt { quorum, .. } => counted(Fault::Timeout, quorum),
-            // One node has to answer a read.
+            // A read requires the answer of one node.
             VolumeError::NotRead { .. } => Failure { need: 1, ..of(Fault::NoQuorum) },
             VolumeError::Below { min } => Failure { point: min, ..of(Fault::Below) },
             VolumeError::Above { newest } => Failure { point: newest, ..of(Fault::Above) },

@@ -1,4 +1,4 @@
-//! What the calls do, with values of Rust.
+//! The work of the calls, with values of Rust.
 
 use crate::faults::Failure;
 use crate::known::Shared;
@@ -11,21 +11,21 @@ use std::time::Duration;
 use yieldcleat_client::Patch;
 use yieldcleat_volume::{Fault, Options, PageWrite, PageZero, Reader, Volume, VolumeError};
 
-/// The bytes of a page that its user has.
+/// The number of bytes of a page that are available to its user.
 pub const PAGE_BYTES: u32 = 4088;
-/// The reader on whose behalf a volume advances.
+/// The reader for which a volume advances.
 const READER: u8 = 1;
-/// How many commit points a handle keeps in mind.
+/// The greatest number of commit points that a handle remembers.
 const MOST_COMMITS: usize = 64;
 
-/// One handle.
+/// A handle of a writer or of a reader.
 pub struct Handle {
     side: Side,
     options: Options,
     shared: Arc<Shared>,
     /// The least readable point, as far as this handle knows.
     least: AtomicU64,
-    /// Points that nodes have shown to be commit points.
+    /// Points that are known to be commit points.
     commits: Mutex<BTreeSet<u64>>,
 }
 
@@ -34,7 +34,7 @@ enum Side {
         volume: Volume,
         staged: Mutex<Vec<PageWrite>>,
     },
-    /// A reader, and the point at which it stays.
+    /// A reader, and the point at which it stays; `None` if it follows the commits.
     Reader {
         reader: Reader,
         point: Option<u64>,
@@ -74,7 +74,7 @@ impl Handle {
         if may_create && matches!(volume, Err(VolumeError::Empty)) {
             volume = Volume::create(machine()?, options.clone());
             if matches!(volume, Err(VolumeError::Refused(Fault::NotFresh))) {
-                // Another engine has created it just now.
+                // Another engine has created it in the meantime.
                 volume = Volume::open(machine()?, options.clone());
             }
         }
@@ -94,7 +94,7 @@ impl Handle {
         Ok(Handle::of(Side::Reader { reader, point }, place, options))
     }
 
-    /// Notes the least readable point, where a call fails for it.
+    /// Notes the least readable point, if a call failed because of it.
     fn noting<T>(&self, result: Result<T, Failure>) -> Result<T, Failure> {
         result.inspect_err(|failure| {
             if let Some(least) = failure.least() {
@@ -115,7 +115,7 @@ impl Handle {
         }
     }
 
-    /// The newest commit point by the nodes. Where it is below a known one they have another volume.
+    /// Returns the newest commit point according to the nodes. If it is below a known one, they have another volume.
     fn ask_newest(&self, reader: &Reader) -> Result<u64, Failure> {
         let newest = reader.newest()?;
         let mut commits = lock(&self.commits);
@@ -125,7 +125,7 @@ impl Handle {
         Ok(newest)
     }
 
-    /// The greatest point at which this handle reads, as far as it knows.
+    /// Returns the greatest point at which this handle reads, as far as it knows.
     fn greatest(&self) -> Result<u64, Failure> {
         match &self.side {
             Side::Writer { volume, .. } => Ok(volume.standing()?.committed),
@@ -149,7 +149,7 @@ impl Handle {
         }
     }
 
-    /// Tells the other handles of this process what a writer has made durable.
+    /// Passes what a writer has made durable on to the other handles of this process.
     fn tell(&self) {
         if let Side::Writer { volume, .. } = &self.side {
             self.shared.learn(&volume.known());
@@ -175,7 +175,7 @@ impl Handle {
         commits.insert(commit_point);
     }
 
-    /// The last commit point at or below a point. A point between two of them may have a part of the later commit.
+    /// Returns the last commit point at or below a point. A read at a point between two commit points may show a part of the later commit.
     fn commit_at(&self, point: u64) -> Result<u64, Failure> {
         self.check_point(point)?;
         let is_known = lock(&self.commits).contains(&point);
@@ -200,12 +200,12 @@ impl Handle {
         self.noting(bytes.map_err(Failure::from))
     }
 
-    /// The volume that this handle writes to.
+    /// Returns the volume that this handle writes to.
     fn writer(&self) -> Result<&Volume, Failure> {
         self.staging().map(|(volume, _)| volume)
     }
 
-    /// The same, with what is staged, which is not locked: no call that waits for nodes may hold it.
+    /// Returns the volume and what is staged, which is not locked: a call that waits for nodes must not lock it.
     fn staging(&self) -> Result<(&Volume, &Mutex<Vec<PageWrite>>), Failure> {
         match &self.side {
             Side::Writer { volume, staged } => Ok((volume, staged)),
@@ -250,7 +250,7 @@ impl Handle {
     pub fn advance(&self, point: u64) -> Result<(), Failure> {
         let volume = self.writer()?;
         let point = match self.commit_at(point) {
-            // It is below the present one.
+            // The point is below the least readable one, which stays.
             Err(failure) if failure.least().is_some() => return Ok(()),
             commit_point => commit_point?,
         };

@@ -1,4 +1,4 @@
-//! What the handles of this process know of a volume together: a reader reads on where a writer was lost.
+//! What the handles of this process together know of a volume, so that a reader can continue where a writer was lost.
 
 use std::collections::BTreeMap;
 use std::path::{Path, PathBuf};
@@ -16,7 +16,7 @@ fn lock<T>(mutex: &Mutex<T>) -> MutexGuard<'_, T> {
 }
 
 impl Shared {
-    /// What is known of the volume of a place.
+    /// Returns what is known of the volume of a place.
     pub fn of(place: &Path) -> Arc<Shared> {
         lock(&PLACES).entry(place.into()).or_default().clone()
     }

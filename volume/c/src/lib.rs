@@ -1,7 +1,7 @@
-//! The calls of `../include/yieldcleat_volume.h`: a volume for C, and for what calls C.
+//! The calls of `../include/yieldcleat_volume.h`: a volume for C, and for languages that call C.
 //!
-//! `handles` has what the calls do, `faults` what they say when they fail; `calls` alone touches pointers, and `proved` alone calls the
-//! archive of the proved machine.
+//! `handles` carries out the calls and `faults` has their errors. `calls` alone uses pointers, and `proved` alone calls the archive of the
+//! proved machine.
 
 #[allow(unsafe_code)]
 mod calls;

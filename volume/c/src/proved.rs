@@ -1,5 +1,5 @@
-//! The proved machine: the archive of `crates/volume_c`, on a thread of its own behind a socket. A write to a socket raises no SIGPIPE, which
-//! ends a host in C; one to a pipe does.
+//! The proved machine: the archive of `crates/volume_c`, on a thread of its own, connected by a socket. The standard library writes to a
+//! socket without SIGPIPE, which would end a host in C; it writes to a pipe with it.
 
 use std::io::{self, BufReader};
 use std::net::Shutdown;
@@ -10,25 +10,25 @@ use yieldcleat_client::signals;
 use yieldcleat_volume::{Action, Event, Framed, Machine, OutOfMemory, VolumeError};
 
 extern "C" {
-    /// In `crates/volume_c/src/lib.rt`: answers events until the input ends. Its result says why it has ended.
+    /// Defined in `crates/volume_c/src/lib.rt`. Answers events until the input ends, and returns why it ended.
     fn yieldcleat_decide(input: i32, output: i32, nodes: u8, quorum: u8) -> u8;
 }
 
-/// The stack of the machine's thread.
+/// The stack size of the machine's thread, in bytes.
 const STACK: usize = 1 << 20;
 
-/// A machine of its own, which nobody shares.
+/// A machine that is not shared.
 pub struct Proved {
     machine: Framed<BufReader<UnixStream>, UnixStream>,
-    /// The same socket.
+    /// Another handle of the same socket.
     socket: UnixStream,
     thread: Option<JoinHandle<u8>>,
 }
 
 impl Proved {
-    /// A machine that nothing has happened to, for so many nodes and this write quorum.
+    /// Starts a machine without any events, for this many nodes and this write quorum.
     ///
-    /// Its error is `Thread`.
+    /// Errors: `Thread`, and `Argument` for more than 255 nodes.
     pub fn start(nodes: usize, quorum: u8) -> Result<Proved, VolumeError> {
         let failed = |error: io::Error| VolumeError::Thread(error.kind());
         let (socket, other) = UnixStream::pair().map_err(failed)?;
@@ -36,7 +36,7 @@ impl Proved {
         let nodes = u8::try_from(nodes).map_err(|_| VolumeError::Argument("a number of nodes"))?;
         let decide = move || {
             signals::block();
-            // SAFETY: the declaration is that of the archive, and the descriptor stays open until the call has returned.
+            // SAFETY: the declaration is that of the archive, and the descriptor stays open until the call returns.
             unsafe { yieldcleat_decide(other.as_raw_fd(), other.as_raw_fd(), nodes, quorum) }
         };
         let thread = thread::Builder::new().name("decide".into()).stack_size(STACK).spawn(decide).map_err(failed)?;
@@ -52,10 +52,10 @@ impl Machine for Proved {
 
 impl Drop for Proved {
     fn drop(&mut self) {
-        // The thread's input ends, also where a forked child has the socket. An error says that it has ended already.
+        // This ends the thread's input, even if a forked child has the socket. An error means that it has ended already.
         let _ = self.socket.shutdown(Shutdown::Both);
         if let Some(thread) = self.thread.take() {
-            // How it has ended changes nothing any more.
+            // The status of the thread does not matter here.
             let _ = thread.join();
         }
     }

@@ -15,7 +15,7 @@ type Written = (u16, Vec<(usize, Vec<u8>)>);
 pub struct State {
     pub records: BTreeMap<u64, Written>,
     pub is_away: bool,
-    /// Whether it has too many connections, and how many it has turned away.
+    /// Whether it refuses new connections as busy, and the number that it has refused.
     pub is_busy: bool,
     pub turned_away: usize,
     /// Whether its disk is full.
