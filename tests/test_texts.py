@@ -54,6 +54,13 @@ def test_each_example_has_an_answer():
     assert answered == {path.stem for path in EXAMPLES.glob("*.txt")}
 
 
+@pytest.mark.parametrize("case", [it for it in NAMED if it.values[0].task == "check" and not it.values[0].output.startswith(b"bad")])
+def test_script_over_a_log(fleet, case):
+    """A script over a log has the answer of `check` where the log is not sound, and else those to its steps, of which there are none."""
+    expected = Answer(0, b"") if case.status == 0 else Answer(case.status, case.output)
+    assert answer(fleet, ["run"], case.text + NODES) == expected
+
+
 def pattern_of_said(output):
     """The form of the explanation of an answer, which names the same line or fact."""
     if found := re.fullmatch(rb"bad line ([0-9]+)\n", output):
