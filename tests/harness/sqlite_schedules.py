@@ -407,8 +407,9 @@ def check_not_yet_durable(world):
         assert reader.rows() == [(4,)]
         proxies.bound([1000 if number < has else 0 for number in range(NODES)])
         ours.fails("insert into t(b) values('few')", "SQLITE_IOERR_FSYNC: commit in doubt: no write quorum")
-        seen = reader.rows()
-        assert seen == [(4,)], seen
+        for _ in range(10):  # as the servers that answer first differ
+            seen = reader.rows()
+            assert seen == [(4,)], seen
         ours.kill()
         proxies.bound(None, True)
         away = list(range(has))[:2]
