@@ -11,7 +11,7 @@ extern "C" {
     fn posix_fadvise(descriptor: i32, from: i64, count: i64, advice: i32) -> i32;
 }
 
-/// Drops the system's cache of a flushed file, so that later reads come from the disk.
+/// Advises the system to drop its cache of a flushed file, so that later reads come from the disk. A file system may ignore that.
 ///
 /// After a failed flush the cache may have bytes that the disk does not have. Readers get these bytes, and later flushes succeed although
 /// the system never writes them.
